@@ -1,7 +1,7 @@
 """Stored rows: calls on single layers, and what each has to answer (cases/calls/NAME.rows).
 
-tools/calls/main.rs says what a file is: blocks with an empty line between two, the first row of which opens a layer, and after each
-call the rows that begin with `= `. A file is its own output.
+tools/calls/main.rs says what a file is: blocks with an empty line between two, the first row of which opens a layer,
+and after each call the rows that begin with `= `. A file is its own output.
 """
 
 from __future__ import annotations
@@ -37,7 +37,7 @@ class Row:
 
 @dataclass
 class Block:
-    """The row that opens a layer, and the rows of calls on it: those between `repeat COUNT` and `end` are a list with its count."""
+    """The row that opens a layer, and those of calls on it: between `repeat COUNT` and `end` is a list with its count."""
 
     opening: Row
     parts: list[tuple[int, list[Row]]] = field(default_factory=list)

@@ -1,4 +1,4 @@
-//! A flow whose numbers come to the end of their window, and round to the first: of so many messages no row is made.
+//! A flow whose numbers come to the end of their window, and round to the first: no row has as many messages.
 
 use interface::{Carrier, CarrierFault, Flow, HostAddr, Link};
 use script::{MAX_INPUT, RawEvent, read_script};
@@ -72,7 +72,7 @@ fn played(alloc: Global, subnet: &mut Subnet, script: &str) -> Option<Result<boo
     Some(Ok(true))
 }
 
-/// How often, of so many times, the events of a script go well.
+/// How often, of this many times, the events of a script go well.
 fn repeated(alloc: Global, subnet: &mut Subnet, script: &str, count: usize) -> usize {
     for time in 0..count {
         if played(alloc, subnet, script) != Some(Ok(true)) {

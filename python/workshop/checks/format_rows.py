@@ -24,7 +24,7 @@ def in_digits(octets: bytes) -> str:
     return octets.hex().upper() or "-"
 
 
-def told(is_so: bool) -> str:
+def in_word(is_so: bool) -> str:
     """Whether something is so."""
     return str(is_so).lower()
 
@@ -53,13 +53,13 @@ class BitRows:
             case "get", [place]:
                 return bits[int(place)] if int(place) < len(bits) else "nothing"
             case "empty", []:
-                return told(not bits)
+                return in_word(not bits)
             case "mark", []:
-                return told("1" in bits)
+                return in_word("1" in bits)
             case "is", [count, digits]:
-                return told(bits == read_bits(count, digits))
+                return in_word(bits == read_bits(count, digits))
             case "same", []:
-                return told(bits == self.copy)
+                return in_word(bits == self.copy)
             case "anew", []:
                 return "true"
             case "parts", [_, lengths]:
@@ -130,7 +130,7 @@ class WriterRows:
             case "pack", [digits]:
                 return one(packed(octets_in(digits)))
             case "single", [digits]:
-                return one(told(octets_in(digits)[0] in (RST, RRP)))
+                return one(in_word(octets_in(digits)[0] in (RST, RRP)))
         return one(named(name, words))
 
 

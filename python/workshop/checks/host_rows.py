@@ -17,7 +17,9 @@ OF_PEER = "contact", "echo", "open_send", "open_receive"
 
 def read_inbound(kind: str, flow: Flow, text: list[str]) -> Any:
     """A message, or an answer about one."""
-    return Message("message", flow, read_bits(text[0], text[1])) if kind == "message" else Reply(cast(Answer, kind), flow)
+    if kind == "message":
+        return Message("message", flow, read_bits(text[0], text[1]))
+    return Reply(cast(Answer, kind), flow)
 
 
 def parts_of(name: str, words: list[str]) -> list[Any]:

@@ -14,7 +14,7 @@ from dorydate.model.names import Flow, Refused, in_order, read_host, spell_flow,
 from dorydate.model.packets import DATA, INFINITE, MOST_IMPS, Carried, Content, Packet, Routes
 from dorydate.model.packets import body, pieces_of, spell_frame, spell_packet
 from dorydate.model.tables import spell_table
-from workshop.checks.format_rows import in_digits, told
+from workshop.checks.format_rows import in_digits, in_word
 from workshop.checks.imp_rows import read_flow, read_frame, spell_given
 from workshop.checks.reader_rows import octets_in
 from workshop.checks.readings import Reading, Unread
@@ -85,7 +85,7 @@ class BoxRows:
             case "crossings", []:
                 return str(len(boxes.log))
             case "rests", []:
-                return told(not boxes.messages and not boxes.answers)
+                return in_word(not boxes.messages and not boxes.answers)
         return None
 
     def happened(self, name: str, words: list[str]) -> str:
@@ -212,9 +212,9 @@ class SourceRows:
         name, *words = call.split(" ")
         match name, words:
             case "outstanding", [host]:
-                return [told(any(flow.source == read_host(host) for flow in self.state.outstanding))]
+                return [in_word(any(flow.source == read_host(host) for flow in self.state.outstanding))]
             case "awaits", [imp]:
-                return [told(self.state.awaits(int(imp)))]
+                return [in_word(self.state.awaits(int(imp)))]
             case "numbers", [*flow, count]:
                 return [self.numbers(read_flow(flow), int(count))]
             case "answer", [*flow, number]:
@@ -280,9 +280,9 @@ class DestinationRows:
             case "oldest", [number]:
                 return [str((int(number) - NUMBERS.window) % NUMBERS.count)]
             case "is_new", [kept, number]:
-                return [told(kept == "-" or NUMBERS.is_after(int(number), int(kept)))]
+                return [in_word(kept == "-" or NUMBERS.is_after(int(number), int(kept)))]
             case "keeps", [imp]:
-                return [told(any(flow.source.imp == int(imp) for flow in self.state.kept))]
+                return [in_word(any(flow.source.imp == int(imp) for flow in self.state.kept))]
             case "forget", [imp]:
                 noted = self.state.kept
                 self.state.kept = {flow: noted[flow] for flow in noted if flow.source.imp != int(imp)}
@@ -335,7 +335,7 @@ class RouteRows:
             case "vector", [digits]:
                 return [digits if is_vector(octets_in(digits)) else "nothing"]
             case "same" | "equal", [first, second]:
-                return [told(first == second)]
+                return [in_word(first == second)]
             case "hear", [port, digits]:
                 self.state.ports[int(port)].heard = [*octets_in(digits)]
             case "lost", [port]:

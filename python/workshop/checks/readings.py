@@ -60,7 +60,7 @@ class Compared:
 
 
 def read_stored(check: str, open_layer: Callable[[str], tuple[Reading, list[str]]], *layers: str) -> bool:
-    """Has a model answer the stored rows of these layers; whether all is as stored. It says which calls no model knows."""
+    """Has a model answer the stored rows of layers; whether all is as stored. It says which calls no model knows."""
     read = Compared()
     for name, block in stored(*layers):
         read.read(name, block, open_layer)

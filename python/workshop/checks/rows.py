@@ -1,11 +1,11 @@
 """Stored rows: calls on single layers, and what each answers (seconds; --write NAME): ./check rows [NAME..]
 
 Rows are tests: calls that somebody wrote down, and what has to come of each by the formats and rules. Each file
-cases/calls/NAME.rows is its own output: tools/calls, built without proofs, makes the calls, and what it prints has to be the
-file. Where it is not, both are shown with file and line. A call that nothing is said of is refused.
+cases/calls/NAME.rows is its own output: tools/calls, built without proofs, makes the calls, and what it prints has
+to be the file. Where it is not, both are shown with file and line. A call that nothing is said of is refused.
 
-./check rows --write NAME.. writes what came into the files, for an author who then reads whether it is right. The checks `imp`,
-`subnet`, `hosts`, `services` and `readers` have independent models answer the same rows.
+./check rows --write NAME.. writes what came into the files, for an author who then reads whether it is right. Models in
+Python answer the same rows in the checks `imp`, `subnet`, `hosts`, `services` and `readers`.
 """
 
 from __future__ import annotations
@@ -73,6 +73,7 @@ def main() -> int:
         print(said)
     for layer, count in sorted(seen.items()):
         reader = READ_BY.get(layer)
-        print(f"  {layer}: {count} rows, " + (f"which the model of `check {reader}` answers too" if reader else "which no model answers"))
-    print(f"check rows: {seen.total()} rows of {len(chosen)} files, {f'{len(wrong)} wrong' if wrong else 'each as stored'}")
+        print(f"  {layer}: {count} rows, {f'answered by the model of `check {reader}` too' if reader else 'of no model'}")
+    came = f"{len(wrong)} files wrong" if wrong else "each as stored"
+    print(f"check rows: {seen.total()} rows of {len(chosen)} files, {came}")
     return 1 if wrong else 0

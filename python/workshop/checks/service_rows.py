@@ -9,9 +9,10 @@ from typing import Any
 from dorydate.model.bits import spell_bits
 from dorydate.model.names import read_host, spell_host
 from dorydate.model.services import Echo, Request, Running, Server, Terminal, User
-from workshop.checks.readings import Reading
+from workshop.checks.readings import Reading, Unread
 
-TEXTS = {"badsocket": "bad socket", "local": "local: in use"}  # why a machine failed, where the text is another than the simulator's word
+# why a machine failed, where the text is another than the simulator's word
+TEXTS = {"badsocket": "bad socket", "local": "local: in use"}
 
 
 def spell_part(part: Any) -> str:

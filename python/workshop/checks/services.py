@@ -150,7 +150,8 @@ def main() -> int:
             made = Chance(run)
             write_case(folder, f"{run:05}", made.rows)
             name = made.opening.split(" ")[0]
-            seen.update(f"{name}: {it if it.startswith(('failed', 'refused')) else it.split(' ')[0]}" for it in made.answers)
+            words = (it if it.startswith(("failed", "refused")) else it.split(" ")[0] for it in made.answers)
+            seen.update(f"{name}: {it}" for it in words)
         wrong = run_cases(folder)
     for said, count in sorted(seen.items()):
         print(f"check services: {count} {said}")
