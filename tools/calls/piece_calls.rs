@@ -1,7 +1,7 @@
 //! Calls that cut messages into pieces, and on the messages that are put together again.
 //!
 //! A block begins with `pieces`, where nothing is held. `cut FLOW NUMBER BITS OCTETS` prints the packets of a message. `add PACKET` takes a piece: it is
-//! `kept`, `old`, or finds the slots `full`, or the body is `whole`. `held` are the flows and numbers of the messages that are held, in the order
+//! `kept`, `old`, or finds the slots `full`, or the body is `whole`. `marked PACKET` tells whether it or what is held of its message has a bit 1. `held` are the flows and numbers of the messages that are held, in the order
 //! of their flows; `discard FLOW` throws pieces away.
 
 use crate::Layer;
@@ -29,6 +29,10 @@ impl Layer for Reassembly {
             "discard" => {
                 self.discard(words.flow()?);
                 answer.push_str("ok").ok()
+            }
+            "marked" => {
+                let packet = Packet::read(alloc, &words.octets(alloc)?).ok()?;
+                write!(answer, "{}", self.is_marked(&packet)).ok()
             }
             "held" => tell_held(alloc, self, answer),
             _ => None,

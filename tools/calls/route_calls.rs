@@ -1,6 +1,6 @@
 //! Calls on the table of distances of one IMP.
 //!
-//! A block begins with `routes IMP PORTS`, where nothing is heard. `hear PORT DISTANCES` and `lost PORT` change the table. Printed are its distances
+//! A block begins with `routes IMP PORTS`, where nothing is heard. `ports` counts them; `hear PORT DISTANCES` and `lost PORT` change the table. Printed are its distances
 //! to IMPs 1 to 63, as octets, and then the ports of the next lines to IMPs, as `IMP:PORT` or `FIRST-LAST:PORT`. `vector OCTETS` tells whether
 //! these are distances, `same OCTETS OCTETS` and `equal OCTETS OCTETS` whether two such lists are the same.
 
@@ -34,6 +34,7 @@ impl Layer for RouteTable {
                 self.lost(port);
             }
             "look" => {}
+            "ports" => return write!(answer, "{}", self.heard().len()).ok(),
             "vector" => return match vector(alloc, &mut words) {
                 Some(vector) => spell_octets(alloc, answer, vector.clone().ok()?.distances()),
                 None => answer.push_str("nothing").ok(),

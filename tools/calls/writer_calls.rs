@@ -45,7 +45,7 @@ impl Layer for Writers {
                 None => answer.push_str("nothing").ok(),
             },
             "address" => match HostAddr::from_octet(*words.octets(alloc)?.first()?) {
-                Some(host) => write!(answer, "{host}").ok(),
+                Some(host) => write!(answer, "{host}, host {} of {}", host.host(), host.imp()).ok(),
                 None => answer.push_str("nothing").ok(),
             },
             _ => None,

@@ -155,7 +155,7 @@ def named(name: str, words: list[str]) -> str:
             return f"{spell_host(host)} {address(host):02X}" if is_there else "nothing"
         case "address", [digits]:
             host = formats.host_of(octets_in(digits)[0])
-            return spell_host(host) if host.imp else "nothing"
+            return f"{spell_host(host)}, host {host.number} of {host.imp}" if host.imp else "nothing"
     raise Unread(name)
 
 

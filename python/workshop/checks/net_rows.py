@@ -185,9 +185,17 @@ class PieceRows:
             case "discard", flow:
                 slots.pop(read_flow(flow), None)
                 return ["ok"]
+            case "marked", [digits]:
+                return [in_word(self.is_marked(packet_of(digits)))]
             case "held", []:
                 return [str(len(slots)), *(f"{spell_flow(flow)} {slots[flow][0]}" for flow in in_order(slots))]
         raise Unread(f"{name} of pieces")
+
+    def is_marked(self, packet: Packet) -> bool:
+        """Whether a bit 1 is in a piece or in what is held of its message."""
+        number, pieces = self.imp.slots.get(packet.flow, (packet.number, {}))
+        held = pieces.values() if number == packet.number else ()
+        return "1" in packet.bits or any("1" in bits for _, bits in held)
 
     def added(self, packet: Packet) -> str:
         """What becomes of a piece."""
@@ -340,6 +348,8 @@ class RouteRows:
                 self.state.ports[int(port)].heard = [*octets_in(digits)]
             case "lost", [port]:
                 self.state.ports[int(port)].heard = None
+            case "ports", []:
+                return [str(len(self.state.ports))]
             case "look", []:
                 pass
             case _:
