@@ -10,6 +10,7 @@ import io
 import os
 import socket
 import tempfile
+import time
 import unittest
 from collections.abc import Awaitable, Callable
 from pathlib import Path
@@ -21,7 +22,7 @@ from dorydate.live.command import opened, parser, serve
 from dorydate.live.engine import Ended
 from dorydate.live.frames import LAST, READY, Frame
 from dorydate.live.gateway import Gateway
-from dorydate.live.interface import Interface
+from dorydate.live.interface import Allowance, Interface
 from dorydate.live.record import Record, read
 from dorydate.live.session import Session, Wish
 from dorydate.network import Host
@@ -283,6 +284,20 @@ class Live(unittest.TestCase):
         script = (self.folder / "flaps" / "script").read_text()
         self.assertLessEqual(script.count("\nhostup 0/3") + script.count("\nhostdown 0/3"), 1 + 4 + 5)
         self.assertGreaterEqual(script.count("\nhostup 0/3"), 2)
+
+    def test_a_host_that_is_silent_and_one_that_floods(self) -> None:
+        session, gateway = self.rounds("silent")
+        gateway.begin()
+        interface = Interface(session, Host(0, 3), gateway.wake, silence=0.01)
+        gateway.parts.append(interface)
+        interface.comes(mock.Mock(has_room=lambda: True, where=lambda: "udp"))
+        gateway.round()
+        time.sleep(0.05)
+        gateway.round()
+        script = (self.folder / "silent" / "script").read_text()
+        self.assertIn("0/3 is gone: it has said nothing for 0.01 seconds", script)
+        allowance = Allowance(2, 0)
+        self.assertEqual([allowance.take() for _ in range(4)], [True, True, False, False])
 
     def test_what_a_session_is_asked_for(self) -> None:
         (self.folder / "plain").write_text('carrier = "plain"\n[[imp]]\nid = 1\nhosts = 2\n')
