@@ -11,6 +11,7 @@ dialogues of `dorydate.conformance` that need no user, and faults that are plant
 from __future__ import annotations
 
 import argparse
+import os
 import random
 import shutil
 import socket
@@ -251,7 +252,7 @@ def main() -> int:
     parser = argparse.ArgumentParser(prog="check live", add_help=False)
     parser.add_argument("--seeds", type=int, default=SEEDS)
     seeds = parser.parse_args().seeds
-    program = any_program()
+    program = os.environ.get("DORYDATE_PROGRAM") or any_program()
     if program is None:
         print("check live: there is no program of these sources: ./build makes it")
         return 1
