@@ -145,11 +145,11 @@ class Coupled:
         return self.stranger.net.do(event)
 
     def log(self) -> str:
-        """The log of the replay in which the lives of this host are those that its program tells of, for the audit."""
+        """The log of the replay in which this host has the lives that its program reports, for the audit."""
         return log_with_lives(self.stranger.net, str(self.stranger.host), self.happened)
 
     def lives(self) -> list[str]:
-        """The lives that its program tells of, as lines of a log."""
+        """The lives that its program reports, as lines of a log."""
         return [it for it in self.log().splitlines() if it.startswith(f"life {self.stranger.host} ")]
 
     def turn(self) -> Deed:

@@ -43,8 +43,13 @@ PLANTED = [
 
 
 # the same of dialogues with things under way: where the answer breaks a rule of the contract, by its name
+FORGETS = "            peer.forget(\"closed\")\n            self.notice(\"pairreset\", name)\n"
+LISTENED = "            del self.listening[own]\n        if not end:"
+COUNTER = "min(end.messages + messages, MOST_MESSAGES)"
+OPENED = "self.notice(\"opened\""
+OWES = "was, peer.owes = peer.phase, True"
 PLANTED_UNDERWAY = [
-    ("            peer.forget(\"closed\")\n            self.notice(\"pairreset\", name)\n", "            pass\n", "fails", "`failed`"),
+    (FORGETS, "            pass\n", "fails", "`failed`"),
     ("if peer.phase == \"heard\":\n", "if peer.phase in (\"gone\", \"heard\"):\n", "early reply", "`early`"),
     ("return not peer.busy and", "return 0 not in peer.busy and", "reset while data are out", "`idle`"),
     ("return not peer.busy and", "return 0 not in peer.busy and", "is reset while data are out", "`idle`"),
@@ -53,12 +58,12 @@ PLANTED_UNDERWAY = [
     ("end.receives() or not end.data and end.link not in peer.busy", "True", "closes with data waiting", "`drained`"),
     ("or peer.owes:", "or peer.owes and not peer.queue:", "talk before the reply", "`reply`"),
     ("next((it for it in LINKS if not peer.on(it, True)), 0)", "2", "two ends at once", "`link`"),
-    ("            del self.listening[own]\n        if not end:", "        if not end:", "listens once", "right is `CLS 33 18`"),
-    ("min(end.messages + messages, MOST_MESSAGES)", "(end.messages + messages) % 65536", "a grant past the counter", "says nothing"),
+    (LISTENED, "        if not end:", "listens once", "right is `CLS 33 18`"),
+    (COUNTER, "(end.messages + messages) % 65536", "a grant past the counter", "says nothing"),
     ("            peer.ends.remove(end)\n", "            end.own += 1 << 33\n", "thirty-one connections", "`ended`"),
-    ("\"arrived\", end.own, len(bits)", "\"arrived\", end.own, 2 * len(bits)", "is told what came", "`takes`"),
-    ("self.notice(\"opened\"", "self.notice(\"opened\", end.own, name, end.foreign)\n            self.notice(\"opened\"", "fails", "`opens`"),
-    ("was, peer.owes = peer.phase, True", "was, peer.owes = peer.phase, peer.phase == \"closed\"", "one reset after another", "says nothing"),
+    ("\"arrived\", end.own, len(bits)", "\"arrived\", end.own, 2 * len(bits)", "what came", "`takes`"),
+    (OPENED, f"{OPENED}, end.own, name, end.foreign)\n            {OPENED}", "fails", "`opens`"),
+    (OWES, "was, peer.owes = peer.phase, peer.phase == \"closed\"", "one reset after another", "says nothing"),
 ]  # fmt: skip
 
 
@@ -189,7 +194,11 @@ class Dialogues(unittest.TestCase):
                 self.assertIn(words, str(tried_underway(planted(), NAMED[name])))
 
     def test_a_message_that_is_refused_or_none(self) -> None:
-        rows = [("out 0/2 0/1 0 1 FF", "no message"), ("out 0/1 0/2 0 0 -", "another host, 0/1"), ("out 0/2 0/1 2 0 -", "`reply`")]
+        rows = [
+            ("out 0/2 0/1 0 1 FF", "no message"),
+            ("out 0/1 0/2 0 0 -", "another host, 0/1"),
+            ("out 0/2 0/1 2 0 -", "`reply`"),
+        ]
         for line, words in rows:
             self.assertIn(words, str(tried_underway(Only(line), NAMED["two ends at once"])))
 
@@ -205,7 +214,8 @@ class Dialogues(unittest.TestCase):
     def test_lives_of_notices(self) -> None:
         """The audit judges a program by what it says, as it judges the proved one."""
         text = text_of(NCP)
-        twice = text.replace('"arrived", end.own, len(bits), octets(bits)', '"arrived", end.own, 2 * len(bits), octets(bits + bits)')
+        arrived = '"arrived", end.own, '
+        twice = text.replace(f"{arrived}len(bits), octets(bits)", f"{arrived}2 * len(bits), octets(bits + bits)")
         silent = text.replace('self.notice("ended"', 'self.notice("over"')
         rows = [
             ("takes", text, "kept"), ("sends", text, "kept"), ("closes", text, "kept"), ("is closed", text, "kept"),

@@ -1,9 +1,9 @@
 """Dialogues with things under way: a program and a peer over mailboxes, of which each moment is chosen.
 
-The peer says what it likes, when it likes; an answer comes when a step says so, and may say that a message was lost. So a
-program is asked what no network at rest asks: what it says while data or an RST are without an answer, after a message that
-failed, or when an RRP is for an older RST. What it says is right if it is among what a step expects, and if its own log keeps
-the contract (dorydate.contract); a rule that it breaks is named.
+The peer says what it likes, when it likes; an answer comes when a step says so, and may say that a message was lost. So
+a program is asked what no network at rest asks: what it says while data or an RST are without an answer, after a message
+that failed, or when an RRP is for an older RST. What it says is right if it is among what a step expects, and if its own
+log keeps the contract (dorydate.contract); a rule that it breaks is named.
 """
 
 from __future__ import annotations
@@ -79,7 +79,7 @@ UNDERWAY = (
     Dialogue("a reset fails", "an RST that is lost resets nothing", (
         user(f"contact {HERE}", "RST"), answer("dead", "0", *AWAY), peer("RRP", *AWAY), user(f"echo {HERE} 5", *AWAY),
     )),
-    Dialogue("early reply", "an RRP that comes before the RFNM of one's own RST may answer an older one, and doesn't count", (
+    Dialogue("early reply", "an RRP that comes before the RFNM of one's own RST doesn't count", (
         user(f"contact {HERE}", "RST"), peer("RRP"), answer("rfnm", "0", *AWAY), user(f"echo {HERE} 5", *AWAY),
     )),
     Dialogue("reset while data are out", "an RST waits until nothing is without an answer", (
@@ -93,7 +93,7 @@ UNDERWAY = (
         *RESET, user(f"echo {HERE} 1", "ECO 1"), peer("RST"), user(f"echo {HERE} 2"), answer("rfnm", "0", "RRP"),
         answer("rfnm", "0", "ECO 2", ""),
     )),
-    Dialogue("resets that cross", "an RST that comes while one's own is out is answered, and the own one still needs its RRP", (
+    Dialogue("resets that cross", "an RST that comes while one's own is out is answered, and the own one needs its RRP", (
         user(f"contact {HERE}", "RST"), peer("RST"), answer("rfnm", "0", "RRP"), answer("rfnm", "0"),
         peer("RRP"), user(f"echo {HERE} 6", "ECO 6"),
     )),
@@ -110,11 +110,11 @@ UNDERWAY = (
     Dialogue("is closed while data are out", "so does the CLS that answers one", (
         *BUSY, user("send 33 8 21"), peer("CLS 16 33"), answer("rfnm", "2", "CLS 33 16"), RFNM,
     )),
-    Dialogue("data amid a close", "what comes after one's own CLS is not answered, and the CLS ends the connection once", (
+    Dialogue("data amid a close", "what comes after one's own CLS isn't answered, and a CLS is said once", (
         *TAKES, user("grant 32 2 64", "ALL L 2 64"), RFNM, data(b"A"), user("close 32", "CLS 32 17"), data(b"B"),
         RFNM, data(b"C"), peer("CLS 17 32"),
     )),
-    Dialogue("is told what came", "a user gets what came, once, and all of it", (
+    Dialogue("what came", "a user gets what came, once, and all of it", (
         *TAKES, user("grant 32 2 64", "ALL L 2 64"), RFNM, data(b"AB"), data(b"CD"),
     )),
     Dialogue("asked again before the close", "a request for an end that waits for the partner's CLS opens nothing", (
@@ -179,5 +179,5 @@ class UnderWay:
 
 
 def tried_underway(program: Speaks, dialogue: Dialogue) -> Finding | None:
-    """Has a dialogue with things under way with a program that has just started: what is wrong, None where nothing is."""
+    """Has a dialogue with things under way: what is wrong with a program that has just started, None where nothing is."""
     return UnderWay(program, dialogue).finding()

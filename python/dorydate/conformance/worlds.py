@@ -1,7 +1,7 @@
 """Random worlds with a program that is tried: its users, its peers and its network do anything that they may.
 
-A peer is a host that keeps the contract and does any act that it allows next, or a stranger. What is looked at is the own
-log of the program only: it has to keep the contract. So the worlds find what no dialogue asks for.
+A peer is a host that keeps the contract and does any act that it allows next, or a stranger. What is looked at is the
+own log of the program only: it has to keep the contract. So the worlds find what no dialogue asks for.
 """
 
 from __future__ import annotations
@@ -10,7 +10,7 @@ import random
 from collections.abc import Callable
 from dataclasses import dataclass
 
-from dorydate.contract.acts import Act, Answered, Comes, Goes, Starts, Stops
+from dorydate.contract.acts import Act, Answered, Comes, Starts, Stops
 from dorydate.contract.ends import End, Pair
 from dorydate.contract.hears import Hears, Speaks, Wrong
 from dorydate.contract.worlds.chance import some_bits
@@ -105,7 +105,8 @@ class Tried(Play):
         if end.receives():
             if rng.random() < 0.1:
                 return f"askback {end.own} 64 64"
-            return f"grant {end.own} {rng.choice((1, 2))} {rng.choice((8, 36, 100))}" if end.granted.messages < 20 else None
+            is_little = end.granted.messages < 20
+            return f"grant {end.own} {rng.choice((1, 2))} {rng.choice((8, 36, 100))}" if is_little else None
         if end.handed.count > 100 or not end.size:
             return None
         bits = some_bits(rng, end.size * rng.choice((1, 2, 3)))
@@ -135,6 +136,3 @@ def found_in(seed: int, start: Callable[[], Speaks], steps: int = STEPS) -> Foun
         return Found(seed, why, tuple(world.program.log)) if why else None
     except (Wrong, Mute) as why_not:
         return Found(seed, str(why_not), tuple(world.program.log) if world else ())
-
-
-__all__ = ["Found", "Goes", "Tried", "found_in"]

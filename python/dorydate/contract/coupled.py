@@ -1,6 +1,6 @@
-"""The lives of a program that says its notices: a log of its network in which it is judged as a host with the proved program is.
+"""The lives of a program that says its notices: a log of its network in which it is judged as the proved program is.
 
-A life is what the program told its user: when it opened, what arrived, what came back and how it ended. What it sent is
+A life is what the program notified its user of: when it opened, what arrived, what came back and how it ended. What it sent is
 what went out on the connection's link. So a program that says something else than crossed has a life that is broken.
 """
 
@@ -39,7 +39,7 @@ class Replayed(Protocol):
 
 @dataclass
 class Life:
-    """What a program told of an end."""
+    """What a program said of an end."""
 
     end: End
     parts: list[Bits] = field(default_factory=list)
@@ -164,7 +164,7 @@ def lives_of(net: Replayed, host: str, happened: Sequence[tuple[int, str]]) -> l
 
 
 def log_with_lives(net: Replayed, host: str, happened: Sequence[tuple[int, str]]) -> str:
-    """The log of a replay in which a stranger is a host with a program, whose lives are those that it told of."""
+    """The log of a replay in which a stranger is a host with a program, with the lives that it reports."""
     lives = lives_of(net, host, happened)
     return "".join(f"{it}\n" for it in with_lives(net.log.splitlines(), host, lives))
 

@@ -42,7 +42,7 @@ class Hears:
         self.sent: list[Goes] = []
 
     def hears(self, line: str) -> list[tuple[int, Bits]]:
-        """It hears a line, and what it says to it goes out: links and texts. Raises Wrong, and what the program raises."""
+        """It hears a line, and what it says goes out: links and texts. Raises Wrong, and what the program raises."""
         answers = [*self.program.hear(line)]
         self.sent = []
         try:
