@@ -10,6 +10,7 @@ import io
 import os
 import socket
 import tempfile
+import time
 import unittest
 from collections.abc import Awaitable, Callable
 from pathlib import Path
@@ -20,9 +21,13 @@ from dorydate.live import command
 from dorydate.live.command import opened, parser, serve
 from dorydate.live.engine import Ended
 from dorydate.live.frames import LAST, READY, Frame
+from dorydate.live.gateway import Gateway
+from dorydate.live.interface import Allowance, Interface
 from dorydate.live.record import Record, read
+from dorydate.live.session import Session, Wish
+from dorydate.network import Host
 from dorydate.replay import output_of
-from dorydate.script import octets_of
+from dorydate.script import octets_of, read_event
 from dorydate.where import found
 
 THREE = """[[imp]]
@@ -43,8 +48,13 @@ b = 2
 a = 2
 b = 3
 """
+PACKED = """<html><meta charset="utf-8"><meta content="default-src 'none'; base-uri 'none'"></html>"""
 RST, RRP = bytes.fromhex("00080001000C"), bytes.fromhex("00080001000D")
 TO_HERE = bytes.fromhex("00010000")
+
+
+class Killed(BaseException):
+    """As a kill: nothing comes after it."""
 
 
 def free_port() -> int:
@@ -152,6 +162,38 @@ class Live(unittest.TestCase):
         peer.transport.close()
         other.transport.close()
 
+    async def asked(self, request: str, until: bytes) -> str:
+        """What the page's server answers to a request, up to some octets."""
+        reader, writer = await asyncio.open_connection("127.0.0.1", self.page)
+        writer.write(request.replace("\n", "\r\n").encode())
+        said = b""
+        while until not in said and (piece := await asyncio.wait_for(reader.read(4096), 20)):
+            said += piece
+        writer.close()
+        return said.decode()
+
+    async def in_a_browser(self) -> None:
+        host, own = f"Host: localhost:{self.page}\n", "X-Dorydate: deed\n"
+        self.assertIn("connect-src 'self'", await self.asked(f"GET / HTTP/1.1\n{host}\n", b"</html>"))
+        self.assertIn("403 Forbidden", await self.asked("GET / HTTP/1.1\nHost: elsewhere\n\n", b"name"))
+        for path, fields in (("GET /other", own), ("POST /deed", "")):
+            self.assertIn("404 Not Found", await self.asked(f"{path} HTTP/1.1\n{host}{fields}\n", b"else"))
+        following = asyncio.create_task(self.asked(f"GET /events HTTP/1.1\n{host}\n", b"enddown 1 0"))
+        await asyncio.sleep(0.2)
+        deeds = [("enddown 1 0", "200 OK"), ("enddown 1 0", "IsDown"), ("calm 4000000000", "at most 100 rounds")]
+        deeds += [("take 0/3", "a real host speaks for 0/3"), ("jump 0/1", "`jump` is no event")]
+        for line, words in deeds:
+            body = f"POST /deed HTTP/1.1\n{host}{own}Content-Length: {len(line)}\n\n{line}"
+            self.assertIn(words, await self.asked(body, b"nothing more"))
+        said = await following
+        self.assertTrue(said.index("event: script") < said.index("hostdown 0/3") < said.index("event: lines"))
+
+    def test_a_browser_follows_and_asks(self) -> None:
+        self.page = free_port()
+        with mock.patch("dorydate.live.page.packed_page", lambda: PACKED):
+            self.session("--page", str(self.page), browser=self.in_a_browser)
+        self.assertIn("\nenddown 1 0\n", (self.folder / "record" / "script").read_text())
+
     def test_hosts_over_udp_and_tcp(self) -> None:
         said = self.session(udp=self.over_udp, tcp=self.over_tcp)
         for words in ("0/3 is ready", "0/3 is gone: it says so", "0/2 is gone: what it sends is no message: length"):
@@ -190,6 +232,72 @@ class Live(unittest.TestCase):
         with mock.patch("os.write", half), self.assertRaisesRegex(Ended, "No space left"):
             record.say("something")
         self.assertEqual((self.folder / "other" / "script").read_bytes(), before)
+
+    def rounds(self, folder: str, resumed: bool = False) -> tuple[Session, Gateway]:
+        """A session without a wire."""
+        asked = ["--record", str(self.folder / folder)]
+        asked += ["--resume", str(self.folder / folder)] if resumed else [str(self.folder / "three")]
+        session = opened(parser().parse_args(asked))
+        session.say = session.record.say
+        return session, Gateway(session)
+
+    def test_a_kill_at_each_write(self) -> None:
+        """Whatever was written last, what was printed is a prefix of the replay, and the session continues there."""
+        real, left = os.write, 0
+
+        def until_a_kill(file: int, octets: bytes) -> int:
+            nonlocal left
+            left -= 1
+            if left < 0:
+                real(file, octets[: len(octets) // 2])
+                raise Killed
+            return real(file, octets)
+
+        for writes in range(4, 12):
+            folder, left = f"killed-{writes}", writes
+            with mock.patch("os.write", until_a_kill), self.assertRaises(Killed):
+                session, gateway = self.rounds(folder)
+                gateway.begin()
+                for line in ("hostup 0/2", "contact 0/1 0/2", "calm 1", "take 0/2", "calm 2", "take 0/2", "calm 3"):
+                    session.happen([Wish(read_event(line))])
+            printed = (self.folder / folder / "printed").read_text()
+            again, _ = self.rounds(folder, resumed=True)
+            script = (self.folder / folder / "script").read_bytes()
+            whole = output_of(found(), script).removesuffix("end\n")
+            self.assertTrue(whole.startswith(printed))
+            self.assertEqual((self.folder / folder / "printed").read_text(), whole)
+            again.happen([Wish(read_event("calm 1"))])
+            self.assertTrue((self.folder / folder / "script").read_bytes().startswith(script))
+
+    def test_a_ready_line_that_flaps(self) -> None:
+        session, gateway = self.rounds("flaps")
+        gateway.begin()
+        interface = Interface(session, Host(0, 3), gateway.wake)
+        gateway.parts.append(interface)
+        sent: list[bytes] = []
+        wire = mock.Mock(send=lambda words, ready=True: sent.append(words), has_room=lambda: True, where=lambda: "udp")
+        for _ in range(20):
+            interface.comes(wire)
+            gateway.round()
+            interface.goes("it says so")
+            gateway.round()
+        script = (self.folder / "flaps" / "script").read_text()
+        self.assertLessEqual(script.count("\nhostup 0/3") + script.count("\nhostdown 0/3"), 1 + 4 + 5)
+        self.assertGreaterEqual(script.count("\nhostup 0/3"), 2)
+
+    def test_a_host_that_is_silent_and_one_that_floods(self) -> None:
+        session, gateway = self.rounds("silent")
+        gateway.begin()
+        interface = Interface(session, Host(0, 3), gateway.wake, silence=0.01)
+        gateway.parts.append(interface)
+        interface.comes(mock.Mock(has_room=lambda: True, where=lambda: "udp"))
+        gateway.round()
+        time.sleep(0.05)
+        gateway.round()
+        script = (self.folder / "silent" / "script").read_text()
+        self.assertIn("0/3 is gone: it has said nothing for 0.01 seconds", script)
+        allowance = Allowance(2, 0)
+        self.assertEqual([allowance.take() for _ in range(4)], [True, True, False, False])
 
     def test_what_a_session_is_asked_for(self) -> None:
         (self.folder / "plain").write_text('carrier = "plain"\n[[imp]]\nid = 1\nhosts = 2\n')
