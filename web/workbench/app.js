@@ -1,5 +1,6 @@
 /** The workbench: one script, its replay, and the step at which one is. */
 
+import { TABLE } from "../../python/dorydate/sentences/table.mjs";
 import { chartOf } from "./chart.js";
 import { arrangement } from "./arrangement.js";
 import { addedLines, goOn } from "./edits.js";
@@ -10,7 +11,7 @@ import { stopsOfFlow, stopsWith } from "./follow.js";
 import { keepText, storedText } from "./kept.js";
 import { Past } from "./past.js";
 import { isReplay, LIMITS, replay } from "./runs.js";
-import { headComment, notesOf, readInput } from "./script.js";
+import { headComment, impsNamed, notesOf, readInput } from "./script.js";
 import { CUT, fragment, noLesson, placeIn } from "./share.js";
 import { stopAt, stopsOf } from "./stops.js";
 import { Talk } from "./talk.js";
@@ -18,14 +19,17 @@ import { messageName, waitsOf } from "./waits.js";
 import { tripsOf } from "./trips.js";
 import { nextFollowed, nextFound, nextLine, nextRefusal, questionAt } from "./walk.js";
 import { Compare } from "./view/compare.js";
+import { Doors } from "./view/doors.js";
 import { makeBorder } from "./view/borders.js";
 import { byId, h, say, set } from "./view/dom.js";
 import { Editor } from "./view/editor.js";
 import { saveText, textOfFile } from "./view/files.js";
 import { drawFoot, drawSentence, drawTabs, fillLists, TABS } from "./view/frame.js";
 import { fillHandout } from "./view/handout.js";
+import { travel } from "./view/frames.js";
 import { Hands } from "./view/hands.js";
 import { Index } from "./view/index.js";
+import { drawLegend } from "./view/legend.js";
 import { listenToKeys } from "./view/keys.js";
 import { MapView } from "./view/map.js";
 import { Toast } from "./view/menu.js";
@@ -36,6 +40,7 @@ import { BookView } from "./view/book.js";
 import { Printed } from "./view/printed.js";
 import { SheetView } from "./view/sheet.js";
 import { Taps } from "./view/taps.js";
+import { Terms } from "./view/terms.js";
 
 /** @typedef {import("../run/runner.js").Runner} Runner */
 /** @typedef {import("./stops.js").Grain} Grain */
@@ -45,6 +50,8 @@ import { Taps } from "./view/taps.js";
 /** @typedef {import("./past.js").Kept} Kept */
 /** @typedef {{name: string, title: string, group: string, text: string}} Example */
 
+const FIRST = "lo-of-login"; // what a first visit sees
+const ROOMY = 1560; // pixels of plain letters from which what can happen next has a place beside the map
 const SLOW = 300; // milliseconds of a run after which the page says that it runs
 const TYPED = 350; // milliseconds after the last key until what was typed is run
 
@@ -127,13 +134,41 @@ export class Workbench {
                 return this.asking === null;
             },
             pace: () => Number(/** @type {HTMLSelectElement} */ (byId("pace")).value),
-            show: (playing) => say(byId("play"), playing ? "Pause" : "Play"),
+            show: (playing) => this.showPlaying(playing),
         });
+        this.doors = new Doors((door) => void this.enter(door));
+        this.terms = new Terms();
         fillLists(examples, (tab) => this.openTab(tab));
         this.listen();
     }
 
     // ---- the frame
+
+    /**
+     * A door of a first visit is opened.
+     *
+     * @param {import("./view/doors.js").Door} door
+     */
+    async enter(door) {
+        const lesson = { watch: "lo-of-login", break: "arpanet-of-december-1969", solve: "exercise-an-rfnm" }[door];
+        if (this.example !== lesson) await this.load(lesson);
+        this.doors.show(false);
+        if (door === "watch") this.player.toggle();
+        if (door === "solve") this.tab = "next";
+        byId("network").classList.toggle("hinted", door === "break");
+        this.draw();
+        if (door === "break") this.toast.show(TABLE.doors["tap a line"], null, true);
+        if (door === "solve") this.toast.show(TABLE.doors.task, null);
+        byId(door === "watch" ? "play" : "network").focus();
+    }
+
+    /** @param {boolean} playing */
+    showPlaying(playing) {
+        const [sign, words] = byId("play").children;
+        say(words, playing ? "Pause" : "Play");
+        set(sign.children[0], { d: playing ? "M4 2.5h3v11H4zM9 2.5h3v11H9z" : "M4 2.5v11l9.5-5.5z" });
+        this.draw();
+    }
 
     listen() {
         /** @type {{[id: string]: () => void}} */
@@ -191,6 +226,9 @@ export class Workbench {
         root.dataset.layout = layout;
         root.toggleAttribute("data-low", isLow);
         root.toggleAttribute("data-tight", root.clientWidth * scale < 1340);
+        root.toggleAttribute("data-roomy", layout === "wide" && root.clientWidth * scale >= ROOMY);
+        byId("beside").hidden = !root.hasAttribute("data-roomy");
+        this.map?.see();
         this.draw();
     }
 
@@ -220,7 +258,13 @@ export class Workbench {
 
     /** The tab that is shown: where the script has a place of its own, there is no tab for it. */
     shownTab() {
-        return this.tab === "script" && this.isWide() ? "waits" : this.tab;
+        const isBeside = (this.tab === "script" && this.isWide()) || (this.tab === "next" && this.isRoomy());
+        return isBeside ? "waits" : this.tab;
+    }
+
+    /** Whether what can happen next has a place of its own. */
+    isRoomy() {
+        return document.documentElement.hasAttribute("data-roomy");
     }
 
     title() {
@@ -242,8 +286,14 @@ export class Workbench {
         if (kept) {
             this.example = kept.example;
             this.origin = this.examples.find((it) => it.name === kept.example)?.text ?? kept.text;
+            this.doors.show(kept.example === FIRST && kept.text === this.origin && !this.why);
             await this.show(kept.text, 0);
-        } else if (this.examples.length) await this.load(this.examples[0].name);
+        } else if (this.examples.length && !this.examples.some((it) => it.name === FIRST)) await this.load(this.examples[0].name);
+        else if (this.examples.length) {
+            const opens = beside[0]?.name ?? FIRST;
+            this.doors.show(opens === FIRST && !this.why);
+            await this.load(opens);
+        }
         if (!kept && beside.length > 1) this.compareWith(beside[1]);
     }
 
@@ -427,6 +477,8 @@ export class Workbench {
             this.map = new MapView(this.network, network, (part, element) => this.taps.tapped(part, element));
             this.topology = topology;
         }
+        drawLegend(network);
+        this.map.name(impsNamed(input.events.map((it) => it.words)));
         if (!network.sites.some((site) => site.number === this.to)) this.to = 0;
         this.talk = new Talk(this.history.replay);
         this.earlier = new Talk(this.history.replay);
@@ -458,6 +510,7 @@ export class Workbench {
     /** @param {number} position */
     go(position) {
         this.position = position;
+        if (position) this.doors.show(false);
         this.asking = null;
         this.draw();
     }
@@ -558,7 +611,7 @@ export class Workbench {
         const trips = tripsOf(this.history, stop);
         const each = Math.max(160, Math.min(420, (0.8 * pace) / Math.max(1, Math.min(trips.length, 4))));
         const gap = trips.length > 1 ? (0.8 * pace - each) / (trips.length - 1) : 0;
-        trips.forEach(({ line, from, frame }, at) => this.map?.travel(line, from, frame, each, Math.max(0, gap * at)));
+        trips.forEach(({ line, from, frame }, at) => this.map && travel(this.map, line, from, frame, each, Math.max(0, gap * at)));
     }
 
     // ---- changes
@@ -576,6 +629,7 @@ export class Workbench {
         const edit = goOn(this.history, this.position, lines, this.taps.cutOff);
         if (!(await this.show(edit.text, edit.position))) return;
         this.past.add(before);
+        byId("network").classList.remove("hinted");
         const { moments, input } = this.history.replay;
         const isAdded = (/** @type {number} */ event) => input.events[event].line < edit.line + edit.added;
         const last = moments.reduce((end, { event }, at) => (isAdded(event) ? at + 1 : end), edit.position);
@@ -710,8 +764,10 @@ export class Workbench {
         const waits = waitsOf(state, talk);
         const { notes, asking, asked } = this;
         const next = () => this.step(1);
-        drawSentence({ history, stops, at, notes, asking, asked, hidden, title: this.title(), next });
-        drawFoot(stops, at, hidden, { undo: this.past.done.length > 0, redo: this.past.undone.length > 0 });
+        const first = this.doors.isShown() ? TABLE.doors.first : "";
+        drawSentence({ history, stops, at, notes, asking, asked, hidden, title: this.title(), first, next });
+        const can = { undo: this.past.done.length > 0, redo: this.past.undone.length > 0 };
+        drawFoot(stops, at, hidden, can, history.rounds[position]);
         this.map?.draw({ state, talk, to });
         const name = this.shownTab();
         drawTabs(name, waits.length, waits.some((it) => it.bad));
@@ -727,6 +783,7 @@ export class Workbench {
             const earlier = before && name === "hosts" ? (this.earlier?.goTo(from) ?? null) : null;
             this.panes.draw(name, { history, position, state, before, talk, earlier, waits, to, hidden });
         }
+        if (this.isRoomy() && !this.player.timer) this.next.draw(byId("beside-pane"));
         this.compare.showMap(name === "compare");
         document.title = `${this.title()} – Dorydate`;
     }

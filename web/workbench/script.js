@@ -133,3 +133,13 @@ export function headComment(input) {
     }
     return found.join(" ").trim();
 }
+
+/**
+ * The IMPs of the hosts that events name.
+ *
+ * @param {string[][]} events
+ */
+export function impsNamed(events) {
+    const isHost = (/** @type {string} */ word) => /^\d+\/\d+$/.test(word);
+    return new Set(events.flatMap((words) => words.slice(1, 3).filter(isHost).map((it) => Number(it.split("/")[1]))));
+}
