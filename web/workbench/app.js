@@ -11,8 +11,8 @@ import { stopsOfFlow, stopsWith } from "./follow.js";
 import { keepText, storedText } from "./kept.js";
 import { Past } from "./past.js";
 import { isReplay, LIMITS, replay } from "./runs.js";
-import { headComment, impsNamed, notesOf, readInput } from "./script.js";
-import { CUT, fragment, noLesson, placeIn } from "./share.js";
+import { impsNamed, notesOf, readInput } from "./script.js";
+import { CUT, noLesson, placeIn } from "./share.js";
 import { stopAt, stopsOf } from "./stops.js";
 import { Talk } from "./talk.js";
 import { messageName, waitsOf } from "./waits.js";
@@ -23,17 +23,18 @@ import { Doors } from "./view/doors.js";
 import { makeBorder } from "./view/borders.js";
 import { byId, h, say, set } from "./view/dom.js";
 import { Editor } from "./view/editor.js";
-import { saveText, textOfFile } from "./view/files.js";
+import { textOfFile } from "./view/files.js";
 import { drawFoot, drawSentence, drawTabs, fillLists, TABS } from "./view/frame.js";
-import { fillHandout } from "./view/handout.js";
 import { travel } from "./view/frames.js";
 import { Hands } from "./view/hands.js";
 import { Index } from "./view/index.js";
+import { drawGoal } from "./view/goal.js";
 import { drawLegend } from "./view/legend.js";
 import { listenToKeys } from "./view/keys.js";
 import { MapView } from "./view/map.js";
 import { Toast } from "./view/menu.js";
 import { Next } from "./view/next.js";
+import { Pack } from "./view/pack.js";
 import { Panes } from "./view/panes.js";
 import { Player } from "./view/player.js";
 import { BookView } from "./view/book.js";
@@ -48,7 +49,7 @@ import { Terms } from "./view/terms.js";
 /** @typedef {import("./choices.js").Part} Part */
 /** @typedef {import("./script.js").Note} Note */
 /** @typedef {import("./past.js").Kept} Kept */
-/** @typedef {{name: string, title: string, group: string, text: string}} Example */
+/** @typedef {{name: string, title: string, group: string, text: string, at?: number}} Example */
 
 const FIRST = "lo-of-login"; // what a first visit sees
 const ROOMY = 1560; // pixels of plain letters from which what can happen next has a place beside the map
@@ -102,8 +103,9 @@ export class Workbench {
      * @param {Runner} runner
      * @param {Example[]} examples
      * @param {import("./chronology.js").Chronology} years
+     * @param {import("./view/saving.js").Source} source
      */
-    constructor(runner, examples, years) {
+    constructor(runner, examples, years, source) {
         this.runner = runner;
         this.examples = examples;
         const go = (/** @type {number} */ position) => this.go(position);
@@ -138,6 +140,7 @@ export class Workbench {
         });
         this.doors = new Doors((door) => void this.enter(door));
         this.terms = new Terms();
+        this.pack = new Pack(this, source);
         fillLists(examples, (tab) => this.openTab(tab));
         this.listen();
     }
@@ -183,14 +186,12 @@ export class Workbench {
             edit: () => this.edit(byId("editor").hidden),
             hide: () => this.hide(),
             larger: () => this.larger(),
-            share: () => void this.share(),
-            save: () => saveText(this.text, `${this.example || "script"}.txt`),
+            ...this.pack.presses(),
             open: () => byId("file").click(),
             lessons: () => this.index.open(),
             round: () => void this.change(["calm 1"], "A round passes"),
             rounds: () => void this.change(["calm 3"], "Three rounds pass"),
             stop: () => this.runner.stop(),
-            print: () => window.print(),
             nearer: () => this.map?.zoom(1.4),
             farther: () => this.map?.zoom(1 / 1.4),
             whole: () => this.wholeMap(),
@@ -212,8 +213,8 @@ export class Workbench {
         makeBorder("split-x", "x", () => this.draw());
         makeBorder("split-y", "y", () => this.draw());
         window.addEventListener("hashchange", () => void this.fromAddress());
-        window.addEventListener("beforeprint", () => this.print());
-        window.addEventListener("afterprint", () => byId("handout").replaceChildren());
+        window.addEventListener("beforeprint", () => this.pack.print());
+        window.addEventListener("afterprint", () => this.pack.printed());
         window.addEventListener("resize", () => this.arrange());
         this.arrange();
     }
@@ -224,6 +225,7 @@ export class Workbench {
         const scale = 16 / parseFloat(getComputedStyle(root).fontSize);
         const { layout, isLow } = arrangement(root.clientWidth * scale, root.clientHeight * scale);
         root.dataset.layout = layout;
+        root.toggleAttribute("data-slim", layout !== "wide");
         root.toggleAttribute("data-low", isLow);
         root.toggleAttribute("data-tight", root.clientWidth * scale < 1340);
         root.toggleAttribute("data-roomy", layout === "wide" && root.clientWidth * scale >= ROOMY);
@@ -237,13 +239,6 @@ export class Workbench {
         const isWhole = document.documentElement.toggleAttribute("data-whole");
         set(byId("whole"), { "aria-pressed": String(isWhole) });
         this.draw();
-    }
-
-    /** Fills the sheets of paper: the list of lessons if it is open, else the handout of the script. */
-    print() {
-        if (this.index.isOpen()) return byId("handout").replaceChildren(this.index.forPaper());
-        if (!this.history) return;
-        fillHandout(byId("handout"), this.history, this.title(), headComment(this.history.replay.input));
     }
 
     /** @param {string} name */
@@ -293,6 +288,7 @@ export class Workbench {
             const opens = beside[0]?.name ?? FIRST;
             this.doors.show(opens === FIRST && !this.why);
             await this.load(opens);
+            if (beside[0]?.at) this.goStop(beside[0].at);
         }
         if (!kept && beside.length > 1) this.compareWith(beside[1]);
     }
@@ -432,10 +428,7 @@ export class Workbench {
         if (!this.history) return;
         const { isReached, text } = await judged(this.runner.batch, this.history.replay.input);
         if (run !== this.runs) return;
-        const goal = byId("goal");
-        goal.hidden = text === "";
-        say(goal, text);
-        goal.classList.toggle("reached", isReached);
+        drawGoal({ isReached, text }, this.history.replay.input, this.example);
     }
 
     /**
@@ -717,21 +710,6 @@ export class Workbench {
     }
 
     // ---- to others
-
-    async share() {
-        const isExample = this.text === this.examples.find((it) => it.name === this.example)?.text;
-        const { grain, hidden, to } = this;
-        const what = isExample ? { example: this.example } : { text: this.text };
-        history.replaceState(null, "", await fragment({ ...what, at: this.at(), grain, hidden, to }));
-        const address = window.location.href;
-        const size = `${address.length} characters`;
-        try {
-            await navigator.clipboard.writeText(address);
-            this.toast.show(`The address is copied: ${size}. It has the script and this step.`, null);
-        } catch {
-            this.toast.show(`The address in the browser's bar has the script and this step: ${size}.`, null);
-        }
-    }
 
     async openFile() {
         const file = /** @type {HTMLInputElement} */ (byId("file")).files?.[0];

@@ -128,7 +128,7 @@ export function headComment(input) {
     const found = [];
     for (const line of input.head) {
         if (!line.startsWith("#")) break;
-        if (/^#\s*(?:Goal|Shortest known):/.test(line)) continue;
+        if (/^#\s*(?:Goal|Shortest known|Hint):/.test(line)) continue;
         found.push(line.replace(/^#\s*/, ""));
     }
     return found.join(" ").trim();

@@ -108,6 +108,38 @@ export const TABLE = {
 "ack": "ack",
 "tap": "Tap a part to change it"
 },
+"exercises": {
+"hint": "Hint",
+"no hint": "Hide the hint",
+"code": "Hand this in ({count} of {all} are solved here):",
+"title": "Codes of exercises",
+"how": "Each page shows one code for all that is solved in it. Paste a line for each pupil, a name and a code. A number is how many events the solution has; bold where no shorter one is known.",
+"paste": "Ada 30000-00000-ABCD",
+"no code": "This is no code. Is a letter missing?",
+"save": "Save as a table"
+},
+"hour": [
+[10, "first-message", "Why may a sender have only one message out on a link?", "So an answer needs no number: it is about the one message that has no answer yet."],
+[10, "a-message-given-up", "What does each answer tell a sender, and what does it leave open?", "RFNM: the message was taken, exactly once. Dead: it was not taken, and never will be. Incomplete: either may be so."],
+[10, "a-repeat-is-taken-once", "A line loses and repeats frames. Why does the host see neither?", "An IMP sends a packet again until it is acknowledged, and one bit on each channel tells a repeat from the next packet."],
+[10, "a-late-duplicate-after-a-restart", "What does an IMP forget when it stops, and why is that dangerous?", "Its message numbers. It begins at 0 again, so an old frame could be taken for a new one. It comes up only when nothing of before is left."],
+[10, "lo-of-login", "What did the receiver get of what was sent, and what can be promised?", "A prefix, here LO of LOG: no gap, no repeat, and nothing of another connection."],
+[10, "", "What does an example show, and what only a proof?", "An example shows one case. What is proved holds for every network and every script. Nothing says that a message arrives."]
+],
+"sharing": {
+"local": "This page was opened as a file, so its address opens nowhere else.",
+"save": "Save a page that opens here",
+"saved": "The page is saved: it opens anywhere, at this step."
+},
+"paper": {
+"worksheet": "Worksheet",
+"answers": "Answers",
+"name": "Name",
+"slides": "The first hour",
+"question": "Question",
+"what happens": "What happens",
+"answer": "Answer"
+},
 "goals": {
 "reached": "The goal is reached, with {events event}.",
 "not reached": "The goal is not reached yet.",
@@ -140,11 +172,7 @@ export const TABLE = {
 "ALL": "Allocate: the receiver grants so many messages and bits, and the sender sends no more.",
 "GVB": "Give back: the receiver asks for a part of its grant back.",
 "RET": "Return: the sender gives back what it was asked for.",
-"ECO": "Echo: a host asks another one to send an octet back.",
-"ERP": "Echo reply: the octet comes back.",
 "ERR": "Error: a host says what was wrong with a command.",
-"INR": "Interrupt by the receiver: the sender's user is told.",
-"INS": "Interrupt by the sender: the receiver's user is told.",
 "allocation": "What a receiver has granted and a sender has not used: so many messages, and so many bits.",
 "grant": "What a receiver allows a sender to send: so many messages, and so many bits.",
 "stranger": "A host that runs no program of this network: the script says what it sends, and it may break every rule.",
