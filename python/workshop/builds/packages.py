@@ -12,14 +12,15 @@ import os
 import re
 import shutil
 import subprocess
-import sys
 import tarfile
 import tempfile
 from collections.abc import Mapping
 from dataclasses import dataclass
 
+from dorydate.definitions.promise import PACKED, files_of_promise
 from workshop.builds.manual import manual
 from workshop.parts import ROOT, read_octets
+from workshop.tools import python_with
 
 LICENCES = ("LICENSE-APACHE", "LICENSE-MIT")
 BY_NODE = ("arpasim.mjs", "base85.js", "many.js", "once.js", "program.js", "released.js", "runner.js")  # of web/run
@@ -52,7 +53,12 @@ def examples() -> Files:
 
 def programs() -> Files:
     """The programs of hosts among the examples, which the tutorial runs."""
-    return {it: (read_octets(f"{ROOT}/examples/{it}"), 0o644) for it in sorted(os.listdir(f"{ROOT}/examples")) if it.endswith(".py")}
+    return {it: (read_octets(f"{ROOT}/examples/{it}"), 0o644) for it in sorted(os.listdir(f"{ROOT}/examples")) if it.endswith((".py", ".c"))}
+
+
+def promised() -> Files:
+    """The files of the definitions of the promise."""
+    return {it: (read_octets(f"{ROOT}/crates/{it}"), 0o644) for it in files_of_promise()}
 
 
 def below(folder: str, files: Files) -> Files:
@@ -84,9 +90,8 @@ def write(folder: str, files: Files) -> None:
 
 def python_with_setuptools() -> str:
     """A Python that has what builds wheels."""
-    for command in (sys.executable, "/usr/bin/python3"):
-        if subprocess.run([command, "-c", "import setuptools, wheel"], capture_output=True).returncode == 0:
-            return command
+    if command := python_with("setuptools", "wheel"):
+        return command
     raise Refused("there is no Python with setuptools and wheel (apt-get install python3-setuptools python3-wheel)")
 
 
@@ -101,6 +106,7 @@ def wheel(release: Release, folder: str) -> str:
                 os.chmod(f"{place}/{name}", 0o644)
         write(f"{room}/dorydate/release", {**of_module(release), "arpasim": (release.native, 0o755)})
         write(f"{room}/dorydate/examples", {**examples(), **programs()})
+        write(f"{room}/dorydate/definitions/{PACKED.name}", promised())
         write(room, licences())
         build = "import sys; from setuptools import build_meta; build_meta.build_wheel(sys.argv[1])"
         env = {**os.environ, "SOURCE_DATE_EPOCH": str(EPOCH), "PYTHONDONTWRITEBYTECODE": "1"}

@@ -13,17 +13,19 @@ import tempfile
 import zipfile
 from pathlib import Path
 
+from dorydate.definitions.promise import files_of_promise
 from workshop.builds.packages import Refused, python_with_setuptools
 from workshop.checks.wrong import Wrong, call
 from workshop.documents.notebook import NOTEBOOK
 from workshop.parts import ROOT, read_octets, text_of
+from workshop.tools import lacking, python_with
 from workshop.wasm import pack
 
 CELLS = f"{ROOT}/python/workshop/checks/cells.py"
 COMMANDS = (["explain"], ["explain", "--chart"], ["explain", "--page"], ["export", "--shiviz"], ["version"], ["page"])
 SEARCH = ("explore", "resets-in-step", "--quiet", "--runs", "1000", "--matches", "1")
 WRONG_LINE = 'net.calm("x")'
-# what a wheel and a page are built of
+# what a wheel and a page are built of, beside the definitions of the promise
 PARTS = ("python", "examples", "web", "docs/chronology.md", "LICENSE-APACHE", "LICENSE-MIT")
 BUILD = """
 import json, sys
@@ -68,6 +70,9 @@ def check_commands(room: str) -> None:
         if not call(f"{room}/venv/bin/dorydate", *words, cwd=room, env=env, input=first):
             raise Wrong(f"dorydate {' '.join(words)} prints nothing")
     call(f"{room}/venv/bin/python", "-m", "dorydate", *SEARCH, cwd=room, env=env)
+    judged = call(f"{room}/venv/bin/dorydate", "explain", "--promise", f"{ROOT}/logs/two-octets", cwd=room, env=env)
+    if "broken" in judged or "holds  within" not in judged:
+        raise Wrong("dorydate explain --promise doesn't judge a log")
 
 
 def program_of_a_user() -> str:
@@ -79,7 +84,7 @@ def program_of_a_user() -> str:
 def check_types(room: str) -> None:
     """The package as installed, and a user's program, are right to mypy; and one that calls it wrongly isn't."""
     if not shutil.which("mypy"):
-        print("check release: the wheel: mypy is not installed, so no types were checked")
+        lacking("release", "types of the wheel", "mypy")
         return
     mypy = ("mypy", "--strict", "--python-executable", f"{room}/venv/bin/python", "--cache-dir", f"{room}/mypy")
     call(*mypy, "-p", "dorydate", cwd=room)
@@ -94,20 +99,13 @@ def check_types(room: str) -> None:
     print(f"  imports it, and refuses `{WRONG_LINE}`", flush=True)
 
 
-def with_jupyter() -> str | None:
-    """A Python that has Jupyter's kernel and what runs notebooks."""
-    for python in filter(os.path.exists, (sys.executable, "/usr/bin/python3")):
-        ran = subprocess.run([python, "-c", "import nbclient, ipykernel"], capture_output=True, check=False)
-        if ran.returncode == 0:
-            return python
-    return None
-
-
 def check_notebook(file: str, room: str) -> None:
     """Each cell of the notebook shows what is stored: run by Python, and by Jupyter where that is installed."""
     count = call(f"{room}/venv/bin/python", "-I", CELLS, NOTEBOOK, cwd=room, env=surroundings(room)).strip()
-    python, by = with_jupyter(), "Python; Jupyter's nbclient and ipykernel are not installed"
-    if python:
+    python, by = python_with("nbclient", "ipykernel"), "Python"
+    if not python:
+        lacking("release", "the notebook by Jupyter", "Jupyter")
+    else:
         own = f"{room}/jupyter"
         call(python, "-m", "venv", "--system-site-packages", own)
         call(f"{own}/bin/pip", "install", "--quiet", "--no-index", "--disable-pip-version-check", file)
@@ -145,7 +143,7 @@ def check_twice(folder: str) -> None:
         print(f"check release: the wheel: it was not built again, since {why}")
         return
     with tempfile.TemporaryDirectory() as room:
-        for part in PARTS:
+        for part in (*PARTS, *(f"crates/{it}" for it in files_of_promise())):
             os.makedirs(os.path.dirname(f"{room}/tree/{part}"), exist_ok=True)
             call("cp", "-r", f"{ROOT}/{part}", f"{room}/tree/{part}")
         call("chmod", "-R", "go-rwx", f"{room}/tree")
@@ -170,7 +168,8 @@ def check_page(tree: str, folder: str, commit: str) -> None:
 def check_built_again(folder: str, wheel: str, commit: str) -> None:
     """The commit that a release names gives its page and its wheel again."""
     with tempfile.TemporaryDirectory() as room:
-        archive = subprocess.run(["git", "archive", commit, *PARTS], cwd=ROOT, capture_output=True, check=False)
+        parts = ["git", "archive", commit, *PARTS, "crates"]
+        archive = subprocess.run(parts, cwd=ROOT, capture_output=True, check=False)
         if archive.returncode:
             print(f"check release: commit {commit[:8]} is not in this clone, so page and wheel were not made again")
             return
