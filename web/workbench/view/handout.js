@@ -34,7 +34,7 @@ export function fillHandout(element, history, { title, intro, kind, until }) {
     const stops = stopsOf(history, "round");
     const notes = notesOf(input);
     const rows = h("tbody");
-    let isOpen = true;
+    let isOpen = kind !== "worksheet" || notes.some((it) => it.kind === "question");
     const told = (/** @type {number} */ moment) => (isOpen && moment < until ? sentenceOf(history, moment) : "");
     const put = (/** @type {import("../script.js").Note} */ note) => {
         if (kind === "worksheet" && note.kind === "question") isOpen = false;
