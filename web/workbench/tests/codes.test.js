@@ -11,7 +11,7 @@ import { headComment, notesOf, readInput } from "../script.js";
 test("a code says what was solved, also in small letters and with letters that look alike", () => {
     const solved = Object.fromEntries(EXERCISES.map(({ name, shortest }, at) => [name, at % 3 ? shortest + at : 0]));
     const code = codeOf(solved);
-    assert.match(code, /^[0-9A-Z]{5}-[0-9A-Z]{5}-[0-9A-Z]{4}$/);
+    assert(/^[0-9A-Z]{5}-[0-9A-Z]{5}-[0-9A-Z]{4}$/.test(code), code);
     assert.deepEqual(solvedIn(code), EXERCISES.map(({ name }) => solved[name]));
     assert.deepEqual(solvedIn(code.toLowerCase().replace(/0/g, "o").replace(/-/g, " ")), solvedIn(code));
 });
@@ -48,6 +48,6 @@ test("thousands of comments in a row have few rows", () => {
     const input = readInput(`raw = true\n%\n${"#x\n".repeat(5000)}calm 1\n# y\n`);
     const notes = notesOf(input);
     assert(notes.length < 300, String(notes.length));
-    assert.match(notes[notes.length - 2].text, /… 4800 more$/);
+    assert(/… 4800 more$/.test(notes[notes.length - 2].text));
     assert.equal(notes[notes.length - 1].text, "y");
 });
