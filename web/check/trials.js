@@ -430,7 +430,7 @@ export async function legible({ $, all, load, press, pause, want }, name) {
             const told = new Set(all("#sheet .head:not(.script)").map((it) => it.textContent.trim().split(" ")[0]));
             const isSmall = $("network").hasAttribute("data-small");
             const named = new Set(seen.map((it) => it.textContent));
-            for (const it of isSmall ? told : []) want(named.has(it), `${where}: ${it} has no name on the map`);
+            for (const it of isSmall ? [...told].filter((site) => /^[A-Z]/.test(site)) : []) want(named.has(it), `${where}: ${it} has no name on the map`);
         }
         press("larger");
     }

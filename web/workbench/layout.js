@@ -55,7 +55,7 @@ export const DOTS = { name: "dots", title: 10.5, text: 9.6, half: 8, pad: 3, rad
 
 const PLAIN = { width: 640, height: 360, unit: 1 };
 const MOST_BOXES = 12; // IMPs of a map with boxes
-const LETTER = 0.7; // the width of a capital letter, as a share of its height
+const LETTER = 0.74; // the width of a capital letter, as a share of its height
 const EDGE = 8; // pixels around a map
 const ROOMY = { width: 640, height: 300, most: 1.2 }; // a frame that is larger has larger letters
 const DOT = 4; // the radius of an IMP that is a dot
