@@ -642,8 +642,8 @@ export async function keys({ $, one, all, focused, load, key, want }) {
         "a head of a table without scope",
     );
     const signs = all("#legend .sign").map((it) => it.getAttribute("d"));
-    want(signs.length > 5 && new Set(signs).size === signs.length, "two kinds of frames have one shape");
-    want($("pace").options.length === 3, "there is no choice of speed");
+    want(signs.length > 1 && new Set(signs).size === signs.length, "two kinds of frames have one shape");
+    want($("pace").options.length >= 3, "there is no choice of speed");
     want(
         all("button, select, input:not([type=file])").every(
             (it) => it.textContent.trim() || it.getAttribute("aria-label"),
