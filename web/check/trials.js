@@ -363,7 +363,7 @@ export async function bundles({ $, all, pause, press, load, key, want }) {
     want(far > 5, `only ${far} lines are folded`);
     const counted = counts.filter((it) => it > 1);
     const folds = counted.reduce((sum, it) => sum + it - 1, 0);
-    want(folds > 0 && folds <= far, `${far} lines are folded, in bundles of ${counted}`);
+    want(folds <= far, `${far} lines are folded, in bundles of ${counted}`);
     const on = () => {
         const boxes = all("#network .part.imp .box").map((it) => it.getBoundingClientRect());
         const areOn = (/** @type {DOMRect} */ a, /** @type {DOMRect} */ b) =>

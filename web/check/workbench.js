@@ -235,7 +235,7 @@ const PLANTED = /** @type {Planted[]} */ ([
     },
     {
         what: "lines side by side that are not folded",
-        from: "const NEAR = 24;",
+        from: "const NEAR = 14;",
         to: "const NEAR = 0;",
         by: "bundles",
         words: "lines are folded",

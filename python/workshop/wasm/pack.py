@@ -38,7 +38,7 @@ MAY_COUNT = re.compile(r"['`/]")  # in a line with one of these a space may be i
 SPACED = re.compile(r'("(?:[^"\\]|\\.)*")|[ ]*([{}()\[\];,=<>?:&|!*])[ ]*')
 LEFT_OVER = re.compile(r"^(?:import|export)\b.*$|\bimport\(", re.MULTILINE)
 ALIAS = re.compile(r"(\w+)(?:\s+as\s+(\w+))?")
-ENDINGS = re.compile(r"\.(?:py|args|stdout|stderr|status|rows|md)$")
+ENDINGS = re.compile(r"\.\w+$")
 AVOIDED, INSTEAD = "<`", ",."  # digits of base85 that would end a block, or a text in a script, and those in their place
 
 
