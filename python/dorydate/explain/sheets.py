@@ -15,13 +15,16 @@ WORDS = sentences("paper")
 HOUR: list[tuple[int, str, str, str]] = [(it[0], it[1], it[2], it[3]) for it in TABLE["hour"]]
 MOST_TOLD = 7  # sentences on a slide
 STYLE = """body{font:11pt/1.4 system-ui,sans-serif;margin:2rem auto;max-width:60rem;padding:0 1rem;color:#161a20}
-table{border-collapse:collapse;width:100%}td{padding:.25rem .6rem .25rem 0;border-bottom:1px solid #dedbd2;vertical-align:top}
-code{font:10pt ui-monospace,monospace}.note td{font-style:italic;padding-top:.6rem}.blank td{height:3em;border-bottom:1px dotted #555}
+table{border-collapse:collapse;width:100%}
+td{padding:.25rem .6rem .25rem 0;border-bottom:1px solid #dedbd2;vertical-align:top}
+code{font:10pt ui-monospace,monospace}.note td{font-style:italic;padding-top:.6rem}
+.blank td{height:3em;border-bottom:1px dotted #555}
 .reply td{font-weight:600}.name{border-bottom:1px dotted #555;max-width:20rem}tr{break-inside:avoid}"""
 SLIDES = """body{margin:0;font-family:system-ui,sans-serif;color:#161a20}
-section{min-height:100vh;box-sizing:border-box;padding:7vh 8vw;display:flex;flex-direction:column;gap:3vh;page-break-after:always}
-section.title{background:#14273f;color:#f2f5f9;justify-content:center}h1{font-size:9vh;margin:0}p,li{font-size:3.3vh;line-height:1.35;margin:0 0 1vh}
-.kicker{color:#0a5f9e;font-weight:600;font-size:2.6vh}.title .kicker{color:#a9bbd2}.big{font-size:5vh;font-weight:600}"""
+section{min-height:100vh;box-sizing:border-box;padding:7vh 8vw;display:flex;flex-direction:column;gap:3vh}
+section{page-break-after:always}section.title{background:#14273f;color:#f2f5f9;justify-content:center}
+h1{font-size:9vh;margin:0}p,li{font-size:3.3vh;line-height:1.35;margin:0 0 1vh}.big{font-size:5vh;font-weight:600}
+.kicker{color:#0a5f9e;font-weight:600;font-size:2.6vh}.title .kicker{color:#a9bbd2}"""
 
 
 def page(title: str, style: str, parts: Iterable[str]) -> str:

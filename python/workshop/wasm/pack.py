@@ -132,7 +132,8 @@ def add_table(packed: Packed) -> int:
     unpacks = f"module{add(packed, UNPACKS)}"
     place = packed.places[TABLE] = len(packed.places)
     late = f'document.getElementById("sentence").textContent = {json.dumps(TOO_OLD)};'
-    table = f'JSON.parse(await {unpacks}.unpackedText({unpacks}.block("sentences")).catch((why) => {{ {late} throw why; }}))'
+    text = f'{unpacks}.unpackedText({unpacks}.block("sentences"))'
+    table = f"JSON.parse(await {text}.catch((why) => {{ {late} throw why; }}))"
     packed.texts.append(tight(f"const module{place} = {{ TABLE: {table} }};\n"))
     return place
 
