@@ -3,8 +3,9 @@
 FOLDER has `page.html`, `page.css` and `main.js`, the module of JavaScript that the page begins with (web/page, or another one). In
 `page.html` four comments say where what is packed goes: `<!-- policy -->`, `<!-- style -->`, `<!-- data -->` and `<!-- script -->`. The
 data are blocks that no browser runs: `program` (MODULE, by gzip and base85), `worker` (web/run/worker.js), `examples` (JSON by gzip and
-base85: a name, a title and the text of each input in examples/), `sentences` (the table of sentences, likewise), `chronology` (docs/chronology.md, by gzip and base85) and `opened`, a
-list that is empty, into which ./explain --page puts inputs like these, with which the page opens.
+base85: a name, a title and the text of each input in examples/), `sentences` (the table of sentences), `chronology`
+(docs/chronology.md, both by gzip and base85) and `opened`, a list that is empty, into which ./explain --page puts
+inputs like these, with which the page opens.
 
 Modules are joined to one script, each in a function of its own, so names of two never meet. They may import names, or all names as one
 (`import * as it`), from other files, and export declarations and lists of names; anything else is refused. The policy of the page forbids
