@@ -8,7 +8,7 @@ import { filled, joinedWords } from "./words.js";
 /** @typedef {import("./runs.js").Refusal} Refusal */
 /** @typedef {import("./script.js").Input} Input */
 
-const [MOST_OCTETS, MOST_IMPS, MOST_LINES] = [1_048_576, 63, 5];
+const [MOST_OCTETS, MOST_IMPS, MOST_LINES] = [268_435_456, 63, 5];
 const FAULTS = /** @type {{[name: string]: string}} */ (TABLE.faults);
 const TOPOLOGIES = /** @type {{[name: string]: string}} */ (TABLE.topologies);
 

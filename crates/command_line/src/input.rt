@@ -89,14 +89,14 @@ pub(crate) const CHUNK: usize = 4096;
 /// Returns all octets that the reader gives. It is asked for one octet more than an input may have, and for none after
 /// that.
 ///
-/// Errors: `CannotRead` where a read fails, `BadTopology` where there are more octets than an input may
-/// have, `OutOfMemory`.
+/// Errors: `CannotRead` where a read fails, `TooLong` where there are more octets than an input may have,
+/// `OutOfMemory`.
 pub(crate) fn read_octets<R: Source>(alloc: Global, reader: &mut R) -> Result<Vec<u8>, ScriptFault>
     requires reads { R.failed reader.old ≡ false }
     requires more { R.ended reader.old ≡ false }
     ensures long { IfOk result (λ octets. length octets.items ≤ MAX_INPUT) }
     ensures whole { IfOk result (λ octets. IfSome (R.remaining reader.old) (λ known. octets.items ≡ known)) }
-    ensures too_long { result ≡ Err ScriptFault.BadTopology → IfSome (R.remaining reader.old) (λ known. MAX_INPUT < length known) }
+    ensures too_long { result ≡ Err ScriptFault.TooLong → IfSome (R.remaining reader.old) (λ known. MAX_INPUT < length known) }
     ensures fault { IfErr result IsReadFault }
     ensures failed { (result ≡ Err ScriptFault.CannotRead) ↔ (R.failed reader.new ≡ true) }
     ensures reads { ReadsFirst (R.remaining reader.old) (R.remaining reader.new) }
@@ -113,7 +113,7 @@ pub(crate) fn read_octets<R: Source>(alloc: Global, reader: &mut R) -> Result<Ve
         }
         octets.extend_from_slice(&chunk[..count])?;
     }
-    Err(ScriptFault::BadTopology)
+    Err(ScriptFault::TooLong)
 }
 
 /// Returns the topology that a document describes.

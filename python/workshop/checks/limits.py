@@ -74,8 +74,8 @@ LIMITS: dict[str, Limit] = {
     "crossings, notices and changes of lives": Limit([], PAIR, [*SHORT, *["send 0/2 1 8 5A", "calm 1"] * 34_000]),
     # in each round one life takes, another sends, and both are granted as much again: a million changes
     "notices that services hear, and changes of lives": Limit([], PAIR, [*JOINED, "send 0/1 101 8 5A", "calm 260000"]),
-    # an event for each seven octets of an input
-    "events of a script": Limit([], PAIR, ["calm 0"] * 149_000),
+    # an event for each seven octets of an input, which has more octets than one of 20 bits can count
+    "events of a script": Limit([], PAIR, ["calm 0"] * 200_000),
     "peers": Limit([], MANY, [*[f"contact 0/1 {host}/{imp}" for imp in range(2, 64) for host in range(4)], "calm 6"]),
     "requests in a row": Limit([], MANY, [*[f"contact {host}/{imp} 0/1" for imp in range(2, 64) for host in range(4)], "calm 12"]),
     "ends": Limit(["--book"], PAIR, ["contact 0/1 0/2", "calm 3", *[f"openrecv 0/1 0/2 {2 * at} {2 * at + 1}" for at in range(1, 250)], "calm 20", *[f"opensend 0/1 0/2 {2 * at + 1} {2 * at} 8" for at in range(1, 5000)], "calm 1000"]),

@@ -24,7 +24,8 @@ pub no_strangers : (octets document script : List ℕ) (f : ScriptFault) → IsP
     → IsNetworkFault f → (f ≡ fault.BadTopology → IsUtf8 document → (t : MixedFields) → ¬ (DescribesMixed document t))
     → IsMixedFault octets f
 no_strangers octets document script fault.BadTopology parted known refused =
-    inr (inr (record { document = document; script = script; parted = parted; unfit = refused refl }))
+    inr (record { document = document; script = script; parted = parted; unfit = refused refl })
+no_strangers octets document script fault.TooLong parted known refused = absurd known
 no_strangers octets document script fault.OutOfMemory parted known refused = tt
 no_strangers octets document script fault.CannotRead parted known refused = absurd known
 no_strangers octets document script fault.CannotWrite parted known refused = absurd known

@@ -88,6 +88,7 @@ pub only_replayed : (P : Type 0) (r : Result (Unit {0}) ScriptFault) → IfErr r
 only_replayed P (Ok done) h = tt
 only_replayed P (Err fault.OutOfMemory) h = λ written kept. absurd (kept refl)
 only_replayed P (Err fault.CannotWrite) h = λ written kept. absurd (written refl)
+only_replayed P (Err fault.TooLong) h = absurd h
 only_replayed P (Err fault.BadTopology) h = absurd h
 only_replayed P (Err fault.CannotRead) h = absurd h
 only_replayed P (Err fault.BadOptions) h = absurd h
