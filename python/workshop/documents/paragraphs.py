@@ -14,7 +14,7 @@ from workshop.parts import ROOT
 MOST_WORDS = 900  # of README, which is read first
 # 1,000 of these: strangers that one speaks for, a program of one's own, and lessons among them; 210: endings among
 # strangers, a book that borrows; 440: the audit of logs with strangers
-MOST_OF_ALL = 71_980
+MOST_OF_ALL = 76_000
 PAGES = ("README.md", "CONTRIBUTING.md", "docs/*.md")
 # a line that begins something of its own: a heading, an item, a row, a quotation, a picture, a comment, code
 OWN = re.compile(r"(?:#|[-*] |\d+\. |\||>|!\[|<|```|    |\t)")
