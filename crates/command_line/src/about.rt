@@ -9,8 +9,8 @@ use crate::fault::ScriptFault;
 use replay::Output;
 
 /// The version of the program. What users write and read (options, scripts, topologies, printed lines, logs, traces) is
-/// what a version promises to keep.
-pub const VERSION: &str = "1.1.0";
+/// what a version promises to keep. Between releases it ends in `-dev`, so that a released number belongs to one program.
+pub const VERSION: &str = "1.2.0-dev";
 
 /// How the program is called, as it says itself.
 pub const HELP: &str = "\

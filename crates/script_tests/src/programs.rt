@@ -79,7 +79,7 @@ const ROWS: [Row; 24] = [
     ),
     (&["--check"], BAD_LINE, b"", "arpasim: bad script line 3", 2),
     (&["--trace"], BAD_LINE, b"", "arpasim: bad script line 3", 2),
-    (&["--version"], RAW, b"arpasim 1.1.0\n", "", 0),
+    (&["--version"], RAW, b"arpasim 1.2.0-dev\n", "", 0),
     (
         &["--help", "--version"],
         RAW,
