@@ -58,7 +58,10 @@ impl ScriptFault {
         ensures { result ≡ status_of self.now }
     {
         match self {
-            ScriptFault::BadOptions | ScriptFault::CannotRead | ScriptFault::TooLong | ScriptFault::BadTopology => 1,
+            ScriptFault::BadOptions
+            | ScriptFault::CannotRead
+            | ScriptFault::TooLong
+            | ScriptFault::BadTopology => 1,
             ScriptFault::BadLine(_) => 2,
             ScriptFault::OutOfMemory | ScriptFault::CannotWrite => 3,
         }

@@ -1,7 +1,8 @@
 //! The whole program on its words and an input: what it writes, how it ends, and what standard error says. Bad words, a
 //! bad topology, a bad line of a script and a bad line of a log are named, and never taken for running out of memory.
 
-use command_line::{HELP, Printer, Reader, exit_status, run_program};
+use command_line::{HELP, Printer, Reader};
+use simulator::{exit_status, run_program};
 use std::alloc::{AllocError, Global};
 use std::io::Cursor;
 

@@ -3,12 +3,11 @@ tools/check-one CRATE [--from CLONE] [WORDS FOR THE CHECKER ..]
 
 After an `rt ci`, plain `rt check` in a fresh clone proves each crate below anew. Here the crate is checked over the
 libraries that `rt ci` keeps beside the kit: of each crate below the newest whose definitions and clauses are those of
-this clone. Where there is none, it is named; `rt ci` with its name makes it. What a check finds is kept in out/one/,
-and the next one begins with it.
+this clone. A crate of which none is kept is read from its sources, as is each above it; these are named first, and
+`--only` should then name what is to be checked. What a check finds is kept in out/one/, and the next one begins with it.
 
 Kit 13b keeps nothing beside it. There `--from CLONE` takes the libraries that an `rt ci` left in another clone, while
-it still runs, too: of each crate whose sources are those of this clone, with all below it. The others are read from
-their sources, so `--only` should name what is to be checked.
+it still runs, too: of each crate whose sources are those of this clone, with all below it.
 
 The words go to the checker: `--only PATH` for one function and the lemma files that its proof cites, `--allow-holes`,
 `--jobs N`. No verdict rests on such a check: the gate is `rt ci`.
@@ -116,17 +115,16 @@ def libraries_of(crate: str) -> list[Library]:
     return sorted((Library(crate, f"{store()}/{it}") for it in found), key=lambda it: -os.stat(it.folder).st_mtime)
 
 
-def chosen(needed: list[str]) -> dict[str, Library]:
-    """A library for each of these crates, of which each comes after those below it; ends where one is lacking."""
+def chosen(lines: dict[str, list[str]], needed: list[str]) -> dict[str, Library]:
+    """A library for each of these crates that has one, as have all below it. Each of `needed` comes after those below it."""
     if not os.path.isdir(store()):
         sys.exit("check-one: this kit keeps no libraries; --from CLONE takes those that `rt ci` left in a clone")
     found: dict[str, Library] = {}
     for crate in needed:
         fitting = (it for it in libraries_of(crate) if it.is_of_sources())
-        library = next(fitting, None)
-        if library is None:
-            sys.exit(f"check-one: no library of {crate} is kept that is of these sources; `rt ci {crate}` makes one")
-        found[crate] = library
+        is_over_others = all(below in found for below in lines[crate] if below in lines)
+        if is_over_others and (library := next(fitting, None)):
+            found[crate] = library
     return found
 
 
@@ -183,7 +181,9 @@ def main() -> int:
         built = left_in(os.path.abspath("".join(words[at + 1 : at + 2])), lines, needed)
         del words[at : at + 2]
     else:
-        built = put_into(room, chosen(needed))
+        built = put_into(room, chosen(lines, needed))
+    if read := [it for it in needed if it not in built]:
+        print(f"check-one: read from their sources: {' '.join(read)}", flush=True)
     os.makedirs(room, exist_ok=True)
     words = command(crate, lines, built, f"{room}/kept-{crate}", words)
     return subprocess.run(words, cwd=f"{ROOT}/crates/{crate}", stdin=subprocess.DEVNULL, check=False).returncode

@@ -2,8 +2,7 @@
 
 WAY is --gate, --built or --whole. It takes minutes for a crate, and an hour for all.
 
-`rt must-fail` tries each edit of must-fail/ by itself, and the first of a crate costs a whole check. Here edits of different
-functions of a crate are tried together, in a copy of the crate and of what its last check kept. A function is proved over the
+Edits of different functions of a crate are tried together, in a copy of the crate and of what its last check kept. A function is proved over the
 contracts of those it calls, so an edit counts as refused only at goals of its own function, which are printed. So only these
 functions are checked, with those that they call, first as they are and then with the edits. What a batch leaves open is tried
 alone. An edit that is in no function, or in one that `rt check --only` doesn't find, is tried over whole checks of the crate, and
@@ -12,7 +11,7 @@ it took away: neither says anything of the contract. Nothing is written beside t
 
 With --built they are tried over the libraries that an `rt ci` built in this clone, and with no check of the functions as
 they are, since it has proved them. Each has to be in one function. With --gate only those with the line `# The gate tries
-this bug.` are tried in this way, right after that `rt ci`.
+this bug.` are tried in this way, right after that `rt ci`, and as many crates at once as --jobs says or there are cores.
 
 With --note the day on which each was refused is written into docs/measured/planted.json, and shown in planted.md.
 """
@@ -181,9 +180,9 @@ def noted(crate: str, edits: Sequence[Edit], failed: Sequence[Edit]) -> None:
         planted.note(crate, [it for it in edits if it not in failed], failed)
 
 
-def check_for_gate(crate: str) -> tuple[int, int]:
-    """Tries those edits of a crate that the gate tries. Gives how many are refused, and how many are not."""
-    edits = [it for it in edits_of(crate) if it.is_of_gate]
+def check_for_gate(crate: str, names: list[str]) -> tuple[int, int]:
+    """Tries those edits of a crate that the gate tries, all of them or those that are named. Gives how many are refused, and how many are not."""
+    edits = [it for it in edits_of(crate) if it.is_of_gate and (not names or it.title in names)]
     return check_over_built(crate, edits) if edits else (0, 0)
 
 
@@ -206,7 +205,7 @@ def check_over_built(crate: str, edits: list[Edit]) -> tuple[int, int]:
 def options(words: list[str]) -> tuple[bool, list[str], list[str]]:
     """What is asked for: whether each edit is tried over whole checks, the words that `rt check` gets, and the crates and edits."""
     whole, jobs = "--whole" in words, []
-    words = [it for it in words if it not in ("--whole", "--built", "--note")]
+    words = [it for it in words if it not in ("--whole", "--built", "--gate", "--note")]
     if "--jobs" in words:
         at = words.index("--jobs")
         jobs, words = words[at : at + 2], words[:at] + words[at + 2 :]
@@ -214,18 +213,14 @@ def options(words: list[str]) -> tuple[bool, list[str], list[str]]:
 
 
 def status_of(counts: Sequence[tuple[int, int]]) -> int:
-    """Prints how many are refused in all, and gives the status."""
+    """Prints how many are refused in all, and gives the status: 1 too where none was tried."""
     refused, failed = (sum(it) for it in zip(*counts))
     print(f"{refused} refused, {failed} not")
-    return 1 if failed else 0
+    return 0 if refused and not failed else 1
 
 
 def main() -> int:
     having = [it for it in sorted(os.listdir(f"{ROOT}/crates")) if os.path.isdir(f"{ROOT}/crates/{it}/wrong-bodies")]
-    if "--gate" in sys.argv[1:]:
-        with ThreadPoolExecutor(CORES) as threads:
-            crates = [it for it in sys.argv[1:] if not it.startswith("--")] or having
-            return status_of([*threads.map(check_for_gate, crates)])
     whole, jobs, words = options(sys.argv[1:])
     if jobs and not (jobs[1:] and jobs[1].isdecimal()):
         print("check edits: a number of jobs is missing after --jobs")
@@ -240,6 +235,9 @@ def main() -> int:
             print(f"check edits: no planted bug of {crate} is called {name}")
             return 1
         asked.setdefault(crate, []).extend([name] if name else [])
+    if "--gate" in sys.argv[1:]:
+        with ThreadPoolExecutor(int(jobs[1]) if jobs else CORES) as threads:
+            return status_of([*threads.map(check_for_gate, asked, asked.values())])
     if "--built" not in sys.argv[1:]:
         counts = [check_crate(crate, names, whole, jobs) for crate, names in asked.items()]
     else:

@@ -46,6 +46,7 @@ def end_of(status: int, printed: str, said: str) -> End:
 
 PAIR = Topology("plain", False, [(1, 1), (2, 1)], [])
 MANY = Topology("plain", False, [(imp, 4) for imp in range(1, 64)], [])
+HOSTS = [f"{host}/{imp}" for imp in range(1, 64) for host in range(4)]
 # half of all hosts are strangers, and one of two
 ODD = MANY._replace(foreign=[(imp, [1, 3]) for imp in range(1, 64)])
 STRANGE = Topology("plain", False, [(1, 2), (2, 2)], [], [(1, [1]), (2, [1])])
@@ -86,9 +87,17 @@ LIMITS: dict[str, Limit] = {
     "commands that wait": Limit([], PAIR, ["contact 0/1 0/2", "calm 3", *["echo 0/1 0/2 65"] * 5000, "calm 400"]),
     "a typed line": Limit([], PAIR, [*SERVED, f"type 0/2 {'A' * 20_000}", "calm 200"]),
     "servers": Limit([], PAIR, ["contact 0/1 0/2", "calm 3", *[f"server 0/1 {2 * at + 1} {10_000 + 2 * at}" for at in range(600)], "user 0/2 0/1 1199 16", "calm 40"]),
-    "strangers": Limit(["--book", "--texts"], ODD, [*[f"out {host}/{imp} {host - 1}/{imp} 0 48 00080001000C" for imp in range(1, 64) for host in (1, 3)], "calm 3"]),
+    "strangers": Limit(
+        ["--book", "--texts"],
+        ODD,
+        [*(f"out {host}/{imp} {host - 1}/{imp} 0 48 00080001000C" for imp in range(1, 64) for host in (1, 3)), "calm 3"],
+    ),
     "events among strangers": Limit([], STRANGE, ["calm 0"] * 600_000),
-    "flows of an IMP": Limit([], Topology("subnet", True, [(imp, 4) for imp in range(1, 64)], []), [f"out 0/1 {host}/{imp} {link} 0 -" for link in range(41) for imp in range(2, 64) for host in range(4)]),
+    "flows of an IMP": Limit(
+        [],
+        MANY._replace(carrier="subnet", raw=True),
+        [f"out 0/1 {host}/{imp} {link} 0 -" for link in range(41) for imp in range(2, 64) for host in range(4)],
+    ),
     "lines of a subnet": Limit([], Topology("subnet", True, [(imp, 1) for imp in range(1, 64)], [*ring(63)]), ["calm 40", *[f"out 0/1 0/{imp} 5 8 41" for imp in range(2, 64)], "calm 60"]),
 }
 
@@ -148,8 +157,10 @@ LOGS: dict[str, Callable[[], bytes]] = {
     "crossings of a log": lambda: b"down 0/1\nup 0/1\n" * 500_000 + b"end\n",
     # the first crossing is of no run, so that messages are looked at one by one
     "crossings of a log that strays": lambda: b"up 0/1\n" + b"down 0/1\nup 0/1\n" * 50_000 + b"end\n",
-    "strangers of a log": lambda: in_lines([*(f"foreign {host}/{imp}" for imp in range(1, 64) for host in range(4)), "end"]),
-    "flows of a log": lambda: in_lines([*(f"out 0/1 {host}/{imp} {link} 0 -" for imp in range(1, 64) for host in range(4) for link in range(256)), *(f"out 1/1 {host}/{imp} {link} 0 -" for imp in range(1, 3) for host in range(4) for link in range(256)), "end"]),
+    "strangers of a log": lambda: in_lines([*(f"foreign {it}" for it in HOSTS), "end"]),
+    "flows of a log": lambda: in_lines(
+        [*(f"out {one} {other} {link} 0 -" for one in HOSTS[:2] for other in HOSTS for link in range(256)), "end"]
+    ),
     "octets of a log": lambda: in_lines([*CARRIED * 17_500, "end"]),
     "lives of a log": lambda: in_lines(
         [*CONTACT, *opened(CONNECTIONS), *lives_of(CONNECTIONS), *["handed 0 -"] * (2 * CONNECTIONS), "end"]

@@ -3,7 +3,8 @@ use Rattle.command_line.proofs.Common.{◌≡◌, ◌⊎◌, ◌<◌, inl, inr, 
 use Rattle.command_line.proofs.Common.{Ok, Err, IfSome, IfErr, MatchResult, OnOk, refl, sym, subst, ◌∙◌, false≢true}
 use Rattle.command_line.proofs.Common.{Keeps, IsReplayFault, IsInputFault, IsInput, ReplaysOn, ScriptFault}
 use Rattle.command_line.proofs.Common.{Detail, TopologyFields, on_ok, MixedFields, MixedWorldEvent, IsEitherFault}
-use Rattle.command_line.proofs.Common.{IsEitherInput, RanEither, RanEitherInPart, ReplaysEither, StopsEither}
+use Rattle.command_line.proofs.Common.{IsEitherInput, ReplaysEither, StopsEither}
+use Rattle.command_line.specs.Either.{RanEither, RanEitherInPart}
 use Rattle.command_line.proofs.Common.{IsMixedFault, MixedEndsOn, MixedReplaysOn}
 use Rattle.std.proofs.Common.{length}
 use Rattle.command_line.specs.Events.{Asked}
