@@ -36,17 +36,19 @@ export function short(octets, at) {
 }
 
 /**
- * The links for which a message on link 0 grants. One that isn't whole has those before its fault.
+ * The commands of a message on link 0, each with the numbers after its code. One that isn't whole has those before its fault.
  *
  * @param {number[]} message its octets
  */
-export function linksGranted(message) {
+export function commandsIn(message) {
     const found = [];
     const octets = message.slice(HEADER, HEADER + short(message, 2));
     for (let at = 0; at < octets.length; ) {
         const command = COMMANDS[octets[at]];
         if (!command || octets.length - at < command.length) break;
-        if (command.name === "ALL") found.push(octets[at + 1]);
+        const hasSockets = ["RTS", "STR", "CLS"].includes(command.name);
+        const sockets = hasSockets ? [wide(octets, at + 1), wide(octets, at + 5)] : [];
+        found.push({ name: command.name, link: octets[at + 1], sockets });
         at += command.length;
     }
     return found;

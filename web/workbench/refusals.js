@@ -22,6 +22,7 @@ const REFUSED = TABLE.refused;
  * @returns {string}
  */
 export function why(state, name, words) {
+    if (name === "NotOpen") return notOpen(state, words);
     if (IN_A_HOST[name]) return IN_A_HOST[name];
     switch (name) {
         case "NoSuch":
@@ -42,6 +43,29 @@ export function why(state, name, words) {
             return noRoom(state, words);
     }
     return REFUSED.other;
+}
+
+/**
+ * Why a connection isn't open.
+ *
+ * @param {State} state
+ * @param {string[]} words
+ */
+function notOpen(state, [kind, host, word]) {
+    const { network } = state;
+    const rules = TABLE["not open"];
+    const socket = kind === "type" ? state.services(host)?.typing : Number(word);
+    if (kind === "type" && typeof socket !== "number") return rules.type;
+    for (const { peer, ends } of state.program(host)?.pairs ?? []) {
+        const end = ends.find((it) => it.mine && it.socket === socket);
+        if (!end) continue;
+        const there = state.program(peer)?.pairs.find((it) => it.peer === host)?.ends;
+        const isRefused = there?.some((it) => !it.mine && it.socket === end.foreign && it.foreign === end.socket);
+        const isClosing = end.closing.own !== "no" || end.closing.peer;
+        const why = isClosing ? "closing" : isRefused ? "refused" : end.requests.own === null ? "queued" : "asked";
+        return filled(rules[why], { host: hostName(network, host), peer: hostName(network, peer), foreign: end.foreign });
+    }
+    return IN_A_HOST.NotOpen;
 }
 
 /**

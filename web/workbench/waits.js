@@ -3,9 +3,8 @@
  */
 
 import { TABLE } from "../../python/dorydate/sentences/table.mjs";
-import { linksGranted } from "./commands.js";
+import { saying, wayOf } from "./said.js";
 import { State } from "./state.js";
-import { octetValues } from "./texts.js";
 import { farEnd, hostName, impName, impOf, linesOf, siteName } from "./topology.js";
 import { filled, listed, possessive } from "./words.js";
 
@@ -51,14 +50,15 @@ const [SLOTS, PLACES] = [8, 32];
  * @param {string} thing
  * @param {{[fact: string]: boolean | undefined}} facts
  * @param {Holes} holes
+ * @param {string} [called] what it is called where its rule leaves that open
  * @returns {Wait}
  */
-function wait(thing, facts, holes) {
+function wait(thing, facts, holes, called = "") {
     const row = RULES.find(([name, needed]) => name === thing && needed.split(", ").every((it) => !it || facts[it]));
     if (!row) throw new RangeError(`no rule for ${thing}`);
     const [, , what, where, why, bad, cures] = row;
     return {
-        what: filled(WHAT[what], holes),
+        what: filled(WHAT[what || called], holes),
         where: filled(AT[where], holes),
         for: filled(FOR[why], holes),
         bad: bad === "bad",
@@ -267,27 +267,46 @@ function wantsRoom(state, imp, held) {
  * @returns {Wait[]}
  */
 function connectionWaits(state, talk, host) {
-    const { network } = state;
     const running = state.services(host)?.running ?? [];
-    const users = running.filter((it) => it.kind === "user" && !it.over).map((it) => it.asked);
-    const holes = (/** @type {string} */ peer) => ({ host: hostName(network, host), peer: hostName(network, peer) });
-    const facts = (/** @type {string} */ peer) => ({ "peer down": isDown(state, peer) });
+    const users = running.filter((it) => it.kind === "user" && !it.over);
     return [
-        ...(state.program(host)?.pairs ?? []).flatMap(({ peer, phase, ends, busy }) => [
-            ...(phase === "closed" || phase === "ready" ? [] : [wait("contact", facts(peer), holes(peer))]),
-            ...ends.flatMap((end) => {
-                const at = `socket ${end.socket} of ${hostName(network, host)}`;
-                const named = { ...holes(peer), end: at, socket: end.foreign };
-                if (end.waiting.bits) return [bitsThatWait(state, talk, { host, peer, busy, end }, named)];
-                const { own, peer: isClosed } = end.closing;
-                if (!end.mine || isClosed) return [];
-                if (own !== "no") return [wait("close", {}, named)];
-                const isAsked = end.requests.peer === null && !users.some((it) => it.own === end.socket);
-                return isAsked ? [wait("request", {}, named)] : [];
-            }),
-        ]),
-        ...users.map((it) => wait("initial", facts(it.host), { ...holes(it.host), socket: it.listen })),
+        ...(state.program(host)?.pairs ?? []).flatMap((pair) => {
+            const { peer, phase, ends, busy } = pair;
+            const says = saying(state, talk, host, peer);
+            return [
+                ...(phase === "closed" || phase === "ready" ? [] : [wait("said", ...says.contact(pair), "contact")]),
+                ...ends.flatMap((end) => {
+                    const at = { end: `socket ${end.socket} of ${says.names.host}` };
+                    const named = { ...says.names, ...at, socket: end.foreign };
+                    if (end.waiting.bits) return [bitsThatWait(state, talk, { host, peer, busy, end }, named)];
+                    const { own, peer: isClosed } = end.closing;
+                    if (!end.mine || isClosed) return [];
+                    if (own === "no" && !isAsked(end, users)) return [];
+                    const [facts, holes] = own === "no" ? says.request(end) : says.close(end);
+                    return [wait("said", facts, { ...holes, ...at }, own === "no" ? "request" : "close")];
+                }),
+            ];
+        }),
+        ...users.map((user) => {
+            const peer = user.asked.host;
+            const pair = state.program(host)?.pairs.find((it) => it.peer === peer);
+            const first = pair?.ends.find((it) => it.socket === user.asked.own && it.foreign === user.asked.listen);
+            const says = saying(state, talk, host, peer);
+            if (first && isAsked(first, [])) return wait("said", ...says.request(first, "initial"), "initial");
+            const facts = { "peer down": isDown(state, peer), "numbered": user.base !== null };
+            return wait("initial", facts, { ...says.names, socket: user.asked.listen });
+        }),
     ];
+}
+
+/**
+ * Whether an end waits for its partner's request, which is not what the initial connection of a user waits for.
+ *
+ * @param {HostEnd} end
+ * @param {{[field: string]: any}[]} users
+ */
+function isAsked({ requests, socket, closing: { own, peer } }, users) {
+    return requests.peer === null && own === "no" && !peer && !users.some((it) => it.asked.own === socket);
 }
 
 /**
@@ -331,11 +350,9 @@ function bitsThatWait(state, talk, { host, peer, busy, end }, holes) {
  */
 function isOnItsWay(state, talk, flow, link) {
     const [peer, host] = flow.split(" ");
-    const queued = state.program(peer)?.pairs.find((it) => it.peer === host)?.commands ?? [];
-    const message = talk.messages.get(flow);
-    const sent = message && !message.taken ? linksGranted(octetValues(message.octets)) : [];
-    return queued.some((it) => it.kind === "all" && it.link === link)
-        || sent.includes(link);
+    const { pair, commands } = wayOf(state, talk, peer, host);
+    return (pair?.commands ?? []).some((it) => it.kind === "all" && it.link === link)
+        || commands.some((it) => it.name === "ALL" && it.link === link);
 }
 
 /**

@@ -6,7 +6,7 @@ from collections.abc import Sequence
 from dataclasses import dataclass
 
 from dorydate.explain.faults import INSIDE
-from dorydate.sentences import IN_A_HOST, IN_A_SUBNET, REFUSED
+from dorydate.sentences import IN_A_HOST, IN_A_SUBNET, NOT_OPEN, REFUSED
 from dorydate.sentences.table import filled
 
 FlowWords = tuple[str, ...]  # a flow as it is printed: source, destination and link
@@ -61,7 +61,7 @@ class Past:
     def refusal(self, name: str, event: Sequence[str]) -> str:
         """The usual cause of a refusal of this event."""
         if name in IN_A_HOST:
-            return IN_A_HOST[name]
+            return NOT_OPEN["type"] if (name, event[0]) == ("NotOpen", "type") else IN_A_HOST[name]
         if not self.is_plain:
             return IN_A_SUBNET.get(name, REFUSED["other"])
         if event[0] in INSIDE:

@@ -6,16 +6,16 @@ network that has come to rest: it lets a copy of the model have some more rounds
 
 from __future__ import annotations
 
-from collections.abc import Iterator, Mapping
+from collections.abc import Iterator, Mapping, Sequence
 from dataclasses import dataclass
 
+from dorydate.explain.said import Saying, Way
 from dorydate.explain.view import host_in_words, imp_in_words
 from dorydate.model.alive import Held, everything
 from dorydate.model.boxes import Boxes
 from dorydate.model.commands import ALL
 from dorydate.model.connections import CLOSED, READY, End, Pair
-from dorydate.model.crossings import Carrier, Passed
-from dorydate.model.firsts import Firsts
+from dorydate.model.crossings import Carrier
 from dorydate.model.forks import forked
 from dorydate.model.imp import Imp
 from dorydate.model.imp_state import SLOTS, STORE
@@ -56,12 +56,13 @@ class Wait:
         return f"{self.what}{', ' if self.where else ''}{self.where}{link}{self.reason}{cure}"
 
 
-def by_rules(thing: str, facts: Mapping[str, bool], holes: Holes) -> Wait:
-    """What waits: the first of the thing's rules whose facts all hold says it."""
+def by_rules(thing: str, facts: Mapping[str, bool], holes: Holes, called: str = "") -> Wait:
+    """What waits: the first of the thing's rules whose facts all hold says it, and its name where that is left open."""
     rules = (further for name, needed, *further in RULES if name == thing and all(facts[it] for it in needed.split(", ") if it))
     what, where, reason, bad, cures = next(rules)
     lines = tuple(it for it in filled(cures, holes).split(";") if it)
-    return Wait(filled(WHAT[what], holes), filled(AT[where], holes), filled(FOR[reason], holes), bad == "bad", lines)
+    said, place, cause = (filled(it, holes) for it in (WHAT[what or called], AT[where], FOR[reason]))
+    return Wait(said, place, cause, bad == "bad", lines)
 
 
 def at_rest(place: Place, carrier: Carrier) -> list[str]:
@@ -209,50 +210,64 @@ def wants_slot(imp: Imp, held: Held, packet: Packet | None) -> bool:
 
 def of_program(world: World, host: HostName, pairs: Mapping[HostName, Pair]) -> Iterator[Wait]:
     """What a host's program waits for."""
+    users = [it for it in world.programs[host] if isinstance(it, User) and it.outcome is None]
     for peer, pair in pairs.items():
-        hosts: Holes = {"host": host_in_words(host), "peer": host_in_words(peer)}
+        saying = Saying(world, host, peer)
         if pair.phase not in (CLOSED, READY):
-            yield by_rules("contact", {"peer down": world.hosts.get(peer) is None}, hosts)
+            yield by_rules("said", *saying.contact(pair), "contact")
         for end in pair.ends:
-            yield from of_end(world, (host, peer), pair, end)
-    for it in world.programs[host]:
-        if isinstance(it, User) and it.outcome is None:
-            hosts = {"host": host_in_words(host), "peer": host_in_words(it.peer), "socket": it.server}
-            yield by_rules("initial", {"peer down": world.hosts.get(it.peer) is None}, hosts)
+            if end.waiting:
+                yield of_bits(world, (host, peer), pair, end)
+            elif end.mine and not end.close_taken:
+                yield from of_end(saying, end, [it.own for it in users])
+    for it in users:
+        yield of_user(world, host, it)
 
 
-def of_end(world: World, hosts: tuple[HostName, HostName], pair: Pair, end: End) -> Iterator[Wait]:
-    """What an end of a connection waits for."""
+def of_end(saying: Saying, end: End, of_users: Sequence[int]) -> Iterator[Wait]:
+    """What an end of a connection waits for that has no bits to send."""
+    at: Holes = {"end": f"socket {end.own} of {saying.holes['host']}"}
+    thing = "close" if end.close_asked or end.close_queued else "request"
+    if thing == "request" and (end.partner_stamp is not None or end.own in of_users):  # an initial connection waits
+        return
+    facts, holes = saying.close(end) if thing == "close" else saying.request(end)
+    yield by_rules("said", facts, {**holes, **at}, thing)
+
+
+def of_user(world: World, host: HostName, user: User) -> Wait:
+    """What an initial connection waits for: its first request, or what comes after that."""
+    program = world.hosts[host]
+    pair = program.pairs.get(user.peer) if program is not None else None
+    first = pair.end(user.own, user.server) if pair is not None else None
+    if first is not None and first.partner_stamp is None and not first.is_closing():
+        return by_rules("said", *Saying(world, host, user.peer).request(first, "initial"), "initial")
+    hosts: Holes = {"host": host_in_words(host), "peer": host_in_words(user.peer), "socket": user.server}
+    facts = {"peer down": world.hosts.get(user.peer) is None, "numbered": user.base is not None}
+    return by_rules("initial", facts, hosts)
+
+
+def of_bits(world: World, hosts: tuple[HostName, HostName], pair: Pair, end: End) -> Wait:
+    """What bits wait for that were handed over and have not gone out."""
     host, peer = hosts
     at = f"socket {end.own} of {host_in_words(host)}"
     holes: Holes = {"host": host_in_words(host), "peer": host_in_words(peer), "end": at, "socket": end.foreign}
-    if end.waiting:
-        facts = {
-            "enough": end.messages > 0 and end.bits >= end.size,
-            "busy": end.link in pair.busy,
-            "grant on its way": is_on_its_way(world, peer, host, end.link),
-            "service": is_of_service(world, peer, end.foreign),
-        }
-        whose = "service" if is_of_service(world, host, end.own) else "program"
-        numbers = {"bits": len(end.waiting), "messages": end.messages, "allowed": end.bits, "link": end.link}
-        words = {"whose": whose, "own": spell_host(host), "other": spell_host(peer), "foreign": end.foreign}
-        yield by_rules("bits", facts, {**holes, **numbers, **words})
-    elif end.mine and end.partner_stamp is None and not end.is_closing():
-        users = [it for it in world.programs[host] if isinstance(it, User)]
-        if not any(it.own == end.own for it in users):  # of those the initial connection waits
-            yield by_rules("request", {}, holes)
-    elif end.mine and (end.close_asked or end.close_queued) and not end.close_taken:
-        yield by_rules("close", {}, holes)
+    facts = {
+        "enough": end.messages > 0 and end.bits >= end.size,
+        "busy": end.link in pair.busy,
+        "grant on its way": is_on_its_way(world, peer, host, end.link),
+        "service": is_of_service(world, peer, end.foreign),
+    }
+    whose = "service" if is_of_service(world, host, end.own) else "program"
+    numbers = {"bits": len(end.waiting), "messages": end.messages, "allowed": end.bits, "link": end.link}
+    words = {"whose": whose, "own": spell_host(host), "other": spell_host(peer), "foreign": end.foreign}
+    return by_rules("bits", facts, {**holes, **numbers, **words})
 
 
 def is_on_its_way(world: World, peer: HostName, host: HostName, link: int | None) -> bool:
     """Whether a grant for a link has not come from a peer yet: it waits there, or is in the message that went out last."""
-    program = world.hosts.get(peer)
-    queued = program.pairs[host].queue if program is not None and host in program.pairs else []
-    passed = (it for it in reversed(world.carrier.log) if isinstance(it, Passed))
-    last = next((it for it in passed if it.flow == (peer, host, 0)), None)
-    sent = Firsts().commands(last.text) if last is not None and last.kind == "out" else ()
-    return any(it[0] == ALL and it[1] == link for it in (*queued, *sent))
+    way = Way(world, peer, host)
+    queued = way.pair.queue if way.pair is not None else []
+    return any(it[0] == ALL and it[1] == link for it in (*queued, *way.commands))
 
 
 def is_of_service(world: World, host: HostName, socket: int) -> bool:

@@ -12,6 +12,7 @@ LINES: dict[str, list[str]] = TABLE["lines"]  # of each kind of line its words a
 ERRORS = sentences("errors")  # what the codes of ERR mean
 REASONS = sentences("reasons")  # why an initial connection fails
 IN_A_HOST = sentences("programs")  # what a refusal of a host's program means
+NOT_OPEN = sentences("not open")  # the same of a connection that isn't open, where more is known
 IN_A_SUBNET = sentences("network")  # what a refusal means in a subnet, where more than hosts is asked for
 REFUSED = sentences("refused")
 SILENT = sentences("silent")

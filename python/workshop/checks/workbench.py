@@ -45,6 +45,7 @@ from dorydate.model.trace_world import state_of
 from dorydate.model.world import World
 from dorydate.sentences import DEEDS, silence
 from workshop.parts import ROOT, any_program, read_octets, text_of
+from workshop.tools import lacking, left_out
 
 BOOKS = 40  # random ones of each sort
 MOST_ROUNDS = 400  # of calm in an example that the model follows
@@ -55,7 +56,11 @@ PAIR = 'carrier = "plain"\n[[imp]]\nid = 1\nhosts = 2\n%\ncontact 0/1 1/1\ncalm 
 LINKED = f"{PAIR}listen 1/1 33 8\nopenrecv 0/1 1/1 16 33\ncalm 2\n"
 FULL = "".join(f"out 0/2 0/3 {link} 8063 {'00' * 1008}\n" for link in range(4))
 TYPED = f"type 0/1 {'A' * 100}\n" * 6
+SUBNET = f"{IMPS}[[line]]\na = 1\nb = 2\n[[line]]\na = 2\nb = 3\n%\ncalm 3\n"
 STRANGER = f"{IMPS}foreign = [0]\n[[line]]\na = 1\nb = 2\n[[line]]\na = 2\nb = 3\n%\ncalm 3\n"
+ROUNDS = "calm 1\n" * 9
+EACH = "offer 0/1\ntake 1/1\noffer 1/1\ntake 0/1\n"
+READY = f"{STRANGER}out 0/3 0/1 0 48 00080001000C\ncalm 6\ntake 0/3\ntake 0/3\ncalm 6\n"
 WAITING = [
     f"{CHAIN}{FULL}out 0/1 0/3 5 8 41\ndrop 0 + 0\n",
     "raw = true\n[[imp]]\nid = 1\nhosts = 2\n%\nout 0/1 1/1 5 8 41\nhostdown 1/1\n",
@@ -66,6 +71,16 @@ WAITING = [
     f"{PAIR}server 1/1 7 100\nuser 0/1 1/1 7 16\ncalm 30\n{TYPED}offer 0/1\ntake 1/1\n",
     f"{STRANGER}contact 0/1 0/3\ncalm 3\ntake 0/3\ncalm 3\nhostdown 0/3\ncalm 3\nhostup 0/3\ncalm 3\n",
     f"{STRANGER}out 0/3 0/1 0 48 00080001000C\ncalm 4\nuser 0/1 0/3 7 16\ncalm 3\nhostdown 0/3\ncalm 3\n",
+    f"{READY}user 0/1 0/3 7 16\ncalm 9\ntake 0/3\ncalm 9\n",
+    f"{READY}openrecv 0/1 0/3 16 33\ncalm 9\ntake 0/3\ncalm 9\nclose 0/1 16\ncalm 9\ntake 0/3\ncalm 9\n",
+    f"{SUBNET}contact 0/1 0/3\ncalm 9\nlisten 0/3 33 8\nopenrecv 0/1 0/3 16 33\n{ROUNDS}",
+    f"{PAIR}openrecv 0/1 1/1 16 33\noffer 0/1\ntake 1/1\nhostdown 1/1\nhostup 1/1\n",
+    f"{PAIR}openrecv 0/1 1/1 16 33\noffer 0/1\ntake 1/1\ntake 0/1\noffer 1/1\ncontact 1/1 0/1\ntake 1/1\ntake 0/1\n",
+    f"{PAIR}openrecv 0/1 1/1 16 33\noffer 0/1\ntake 1/1\ntake 0/1\ncontact 1/1 0/1\n",
+    f"{LINKED}grant 0/1 16 9 99\ncalm 2\nsend 1/1 33 8 41\noffer 1/1\nclose 0/1 16\noffer 0/1\ntake 1/1\ntake 0/1\n",
+    f"{PAIR}contact 0/1 1/1\noffer 0/1\ntake 1/1\ntake 0/1\nhostdown 1/1\nhostup 1/1\n",
+    f"{PAIR}server 1/1 7 100\nuser 0/1 1/1 7 16\n{6 * EACH}",
+    f"{PAIR}server 1/1 7 100\nuser 0/1 1/1 7 16\n{2 * EACH}hostdown 1/1\n",
 ]
 
 
@@ -259,7 +274,7 @@ def patterns_by_chance(count: int) -> list[dict[str, object]]:
 def check_types() -> None:
     command = shutil.which("tsc")
     if not command:
-        print("check workbench: there is no tsc here, so no types were checked")
+        lacking("workbench", "types", "tsc")
         return
     ran = subprocess.run([command, "-p", f"{ROOT}/web"], capture_output=True, text=True)
     if ran.returncode:
@@ -305,7 +320,7 @@ def check_browsers(command: str) -> None:
     known = [("chromium", "chromium-browser", "google-chrome"), ("firefox", "firefox-esr"), ("WebKitWebDriver",) if shutil.which("Xvfb") else ()]
     browsers = [found[0] for names in known if (found := [path for name in names if (path := shutil.which(name))])]
     if not browsers:
-        print("check workbench: there is no browser here, so the page was tried in none")
+        left_out("workbench", "the page in a browser", "neither Chromium, Firefox nor WebKit is installed")
         return
     made = subprocess.run([f"{ROOT}/build", "--wasm"], stdout=subprocess.PIPE, text=True)
     if made.returncode:
@@ -321,7 +336,7 @@ def main() -> int:
         return 1
     command, program = node(), any_program()
     if not command:
-        print("check workbench: there is no Node here (Debian's package nodejs), so nothing was checked")
+        lacking("workbench", "all of it", "Node")
         return 0
     if not program:
         return 1

@@ -103,7 +103,7 @@ test("an initial connection is waited for until it is complete or has failed", a
     const contact = ["calm 2", "contact 0/1 0/2", "calm 20", "user 0/1 0/2 7 16"];
     const asked = waitsAtEnd(await historyOfText(programs(contact)));
     assert.deepEqual(asked.map((it) => [it.what, it.for, it.bad]), [
-        ["the initial connection of host 0/1 with host 0/2", "its server on socket 7 of host 0/2", false],
+        ["the initial connection of host 0/1 with host 0/2", "host 0/1 to offer: its RTS hasn't gone out yet", false],
     ]);
     assert.deepEqual(waitsAtEnd(await historyOfText(programs([...contact, "calm 20"]))), []);
 });
@@ -182,6 +182,23 @@ const REFUSED = /** @type {[string[], string][]} */ ([
 test("each refusal has its own cause", async () => {
     for (const [script, words] of REFUSED) {
         const history = await historyOfText(twoImps(["calm 2", ...script]));
+        const sentence = sentenceOf(history, history.length - 1);
+        assert(sentence.startsWith("Refused: ") && sentence.includes(words), `${script}: ${sentence}`);
+    }
+});
+
+/** Scripts of hosts with programs whose last event is refused as not open, and words of the cause. */
+const NOT_OPEN = /** @type {[string[], string][]} */ ([
+    [["type 0/1 HELLO"], "No user on this host has come to a terminal"],
+    [["openrecv 0/1 0/2 16 33", "grant 0/1 16 1 8"], "the request of host 0/1 for it hasn't gone out"],
+    [["listen 0/2 33 8", "openrecv 0/1 0/2 16 33", "calm 2", "grant 0/1 16 1 8"], "the request of host 0/2 for it hasn't come"],
+    [["openrecv 0/1 0/2 16 33", "calm 2", "grant 0/1 16 1 8"], "host 0/2 refuses it, as nobody listened on its socket 33"],
+    [["openrecv 0/1 0/2 16 33", "close 0/1 16", "grant 0/1 16 1 8"], "a CLS of host 0/1 is queued or out"],
+]);
+
+test("a connection that isn't open is said to be what it is", async () => {
+    for (const [script, words] of NOT_OPEN) {
+        const history = await historyOfText(programs(["calm 2", "contact 0/1 0/2", "calm 20", ...script]));
         const sentence = sentenceOf(history, history.length - 1);
         assert(sentence.startsWith("Refused: ") && sentence.includes(words), `${script}: ${sentence}`);
     }
