@@ -18,9 +18,10 @@ Each is a module of workshop.measure. The first line of its text says what it me
 
 
 def of_the_gate() -> list[list[str]]:
-    """The checks that .ci/run makes, each as its words: all but the planted bugs that it tries over what `rt ci` has just built."""
+    """The checks that .ci/run makes, each as its words: all but the tools that it installs, and the planted bugs that it
+    tries over what `rt ci` has just built."""
     found = re.findall(r"^(?:part )?\./check (.*)$", text_of(f"{ROOT}/.ci/run"), re.MULTILINE)
-    return [it.split() for it in found if not it.startswith("edits")]
+    return [it.split() for it in found if not it.startswith(("edits", "tools"))]
 
 
 def check_all() -> int:

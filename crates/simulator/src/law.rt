@@ -1,7 +1,7 @@
 //! What traces and the whole program promise, as laws over their definitions. The functions here do
 //! nothing: their clauses are the laws.
 
-ghost use Rattle.std.specs.Prelude.{◌≡◌, ◌++◌, ◌+◌, ℕ, Bool, true, false, List, [], ◌∷◌, length};
+ghost use Rattle.std.specs.Prelude.{◌≡◌, ℕ, Bool, true, false, List, [], ◌∷◌, length};
 ghost use Rattle.std.specs.Prelude.{Ok, Err, Some, None, codes};
 ghost use Rattle.simulator.specs.Laws.{OneTrace};
 ghost use Rattle.simulator.specs.Program.{Closes, EndsTask, Sides};

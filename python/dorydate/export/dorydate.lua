@@ -240,17 +240,19 @@ end
 
 local ESCAPED = { ["\t"] = "\\t", ["\n"] = "\\n", ["\r"] = "\\r", ["\\"] = "\\\\" }
 
--- Bits as text where they are text, otherwise in hexadecimal digits; of many only the first.
+local SHOWN = 60 -- characters, of which a quotation mark is one
+
+-- Bits as text between quotation marks where they are text, otherwise in hexadecimal digits; of many only the first.
 local function shown(octets, bits)
   local digits = text_octets(octets, bits)
-  local words = bits % 8 == 0 and digits:gsub("..", function(octet)
+  local text = bits % 8 == 0 and digits:gsub("..", function(octet)
     return string.char(tonumber(octet, 16))
   end) or nil
-  if not words or words:find("[^\t\n\r -~]") then
-    words = digits
+  if not text or text:find("[^\t\n\r -~]") then
+    return #digits > SHOWN and digits:sub(1, SHOWN) .. ".." or digits
   end
-  words = words:gsub("[\t\n\r\\]", ESCAPED)
-  return #words > 60 and words:sub(1, 60) .. ".." or words
+  text = text:gsub("[\t\n\r\\]", ESCAPED)
+  return #text + 2 > SHOWN and "“" .. text:sub(1, SHOWN - 1) .. ".." or "“" .. text .. "”"
 end
 
 -- Adds what a text of a host's program says, and says it in short.

@@ -12,7 +12,6 @@ import os
 import re
 import shutil
 import subprocess
-import sys
 import tarfile
 import tempfile
 from collections.abc import Mapping
@@ -21,6 +20,7 @@ from dataclasses import dataclass
 from workshop.builds.manual import manual
 from workshop.documents.versions import for_debian, for_python
 from workshop.parts import ROOT, read_octets
+from workshop.tools import python_with
 
 LICENCES = ("LICENSE-APACHE", "LICENSE-MIT")
 BY_NODE = ("arpasim.mjs", "base85.js", "many.js", "once.js", "program.js", "released.js", "runner.js")  # of web/run
@@ -85,9 +85,8 @@ def write(folder: str, files: Files) -> None:
 
 def python_with_setuptools() -> str:
     """A Python that has what builds wheels."""
-    for command in (sys.executable, "/usr/bin/python3"):
-        if subprocess.run([command, "-c", "import setuptools, wheel"], capture_output=True).returncode == 0:
-            return command
+    if command := python_with("setuptools", "wheel"):
+        return command
     raise Refused("there is no Python with setuptools and wheel (apt-get install python3-setuptools python3-wheel)")
 
 

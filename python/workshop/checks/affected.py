@@ -2,7 +2,8 @@
 
 The change is all that differs from the revision, by default from origin/main, or from main where there is none: commits, what isn't committed,
 and files that git doesn't know yet. Crates that a change of contracts or definitions has proved again are those above it, by crates.txt; a change
-of nothing but bodies and proofs leaves them. Which checks look at a file is in the table below.
+of nothing but bodies and proofs leaves them. Which checks look at a file is in the table below. What proofs cost comes
+first, in minutes of the processor, by the table of docs/measured/gate.md.
 """
 
 from __future__ import annotations
@@ -13,7 +14,8 @@ import sys
 from collections.abc import Iterator
 
 from workshop.documents.crates_page import below, needs
-from workshop.parts import ROOT
+from workshop.measure import gate
+from workshop.parts import ROOT, text_of
 
 # paths, and the checks that look at them
 CHECKS = (
@@ -78,6 +80,15 @@ def checks_for(files: list[str]) -> list[str]:
     return [*dict.fromkeys(check for pattern, checks in CHECKS for check in checks if any(re.fullmatch(pattern, it) for it in files))]
 
 
+def cost(crates: list[str]) -> str:
+    """What proving crates costs, with their tests, by the gate's table."""
+    table, _ = gate.stored(text_of(gate.PAGE))
+    seconds = {it: sum(table[it].seconds[:2]) if it in table else 0 for it in crates}
+    unknown = [it for it, took in seconds.items() if not took]
+    without = f", without {', '.join(unknown)}, of which nothing is known" if unknown else ""
+    return f"about {sum(seconds.values()) / 60:.0f} minutes{without}"
+
+
 def lines_of(revision: str) -> Iterator[str]:
     """What a change affects, in lines."""
     files = changed(revision)
@@ -88,6 +99,10 @@ def lines_of(revision: str) -> Iterator[str]:
     beyond = [it for it in sources if any(states_more(path, revision) for path in sources[it])]
     above = [it for it in direct if it not in sources and below(it, direct) & {*beyond}]
     yield f"{len(files)} files differ from {revision}"
+    if sources:
+        yield f"what changed costs {cost([*sources])}"
+    if above:
+        yield f"what is proved again above it costs {cost(above)}"
     for crate in (it for it in direct if it in sources):
         yield f"  tools/check-one {crate}" + ("" if crate in beyond else "      bodies and proofs only: nothing above is proved again")
         yield f"  ./check edits {crate}" if crate in beyond else f"  rt try --test      in crates/{crate}"

@@ -35,6 +35,7 @@ from itertools import count
 
 from dorydate.program import MOST_OCTETS
 from workshop.parts import ROOT, any_program
+from workshop.tools import lacking, left_out
 
 STOPPED = (3, b"arpasim: stopped\n")
 CANNOT_READ = (1, b"arpasim: cannot read\n")
@@ -169,11 +170,12 @@ def main() -> int:
         print("check failures: there is no program of these sources")
         return 1
     if program.startswith(f"{ROOT}/released/") or program.endswith(".mjs"):
-        print("check failures: NOT TRIED: no call of the released program can be made to fail, since it loads no library (./build makes one that does)")
+        why = "no call of the released program can be made to fail, since it loads no library (./build makes one that does)"
+        left_out("failures", "all of it", why)
         return 1 if os.environ.get("CI") else 0
     compiler = shutil.which("cc") or shutil.which("clang")
     if not compiler:
-        print("check failures: NOT TRIED, for want of a C compiler")
+        lacking("failures", "all of it", "a C compiler")
         return 1 if os.environ.get("CI") else 0
     wrong, total = 0, Counter[str]()
     paths = [f"{ROOT}/{folder}/{name}" for folder in ("examples", "logs") for name in sorted(os.listdir(f"{ROOT}/{folder}")) if "." not in name]

@@ -17,6 +17,7 @@ from workshop.checks.installed_wheel import check_commands, check_notebook, chec
 from workshop.checks.installed_wheel import native_in
 from workshop.checks.wrong import Wrong, call
 from workshop.parts import ROOT, read_octets, text_of
+from workshop.tools import lacking, left_out
 from workshop.wasm import pack
 
 
@@ -63,7 +64,7 @@ def install_npm(file: str, room: str) -> str:
 def check_npm(file: str, room: str) -> None:
     """Its other command."""
     if not shutil.which("npm"):
-        print("check release: the package for npm was unpacked, since there is no npm")
+        lacking("release", "npm with the package for it, which was unpacked", "npm")
     elif "first-message" not in call("npx", "--offline", "dorydate", "examples", cwd=room):
         raise Wrong("npx dorydate examples lists none")
 
@@ -77,7 +78,9 @@ def install_debian(file: str, room: str) -> str:
 def check_debian(file: str, room: str) -> None:
     """Its manual page."""
     page = f"{room}/usr/share/man/man1/arpasim.1.gz"
-    if shutil.which("man") and "ARPASIM(1)" not in call("man", "-l", page, env={**os.environ, "MANPAGER": "cat"}):
+    if not shutil.which("man"):
+        lacking("release", "the manual page", "man")
+    elif "ARPASIM(1)" not in call("man", "-l", page, env={**os.environ, "MANPAGER": "cat"}):
         raise Wrong("the manual page is not one")
 
 
@@ -150,7 +153,8 @@ def complete(folder: str, room: str) -> list[str]:
             try:
                 makers[form.ending]()
             except (packages.Refused, OSError) as why:
-                left.append(f"{form.what} ({why})")
+                left_out("release", form.what, str(why))
+                left.append(form.what)
     return left
 
 
@@ -168,7 +172,8 @@ def check_forms(folder: str) -> list[str]:
             if file is None:
                 continue
             if not shutil.which(form.command):
-                left.append(f"{form.what} (there is no {form.command})")
+                left_out("release", form.what, f"there is no {form.command}")
+                left.append(form.what)
                 continue
             with tempfile.TemporaryDirectory() as room:
                 check_examples(form.what, form.install(file, room))

@@ -17,6 +17,7 @@ from workshop.builds.packages import Refused, python_with_setuptools
 from workshop.checks.wrong import Wrong, call
 from workshop.documents.notebook import NOTEBOOK
 from workshop.parts import ROOT, read_octets, text_of
+from workshop.tools import lacking, python_with
 from workshop.wasm import pack
 
 CELLS = f"{ROOT}/python/workshop/checks/cells.py"
@@ -79,7 +80,7 @@ def program_of_a_user() -> str:
 def check_types(room: str) -> None:
     """The package as installed, and a user's program, are right to mypy; and one that calls it wrongly isn't."""
     if not shutil.which("mypy"):
-        print("check release: the wheel: mypy is not installed, so no types were checked")
+        lacking("release", "types of the wheel", "mypy")
         return
     mypy = ("mypy", "--strict", "--python-executable", f"{room}/venv/bin/python", "--cache-dir", f"{room}/mypy")
     call(*mypy, "-p", "dorydate", cwd=room)
@@ -94,20 +95,13 @@ def check_types(room: str) -> None:
     print(f"  imports it, and refuses `{WRONG_LINE}`", flush=True)
 
 
-def with_jupyter() -> str | None:
-    """A Python that has Jupyter's kernel and what runs notebooks."""
-    for python in filter(os.path.exists, (sys.executable, "/usr/bin/python3")):
-        ran = subprocess.run([python, "-c", "import nbclient, ipykernel"], capture_output=True, check=False)
-        if ran.returncode == 0:
-            return python
-    return None
-
-
 def check_notebook(file: str, room: str) -> None:
     """Each cell of the notebook shows what is stored: run by Python, and by Jupyter where that is installed."""
     count = call(f"{room}/venv/bin/python", "-I", CELLS, NOTEBOOK, cwd=room, env=surroundings(room)).strip()
-    python, by = with_jupyter(), "Python; Jupyter's nbclient and ipykernel are not installed"
-    if python:
+    python, by = python_with("nbclient", "ipykernel"), "Python"
+    if not python:
+        lacking("release", "the notebook by Jupyter", "Jupyter")
+    else:
         own = f"{room}/jupyter"
         call(python, "-m", "venv", "--system-site-packages", own)
         call(f"{own}/bin/pip", "install", "--quiet", "--no-index", "--disable-pip-version-check", file)

@@ -30,6 +30,7 @@ from typing import NamedTuple
 from dorydate.model.topology import Topology, spelled_input
 from workshop.checks.limits import CONTACT, JOINED, PAIR, in_lines, lives_of, opened, ring
 from workshop.parts import ROOT, any_program
+from workshop.tools import left_out
 
 KEPT = os.path.join(os.path.dirname(__file__), "memory.json")
 SUBNET = Topology("subnet", False, [(1, 1), (2, 1)], [(1, 2)])
@@ -127,7 +128,7 @@ def main() -> int:
         print("check memory: there is no program of these sources")
         return 1
     if not compiler or program.startswith(f"{ROOT}/released/") or program.endswith((".mjs", "-unproved")):
-        print("check memory: NOT TRIED: it wants a C compiler, and a proved program that loads libraries (./build)")
+        left_out("memory", "all of it", "it wants a C compiler, and a proved program that loads libraries (./build)")
         return 1 if os.environ.get("CI") else 0
     found = counted(program, compiler)
     if "--write" in sys.argv:

@@ -10,25 +10,28 @@ the variable DORYDATE_PROGRAM names (tools/optimised makes one).
 
 from __future__ import annotations
 
-import importlib.util
 import os
+import re
 import shutil
 import subprocess
 import sys
 import tempfile
+from collections import Counter
 
 from workshop.parts import ROOT, any_program
+from workshop.tools import lacking, left_out, python_with
 
 PACKAGE = f"{ROOT}/python"
 SOURCES = ("dorydate", "workshop", "tests", "__main__.py", "../examples/ncp.py")
 SEARCHES = {"taken-and-incomplete": 8, "half-open": 9, "resets-in-step": 6, "lost-at-a-close": 13, "noted-before-it-comes": 8, "refused-before-it-comes": 9}  # events at most, a last calm included
 SCHEDULES = 1_000  # whose logs are audited
+SKIPPED = re.compile(r"\.\.\. skipped ['\"](.*)['\"]$")
 
 
 def mypy() -> bool:
     """Whether the types are right; True where no tool is there to say."""
     if not shutil.which("mypy"):
-        print("check python: mypy is not installed, so the types were not checked (apt-get install mypy)")
+        lacking("python", "types", "mypy")
         return True
     with tempfile.TemporaryDirectory() as kept:
         ran = subprocess.run(["mypy", "--strict", "--cache-dir", kept, *SOURCES], cwd=PACKAGE, capture_output=True, text=True)
@@ -39,7 +42,7 @@ def mypy() -> bool:
 def pyflakes() -> bool:
     """Whether nothing is imported or set for nothing; True where no tool is there to say."""
     if not shutil.which("pyflakes3"):
-        print("check python: pyflakes3 is not installed, so it did not run (apt-get install pyflakes3)")
+        lacking("python", "what is imported or set for nothing", "pyflakes")
         return True
     ran = subprocess.run(["pyflakes3", *SOURCES], cwd=PACKAGE, capture_output=True, text=True)
     print(f"check python: pyflakes: {ran.stdout.strip() or 'nothing is found'}")
@@ -52,8 +55,12 @@ def python(*words: str, env: dict[str, str]) -> subprocess.CompletedProcess[str]
 
 def tests(env: dict[str, str]) -> bool:
     """Whether the unit tests and the tutorial pass."""
-    ran = python("-m", "unittest", "discover", "-q", "-s", "python", "-t", "python", env=env)
-    print(f"check python: {ran.stderr.strip().splitlines()[-3] if ran.returncode == 0 else ran.stderr.strip()}")
+    ran = python("-m", "unittest", "discover", "-v", "-s", "python", "-t", "python", env=env)
+    lines = ran.stderr.strip().splitlines()
+    for why, many in Counter(it[1] for line in lines if (it := SKIPPED.search(line))).items():
+        left_out("python", f"{many} tests or classes of them", why)
+    wrong = "\n".join(it for it in lines if not it.endswith("... ok"))
+    print("check python:", wrong if ran.returncode else lines[-3])
     told = python("-m", "doctest", "docs/python.md", env=env)
     print("check python: the tutorial prints what it says" if told.returncode == 0 else told.stdout)
     return ran.returncode == told.returncode == 0
@@ -61,10 +68,12 @@ def tests(env: dict[str, str]) -> bool:
 
 def notebook(env: dict[str, str]) -> bool:
     """Whether the notebook runs; True where no tool is there to say."""
-    if not all(importlib.util.find_spec(it) for it in ("nbclient", "ipykernel")):
-        print("check python: Jupyter's nbclient and ipykernel are not installed, so docs/experiment.ipynb did not run")
+    command = python_with("nbclient", "ipykernel")
+    if command is None:
+        lacking("python", "docs/experiment.ipynb", "Jupyter")
         return True
-    ran = python("-m", "jupyter", "execute", "docs/experiment.ipynb", env=env)
+    words = [command, "-m", "jupyter", "execute", "docs/experiment.ipynb"]
+    ran = subprocess.run(words, cwd=ROOT, capture_output=True, text=True, env=env)
     print("check python: the notebook runs" if ran.returncode == 0 else ran.stderr)
     return ran.returncode == 0
 
@@ -91,5 +100,5 @@ def main() -> int:
         return 1
     env = {**os.environ, "DORYDATE_PROGRAM": program, "PYTHONPATH": PACKAGE}
     if program.endswith("-unproved"):
-        print("check python: the program without proofs is too slow for explorations, so none is run: ./build makes the fast one")
+        left_out("python", "explorations", "the program without proofs is too slow for them (./build makes the fast one)")
     return 0 if all([mypy(), pyflakes(), tests(env), notebook(env), program.endswith("-unproved") or explorations(env)]) else 1

@@ -32,6 +32,7 @@ from dorydate.model.runs import End
 from dorydate.model.inputs import ends
 from workshop.builds.drivers import run_cases, write_case
 from workshop.parts import any_program
+from workshop.tools import left_out
 
 Row = TypeVar("Row", bytes, Bits)
 CHANGES = b"\x00\x7f\xff"
@@ -320,6 +321,6 @@ def main() -> int:
     if shutil.which("rt"):
         wrong += check_octets()
     else:
-        print("check readers: the toolchain's rt is not here, so the readers themselves were not called")
+        left_out("readers", "calls of the readers themselves", "the toolchain's rt is not here")
     print(f"check readers: {wrong} wrong" if wrong else "check readers: each is read as it should be")
     return 1 if wrong else 0

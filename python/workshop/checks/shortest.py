@@ -31,6 +31,7 @@ from dorydate.network import Network
 from dorydate.program import Program
 from dorydate.script import Calm, Contact, Event, Listen, OpenReceive
 from workshop.parts import ROOT, any_program
+from workshop.tools import lacking
 
 PAGE = f"{ROOT}/docs/measured/shortest.md"
 CALMS = tuple(map(Calm, (1, 2, 3, 5)))
@@ -218,8 +219,11 @@ def main() -> int:
     try:
         finder = fast.finder()
     except CannotRun as why:
-        print(f"check shortest: {why}")
-        return 0 if shutil.which("rustc") is None else 1
+        if shutil.which("rustc"):
+            print(f"check shortest: {why}")
+            return 1
+        lacking("shortest", "all of it", "rustc")
+        return 0
     if "--planted" in sys.argv:
         missed = planted(program)
         print(f"check shortest: {len(PLANTED)} planted faults, {len(missed)} not found")

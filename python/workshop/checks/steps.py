@@ -24,6 +24,7 @@ from itertools import count
 from dorydate.model.inputs import network_in
 from workshop.builds.drivers import crates_below
 from workshop.parts import ROOT
+from workshop.tools import lacking
 from workshop.builds.unproved import build, keep, kept_for_sources
 
 INPUTS = (
@@ -101,7 +102,7 @@ def check(program: str, before: str, room: str, name: str, threads: ThreadPoolEx
 def main() -> int:
     compiler = shutil.which("cc") or shutil.which("clang")
     if not compiler:
-        print("check steps: NOT TRIED, for want of a C compiler")
+        lacking("steps", "all of it", "a C compiler")
         return 1 if os.environ.get("CI") else 0
     if not os.path.exists(kept_at()):
         keep(kept_at, lambda room: build(with_sources(f"{room}/sources"), EXAMPLE, WANTED, room))

@@ -45,6 +45,7 @@ from dorydate.model.trace_world import state_of
 from dorydate.model.world import World
 from dorydate.sentences import DEEDS, silence
 from workshop.parts import ROOT, any_program, read_octets, text_of
+from workshop.tools import lacking, left_out
 
 BOOKS = 40  # random ones of each sort
 MOST_ROUNDS = 400  # of calm in an example that the model follows
@@ -273,7 +274,7 @@ def patterns_by_chance(count: int) -> list[dict[str, object]]:
 def check_types() -> None:
     command = shutil.which("tsc")
     if not command:
-        print("check workbench: there is no tsc here, so no types were checked")
+        lacking("workbench", "types", "tsc")
         return
     ran = subprocess.run([command, "-p", f"{ROOT}/web"], capture_output=True, text=True)
     if ran.returncode:
@@ -319,7 +320,7 @@ def check_browsers(command: str) -> None:
     known = [("chromium", "chromium-browser", "google-chrome"), ("firefox", "firefox-esr"), ("WebKitWebDriver",) if shutil.which("Xvfb") else ()]
     browsers = [found[0] for names in known if (found := [path for name in names if (path := shutil.which(name))])]
     if not browsers:
-        print("check workbench: there is no browser here, so the page was tried in none")
+        left_out("workbench", "the page in a browser", "neither Chromium, Firefox nor WebKit is installed")
         return
     made = subprocess.run([f"{ROOT}/build", "--wasm"], stdout=subprocess.PIPE, text=True)
     if made.returncode:
@@ -335,7 +336,7 @@ def main() -> int:
         return 1
     command, program = node(), any_program()
     if not command:
-        print("check workbench: there is no Node here (Debian's package nodejs), so nothing was checked")
+        lacking("workbench", "all of it", "Node")
         return 0
     if not program:
         return 1

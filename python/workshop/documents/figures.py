@@ -80,7 +80,7 @@ def naming(word: str) -> int:
 
 def gates(column: int) -> str:
     """The least and the most minutes of the gates of docs/measured/gate.md that proved everything from nothing."""
-    whole = [it for it in rows("gate.md", 5) if re.match(r"`rt ci`|`\.ci/run`", it[4])]
+    whole = [it for it in rows("gate.md", 6) if re.match(r"`rt ci`|`\.ci/run`", it[5])]
     found = [number(it[column]) for it in whole if number(it[column])]
     return f"{min(found):.0f} to {max(found):.0f}"
 

@@ -4,6 +4,10 @@ It runs `.ci/run` in a fresh clone of what is committed, and looks every 0.4 sec
 each crate, its tests, and its planted bugs. With the PID of a `.ci/run` that was begun by `setsid`, it watches that one. Of what
 passed on this machine before the gate proves nothing again, so the table takes the place of that between the two marker
 comments of the page only where no crate was kept; else it is only printed. From nothing it takes an hour on four cores.
+
+A second of the processor is worth more on one day than on another. The yardstick is what eight crates took that hardly
+ever change, against the table before, of those whose lines are the same; the first table with it has 1.00. So minutes
+divided by the yardstick are those of the day of that table, to a tenth.
 """
 
 from __future__ import annotations
@@ -15,14 +19,16 @@ import sys
 import tempfile
 import time
 from collections.abc import Callable, Mapping
+from dataclasses import dataclass
 
-from workshop.parts import ROOT
+from workshop.parts import ROOT, text_of
 
 PAGE = f"{ROOT}/docs/measured/gate.md"
 MARKERS = "<!-- gate table: begin -->", "<!-- gate table: end -->"
 TICKS = os.sysconf("SC_CLK_TCK")
 PARTS = "library", "tests", "planted bugs"
 Work = tuple[str, str]  # a crate, and a part of it
+YARDSTICK = "imp_channel", "imp_node", "host_pairs", "sockets", "icp", "topology", "script", "replay"
 
 
 def crates() -> list[str]:
@@ -89,7 +95,34 @@ def watch(session: int, goes_on: Callable[[], bool]) -> dict[Work | None, float]
     return seconds
 
 
-def table(seconds: Mapping[Work | None, float]) -> tuple[list[str], list[str]]:
+@dataclass(frozen=True)
+class Row:
+    """What the page's table has of a crate: its lines, and the seconds of its library, its tests and its planted bugs."""
+
+    lines: int
+    seconds: tuple[float, float, float]
+
+
+def stored(page: str) -> tuple[dict[str, Row], float]:
+    """The table of a page, by crates, and its yardstick."""
+    found: dict[str, Row] = {}
+    rows = page.partition(MARKERS[0])[2].partition(MARKERS[1])[0]
+    for crate, *cells in re.findall(r"^\| `(\w+)` \|" + 4 * r" ([\d,]*) \|" + "$", rows, re.MULTILINE):
+        lines, library, tests, bugs = (int(it.replace(",", "") or 0) for it in cells)
+        found[crate] = Row(lines, (library, tests, bugs))
+    measure = re.search(r"^\| yardstick ([\d.]+) \|", page, re.MULTILINE)
+    return found, float(measure[1]) if measure else 1.0
+
+
+def yardstick(seconds: Mapping[Work | None, float], page: str) -> float | None:
+    """How much longer the crates of the yardstick took than on the day of the first table; None where none compares."""
+    before, measure = stored(page)
+    same = [it for it in YARDSTICK if it in before and before[it].lines == lines_of(it) and (it, PARTS[0]) in seconds]
+    then = sum(before[it].seconds[0] for it in same)
+    return measure * sum(seconds[it, PARTS[0]] for it in same) / then if then else None
+
+
+def table(seconds: Mapping[Work | None, float], measure: float | None) -> tuple[list[str], list[str]]:
     """The rows of the table, and the crates of which no proof was seen."""
     rows = ["| Crate | Lines | Library | Tests | Planted bugs |", "|---|---|---|---|---|"]
     kept: list[str] = []
@@ -101,13 +134,15 @@ def table(seconds: Mapping[Work | None, float]) -> tuple[list[str], list[str]]:
         rows.append(f"| `{crate}` | {lines_of(crate):,} | {' | '.join(f'{it:,.0f}' if it >= 0.5 else '' for it in own)} |")
     rows.append(f"| all {len(crates())} | | {' | '.join(f'{it:,.0f}' for it in whole)} |")
     rows.append(f"| all other work | | {seconds.get(None, 0):,.0f} | | |")
+    if measure:
+        took = sum(seconds.get((it, PARTS[0]), 0) for it in YARDSTICK)
+        rows.append(f"| yardstick {measure:.2f} | | {took:,.0f} | | |")
     return rows, kept
 
 
 def write(rows: list[str]) -> None:
     """Puts the table between the markers of the page."""
-    with open(PAGE, encoding="utf-8") as file:
-        text = file.read()
+    text = text_of(PAGE)
     if [text.count(it) for it in MARKERS] != [1, 1]:
         sys.exit(f"measure gate: docs/measured/gate.md lacks the lines `{MARKERS[0]}` and `{MARKERS[1]}`, so the table is only printed")
     head, rest = text.split(MARKERS[0])
@@ -135,8 +170,11 @@ def main() -> None:
         os.makedirs(f"{ROOT}/out", exist_ok=True)
         with tempfile.TemporaryDirectory(prefix="gate-") as folder:
             seconds = gate(folder)
-    rows, kept = table(seconds)
+    measure, minutes = yardstick(seconds, text_of(PAGE)), sum(seconds.values()) / 60
+    rows, kept = table(seconds, measure)
     print(*rows, sep="\n")
+    by_it = f"{minutes / measure:.1f} by the yardstick of {measure:.2f}" if measure else "with no crate for a yardstick"
+    print(f"measure gate: {minutes:.1f} minutes of the processor, {by_it}")
     if kept:
         print(f"measure gate: the page stays as it is, since these were kept: {' '.join(kept)}")
     else:
