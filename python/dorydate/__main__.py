@@ -13,11 +13,12 @@ from dorydate.program import NoProgram
 from dorydate.released import PAGE, is_released, note, octets_of
 from dorydate.where import ROOT, examples_folder, found
 
-LONGER = {it: f"dorydate.{it}.command" for it in ("conformance", "explain", "explore", "export")}  # each has a `main`
+LONGER = {it: f"dorydate.{it}.command" for it in ("conformance", "explain", "explore", "export", "live")}  # each has a `main`
 USAGE = """usage: dorydate explain [--chart | --page | --audit | --expect ..] < INPUT   says what each line does, and why
        dorydate explore ..                     finds a short script that prints what one asks for
        dorydate export --FORMAT < INPUT        writes a replay for Wireshark, ShiViz or Perfetto
        dorydate conformance COMMAND..          has dialogues with a host's program that you wrote
+       dorydate live TOPOLOGY --bind ..        runs a network whose strangers are real hosts, over UDP and TCP
        dorydate examples [NAME]                lists the examples, or prints one
        dorydate page > dorydate.html           writes the workbench, a page for a browser
        dorydate version                        says which program runs here, and what it comes from

@@ -15,11 +15,12 @@ from dorydate.drawing import drawn
 from dorydate.inside import CannotFollow, state_of, trace_of
 from dorydate.marks import LAST, Marked, Unmarked, each_printed, mark_for
 from dorydate.network import Host, HostName, ImpName, Network
-from dorydate.printed import flow_of, kind_of, matches, may_match, without_text
+from dorydate.printed import kind_of, matches, may_match, without_text
 from dorydate.program import Program
 from dorydate.where import found
 from dorydate.script import BadLine, Entry, Event, Flow, Script, octets_of
 from dorydate.state import Frame, State
+from dorydate.unanswered import Unanswered, before_a_start, reached
 
 MOST_ROUNDS = 200  # of one `settle`, `run_until` or `restart` where nothing else is said
 
@@ -458,11 +459,10 @@ class Replay:
 
     def _forgets(self, number: int) -> list[Event]:
         """What has to be forgotten and given up so that an IMP may start: nothing twice."""
-        asked: list[Event] = [events.GiveUp(flow) for flow in self.unanswered() if flow.destination.imp == number]
-        sources = {flow.destination.imp for flow in map(flow_of, self.printed) if flow and flow.source.imp == number}
+        asked = before_a_start(number, self.unanswered(), reached(number, self.printed))
         since = max((at for at, it in enumerate(self.steps) if it.event == events.ImpDown(number)), default=0)
-        forgotten = {it.event for it in self.steps[since:]}
-        return asked + [it for it in (events.Forget(other, number) for other in sorted(sources - {number})) if it not in forgotten]
+        forgotten = {it.event for it in self.steps[since:] if isinstance(it.event, events.Forget)}
+        return [it for it in asked if it not in forgotten]
 
     def _in_the_way(self, number: int) -> str:
         """What is alive of an IMP's past."""
@@ -608,14 +608,10 @@ class Replay:
         >>> net.out("UCLA", "SRI", 5) and [str(it) for it in net.unanswered()]
         ['0/1 0/2 5']
         """
-        waiting: dict[Flow, bool] = {}
+        seen = Unanswered()
         for line in self.crossings:
-            word, *words = line.split(" ")
-            if (flow := flow_of(line)) and word != "in":
-                waiting[flow] = word == "out"
-            elif word == "down":
-                waiting = {flow: it and flow.source != Host.read(words[0]) for flow, it in waiting.items()}
-        return [flow for flow, it in waiting.items() if it]
+            seen.see(line)
+        return [*seen.flows]
 
     def expect(self, *wanted: str) -> None:
         """Raises `Stopped` unless the last event printed exactly these lines.

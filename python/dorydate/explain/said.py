@@ -12,7 +12,7 @@ from dorydate.explain.view import host_in_words
 from dorydate.model.boxes import Boxes
 from dorydate.model.commands import CLS, RRP, RST, RTS, STR, read_numbers
 from dorydate.model.connections import CLOSED, GONE, HEARD, READY, WANT, End, Pair
-from dorydate.model.crossings import Answered, Passed, Turned
+from dorydate.model.crossings import Passed, Turned
 from dorydate.model.firsts import Firsts
 from dorydate.model.names import Flow, HostName, spell_host
 from dorydate.model.strangers import Stranger

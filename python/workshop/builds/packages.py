@@ -52,7 +52,7 @@ def examples() -> Files:
 
 def programs() -> Files:
     """The programs of hosts among the examples, which the tutorial runs."""
-    return {it: (read_octets(f"{ROOT}/examples/{it}"), 0o644) for it in sorted(os.listdir(f"{ROOT}/examples")) if it.endswith(".py")}
+    return {it: (read_octets(f"{ROOT}/examples/{it}"), 0o644) for it in sorted(os.listdir(f"{ROOT}/examples")) if it.endswith((".py", ".c"))}
 
 
 def below(folder: str, files: Files) -> Files:

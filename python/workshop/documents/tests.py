@@ -77,8 +77,10 @@ class Pages(unittest.TestCase):
         self.assertEqual(paragraphs.joined("```\na\nb\n```\n\n    code\n    more\n"), "```\na\nb\n```\n\n    code\n    more\n")
 
     def test_pages_that_are_too_long_are_named(self) -> None:
-        self.assertEqual(paragraphs.too_long({"README.md": "word " * 900, "docs/a.md": "word " * 71_080}), [])
-        self.assertEqual(paragraphs.too_long({"README.md": "word " * 901, "docs/a.md": "word " * 71_080}), ["README.md: 901 words, of at most 900", "all pages: 71,981 words, of at most 71,980"])
+        self.assertEqual(paragraphs.too_long({"README.md": "word " * 900, "docs/a.md": "word " * (paragraphs.MOST_OF_ALL - 900)}), [])
+        found = paragraphs.too_long({"README.md": "word " * 901, "docs/a.md": "word " * (paragraphs.MOST_OF_ALL - 900)})
+        most = f"{paragraphs.MOST_OF_ALL + 1:,} words, of at most {paragraphs.MOST_OF_ALL:,}"
+        self.assertEqual(found, ["README.md: 901 words, of at most 900", f"all pages: {most}"])
 
     def test_headings_have_the_anchors_of_the_web(self) -> None:
         with tempfile.NamedTemporaryFile("w", suffix=".md", encoding="utf-8") as file:
