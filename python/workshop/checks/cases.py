@@ -2,7 +2,7 @@
 
 It takes the proved program, or where ./build has not made that the one that was built without proofs, which is slow.
 
-A file NAME of a folder, or of a folder below it, is an input, but for programs (.py). Beside it may be
+A file NAME of a folder, or of a folder below it, is an input, but for programs (.py, .c). Beside it may be
 
 - NAME.args: the options, one a line
 - NAME.stdout: what is printed; without this file, nothing
@@ -25,6 +25,7 @@ from concurrent.futures import ThreadPoolExecutor
 from dataclasses import dataclass
 
 from workshop.parts import any_program
+from workshop.rows import FOLDER as CALLS
 
 SECONDS = 120  # for one input
 PART = re.compile(r'("(?:[^"\\]|\\.)*")(?:\*(\d+))?(?: +|$)')
@@ -100,7 +101,7 @@ class Case:
 def cases_below(folder: str) -> Iterator[Case]:
     """The cases of a folder, by name."""
     for place, _, files in sorted(os.walk(folder)):
-        for file in sorted(it for it in files if not it.endswith((*BESIDE, ".py"))):
+        for file in sorted(it for it in files if not it.endswith((*BESIDE, ".py", ".c"))):
             path = f"{place}/{file}"
             name = os.path.relpath(path, folder).replace("/", "-")
             head, table = octets_of(path) or b"", octets_of(path + ".rows")
@@ -112,8 +113,10 @@ def cases_below(folder: str) -> Iterator[Case]:
 
 
 def stray_files(folder: str) -> Iterator[str]:
-    """Files beside an input that is not there."""
+    """Files beside an input that is not there. Calls, of which `./check rows` has a file each, are no inputs."""
     for place, _, files in os.walk(folder):
+        if os.path.realpath(place) == CALLS:
+            continue
         yield from (f"{place}/{it}" for it in files if it.endswith(BESIDE) and os.path.splitext(it)[0] not in files)
 
 
