@@ -1,6 +1,6 @@
 """Each crate has a budget of octets of .antt, and lines of over 120 columns can only become fewer.
 
-Octets are counted without comments and blank lines; lines are told, and not bound. docs/measured/budget.json has what
+Octets are counted without comments and blank lines; lines are printed, and not bound. docs/measured/budget.json has what
 each crate may have, and what a crate may have besides, each with what that is for: so a commit that needs more adds a
 line to `more`, and says what it buys. `./check docs --lower` takes off what isn't used any more. For each kind of
 source the file has how many lines of over 120 columns there may be.
