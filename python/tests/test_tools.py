@@ -80,7 +80,7 @@ class EditsOfTheGate(unittest.TestCase):
 
 class CheckOne(unittest.TestCase):
     def test_what_stands_on_sources_is_read_from_sources(self) -> None:
-        lines = {"a": [], "b": ["a"], "c": ["b"], "d": ["a", "std"]}
+        lines: dict[str, list[str]] = {"a": [], "b": ["a"], "c": ["b"], "d": ["a", "std"]}
         kept = mock.Mock(is_of_sources=lambda: True)
         with mock.patch.object(one, "store", lambda: "/"), mock.patch.object(
             one, "libraries_of", lambda crate: [] if crate == "b" else [kept]
