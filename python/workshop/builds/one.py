@@ -4,7 +4,9 @@ tools/check-one CRATE [--from CLONE] [WORDS FOR THE CHECKER ..]
 After an `rt ci`, plain `rt check` in a fresh clone proves each crate below anew. Here the crate is checked over the
 libraries that `rt ci` keeps beside the kit: of each crate below the newest whose definitions and clauses are those of
 this clone. A crate of which none is kept is read from its sources, as is each above it; these are named first, and
-`--only` should then name what is to be checked. What a check finds is kept in out/one/, and the next one begins with it.
+`--only` should then name what is to be checked. Over sources more is in scope, so that a goal which `search` answers over
+libraries may meet its limits: what is proved so is proved, and what isn't is to be seen over libraries. What a check
+finds is kept in out/one/, and the next one begins with it.
 
 Kit 13b keeps nothing beside it. There `--from CLONE` takes the libraries that an `rt ci` left in another clone, while
 it still runs, too: of each crate whose sources are those of this clone, with all below it.
