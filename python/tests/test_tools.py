@@ -85,4 +85,5 @@ class CheckOne(unittest.TestCase):
         with mock.patch.object(one, "store", lambda: "/"), mock.patch.object(
             one, "libraries_of", lambda crate: [] if crate == "b" else [kept]
         ):
-            self.assertEqual([*one.chosen(lines, ["a", "b", "c", "d"])], ["a", "d"])
+            self.assertEqual([*one.chosen(lines, ["a", "b", "c", "d"], set())], ["a", "d"])
+            self.assertEqual([*one.chosen(lines, ["a", "b", "c", "d"], {"d"})], ["a"])
