@@ -48,7 +48,7 @@ export function faultOf({ input, said, status }) {
             line: input.head.length + 1 + number,
         };
     }
-    if (said.includes("bad topology")) return wrongTopology(input) ?? NOT_FOUND;
+    if (/bad topology|input too long/.test(said)) return wrongTopology(input) ?? NOT_FOUND;
     return {
         text: said.trim().replace(/^arpasim: /, "The program says: ") || `The program ended with status ${status}.`,
         line: 0,

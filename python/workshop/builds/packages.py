@@ -17,6 +17,7 @@ import tempfile
 from collections.abc import Mapping
 from dataclasses import dataclass
 
+from dorydate.definitions.promise import PACKED, files_of_promise
 from workshop.builds.manual import manual
 from workshop.documents.versions import for_debian, for_python
 from workshop.parts import ROOT, read_octets
@@ -54,6 +55,11 @@ def examples() -> Files:
 def programs() -> Files:
     """The programs of hosts among the examples, which the tutorial runs."""
     return {it: (read_octets(f"{ROOT}/examples/{it}"), 0o644) for it in sorted(os.listdir(f"{ROOT}/examples")) if it.endswith((".py", ".c"))}
+
+
+def promised() -> Files:
+    """The files of the definitions of the promise."""
+    return {it: (read_octets(f"{ROOT}/crates/{it}"), 0o644) for it in files_of_promise()}
 
 
 def below(folder: str, files: Files) -> Files:
@@ -101,6 +107,7 @@ def wheel(release: Release, folder: str) -> str:
                 os.chmod(f"{place}/{name}", 0o644)
         write(f"{room}/dorydate/release", {**of_module(release), "arpasim": (release.native, 0o755)})
         write(f"{room}/dorydate/examples", {**examples(), **programs()})
+        write(f"{room}/dorydate/definitions/{PACKED.name}", promised())
         write(room, licences())
         build = "import sys; from setuptools import build_meta; build_meta.build_wheel(sys.argv[1])"
         env = {**os.environ, "SOURCE_DATE_EPOCH": str(EPOCH), "PYTHONDONTWRITEBYTECODE": "1"}
@@ -126,7 +133,7 @@ def archive(files: Files) -> bytes:
 
 def npm_package(release: Release) -> bytes:
     """The package for npm."""
-    told = {
+    facts = {
         "name": "dorydate",
         "version": release.version,
         "description": f"Dorydate: {SUMMARY}",
@@ -136,7 +143,7 @@ def npm_package(release: Release) -> bytes:
         "bin": {"dorydate": "run/dorydate.mjs", "arpasim": "run/arpasim.mjs"},
     }
     files = {**of_module(release, (*BY_NODE, "dorydate.mjs")), **licences(), **below("examples", examples())}
-    files["package.json"] = ((json.dumps(told, indent=2) + "\n").encode(), 0o644)
+    files["package.json"] = ((json.dumps(facts, indent=2) + "\n").encode(), 0o644)
     return archive(below("package", files))
 
 
