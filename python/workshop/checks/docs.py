@@ -35,6 +35,7 @@ import glob
 import io
 import os
 import re
+import subprocess
 import unittest
 from collections.abc import Iterator
 
@@ -190,6 +191,14 @@ def sources(pattern: str = "crates/*") -> list[str]:
     return sorted(it for it in found if it.endswith((".rt", ".antt")) and "/out/" not in it)
 
 
+def strayed() -> Iterator[str]:
+    """Sources that are in no crate, for which `rt ci` refuses the whole repository."""
+    listed = subprocess.run(["git", "ls-files", "--cached", "--others", "--exclude-standard"], cwd=ROOT, capture_output=True, text=True, check=False)
+    for path in listed.stdout.splitlines():
+        if path.endswith((".rt", ".antt")) and not re.match(r"crates/\w+/(src|specs|proofs)/", path):
+            yield f"{path}: a source outside of a crate's src/, specs/ and proofs/"
+
+
 def reaching() -> Iterator[str]:
     """The imports that reach into another crate's proofs/ beside its module lemmas."""
     crates = {os.path.basename(it) for it in glob.glob(f"{ROOT}/crates/*")}
@@ -277,7 +286,7 @@ def main() -> int:
         stated.lower()
     if options.write or options.lower:
         return write() if options.write else 0
-    wrong = [*missing_files(), *missing_claims(), *unknown_names(), *unknown_clauses(), *made(), *over_limits()]
+    wrong = [*missing_files(), *strayed(), *missing_claims(), *unknown_names(), *unknown_clauses(), *made(), *over_limits()]
     print(*wrong, sep="\n", end="\n" if wrong else "")
     print(f"check docs: {len(wrong)} wrong" if wrong else "check docs: each link, source, name and number is there, and each count within its limit")
     return 1 if wrong else 0
