@@ -81,8 +81,10 @@ export class Menu {
     close(giveBack) {
         if (this.element.hidden) return;
         this.element.hidden = true;
-        if (giveBack && this.from instanceof HTMLElement) this.from.focus();
-        else if (giveBack && this.from instanceof SVGElement) this.from.focus();
+        if (!giveBack) return;
+        const key = this.from?.getAttribute("data-part"); // a map that was arranged anew has another element for its part
+        const from = this.from?.isConnected || !key ? this.from : document.querySelector(`#network [data-part="${key}"]`);
+        if (from instanceof HTMLElement || from instanceof SVGElement) from.focus();
     }
 
     /** @param {KeyboardEvent} event */
@@ -112,14 +114,16 @@ export class Toast {
 
     /**
      * @param {string} text
-     * @param {(() => void) | null} undo
+     * @param {(() => void) | null} act
      * @param {boolean} [stays] whether it stays until something else is shown
+     * @param {string} [words] what a press of its button does
      */
-    show(text, undo, stays = false) {
+    show(text, act, stays = false, words = "Undo") {
         window.clearTimeout(this.timer);
         this.element.replaceChildren(
             h("span", {}, text),
-            undo ? h("button", { type: "button", onclick: undo }, "Undo") : "",
+            act ? h("button", { type: "button", onclick: act }, words) : "",
+            h("button", { "type": "button", "class": "quiet", "aria-label": "Close", "onclick": () => this.hide() }, "×"),
         );
         this.element.hidden = false;
         if (!stays) this.timer = window.setTimeout(() => this.hide(), 9000);
