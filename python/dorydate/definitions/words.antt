@@ -207,6 +207,16 @@ zip [] ys = []
 zip (x ∷ xs) [] = []
 zip (x ∷ xs) (y ∷ ys) = (x, y) ∷ zip xs ys
 
+abbrev pub pointwise : {A B : Type 0} → (A → B → Bool) → List A → List B → Bool
+pointwise same [] [] = true
+pointwise same (x ∷ xs) (y ∷ ys) = same x y && pointwise same xs ys
+pointwise same xs ys = false
+
+-- what comes before the last member that passes the test; nothing where none does
+abbrev pub before_last : {A : Type 0} → (A → Bool) → List A → List A
+before_last test [] = []
+before_last test (x ∷ xs) = if list_any test xs then x ∷ before_last test xs else []
+
 abbrev pub cons_option : {A : Type 0} → Option A → List A → List A
 cons_option o xs = option_to_list o ++ xs
 
