@@ -81,9 +81,14 @@ class Compiler:
         self.functions: dict[tuple[str, str], Lambda | Expression] = {}
         self.memory: dict[tuple[object, ...], Value] = {}
         self.kinds: dict[tuple[str, str], bool] = {}
+        self.calls, self.most_calls = (
+            0,
+            0,
+        )  # how many definitions were computed since, and how many may be; 0 is any number
 
     def forget(self) -> None:
         """Forgets all values that were computed."""
+        self.calls = 0
         self.memory.clear()
         forget()
 
@@ -93,7 +98,7 @@ class Compiler:
         """The module's alias that a term is; nothing where it is none."""
         if isinstance(term, Name) and term.text not in scope:
             here = self.library.module(module)
-            if term.text in here.aliases and term.text not in here.names and term.text not in here.own:
+            if term.text in here.aliases:
                 return term.text
         return ""
 
@@ -103,7 +108,12 @@ class Compiler:
             return self.library.meaning(module, term.text)
         if isinstance(term, Field) and (alias := self.alias_of(term.of, module, scope)):
             return self.library.meaning(module, term.name, alias)
-        if isinstance(term, Field) and isinstance(term.of, Name) and term.of.text[0].isupper() and term.of.text not in scope:
+        if (
+            isinstance(term, Field)
+            and isinstance(term.of, Name)
+            and term.of.text[0].isupper()
+            and term.of.text not in scope
+        ):
             return Form(term.of.text, term.name)  # a constructor, by its type
         return None
 
@@ -126,7 +136,7 @@ class Compiler:
             return False
         meaning = self.meaning(head, module, scope)
         if meaning is None and isinstance(head, Field):
-            return True  # what a field of a value says
+            return not head.name[0].isupper()  # what a field of a value says, unless it is a type
         if isinstance(meaning, (Declared, Word)):
             return isinstance(meaning, Word) and meaning.name not in VALUE_TYPES
         return self.is_statement_of(meaning)
@@ -205,7 +215,7 @@ class Compiler:
             try:
                 return Abstraction(patterns, self.expression(term.body, module, scope | names))
             except NotComputed:
-                return Saying(term, module)
+                return Saying(term, module, len(term.parameters))
         if isinstance(term, Let):
             names = set()
             pattern = self.pattern(term.pattern, module, names)
@@ -245,6 +255,8 @@ class Compiler:
             return Named(self, meaning)
         if isinstance(meaning, Constant):
             return Literal(self.declared_number(meaning))
+        if isinstance(meaning, Typed) and self.is_statement_of(meaning):
+            return Saying(Name(meaning.structure.name), meaning.module, len(meaning.structure.binders))
         return Literal(TYPE)
 
     def word(self, name: str) -> Expression:
@@ -376,16 +388,16 @@ class Compiler:
 class Saying(Expression):
     """A function that gives a statement, as a value."""
 
-    __slots__ = ("term", "module")
+    __slots__ = ("term", "module", "arity")
 
-    def __init__(self, term: Function, module: str) -> None:
-        self.term, self.module = term, module
+    def __init__(self, term: Term, module: str, arity: int) -> None:
+        self.term, self.module, self.arity = term, module, arity
 
     def value(self, env: Env) -> Value:
         def run(*arguments: Value) -> Value:
             raise NotComputed("a statement is no value")
 
-        found = Lambda(len(self.term.parameters), run)
+        found = Lambda(self.arity, run)
         found.says = Delayed(self.term, self.module, env, None)
         return found
 
@@ -529,6 +541,9 @@ class Running:
             return memory[key]
         if self.clauses is None:
             self.clauses = self.made()
+        self.compiler.calls += 1
+        if 0 < self.compiler.most_calls < self.compiler.calls:
+            raise NotComputed("too many calls")
         for patterns, body in self.clauses:
             env: Env = {}
             if all([pattern.fits(it, env) for pattern, it in zip(patterns, arguments)]):

@@ -301,7 +301,8 @@ class OfField(Statement):
         function = self.function.value(env)
         if not isinstance(function, Lambda) or not isinstance(function.says, Delayed):
             raise NotComputed("a field is no statement")
-        return self.decider.of_term(function.says, [it.slot(env) for it in self.arguments], evidence)
+        slots = [*function.before, *(it.slot(env) for it in self.arguments)]
+        return self.decider.of_term(function.says, slots, evidence)
 
 
 @dataclass(frozen=True)

@@ -107,7 +107,9 @@ def applied(function: Value, arguments: tuple[Value, ...]) -> Value:
             raise TypeError("what is applied is no function")
         missing = function.arity - len(function.before)
         if len(arguments) < missing:
-            return Lambda(function.arity, function.run, function.before + arguments)
+            partly = Lambda(function.arity, function.run, function.before + arguments)
+            partly.says = function.says
+            return partly
         function, arguments = function.run(*function.before, *arguments[:missing]), arguments[missing:]
     return function
 

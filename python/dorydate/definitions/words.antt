@@ -280,3 +280,7 @@ ordering_then Greater next = Greater
 abbrev pub is_lt : Ordering → Bool
 is_lt Less = true
 is_lt o = false
+
+abbrev pub IsStrictlySortedBy : {A : Type 0} → (A → A → Ordering) → List A → Type 0
+IsStrictlySortedBy compare [] = Unit {0}
+IsStrictlySortedBy compare (x ∷ xs) = All (λ y. compare x y ≡ Less) xs × IsStrictlySortedBy compare xs

@@ -15,18 +15,81 @@ from collections.abc import Iterator, Sequence
 from dataclasses import dataclass, field
 from pathlib import Path
 
-from dorydate.definitions.files import Clause, Definition, Structure
-from dorydate.definitions.library import WORDS, Declared, Defined, Form, Library, Meaning, NoMeaning, Typed, Word
-from dorydate.definitions.promise import LEFT, Judge
+from dorydate.definitions.files import Clause, Structure
+from dorydate.definitions.library import WORDS, Declared, Defined, Form, Library, Meaning, Typed, Word
+from dorydate.definitions.promise import Judge
 from dorydate.definitions.reach import Reach
 from dorydate.definitions.terms import (
-    Apply, Binder, Both, Changed, Field, ForAll, Function, If, Implicit, Let, Name, Number, Operation, Record, Term, Tuple, Universe, Unknown,
+    Apply,
+    Binder,
+    Both,
+    Changed,
+    Field,
+    ForAll,
+    Function,
+    If,
+    Implicit,
+    Let,
+    Name,
+    Number,
+    Operation,
+    Record,
+    Term,
+    Tuple,
+    Universe,
+    Unknown,
 )
 from workshop.parts import ROOT, text_of
 
-BASE = Path(__file__).with_name("agda") / "Base.agda"
-BUILT_IN = {"zero", "suc", "true", "false", "[]", "Some", "None", "Ok", "Err", "nat_lt", "Option", "Result", "List", "Bool", "ℕ", "⊥"}
-KEYWORDS = {"field", "open", "where", "data", "record", "module", "let", "in", "to", "renaming", "using", "hiding", "import", "with", "abstract", "rewrite", "do", "quote", "syntax", "tactic", "macro", "instance", "private", "public", "forall", "constructor", "pattern", "variable"}
+BASE = Path(__file__).with_name("Base.agda")
+BUILT_IN = {
+    "zero",
+    "suc",
+    "true",
+    "false",
+    "[]",
+    "Some",
+    "None",
+    "Ok",
+    "Err",
+    "nat_lt",
+    "Option",
+    "Result",
+    "List",
+    "Bool",
+    "ℕ",
+    "⊥",
+}
+KEYWORDS = {
+    "field",
+    "open",
+    "where",
+    "data",
+    "record",
+    "module",
+    "let",
+    "in",
+    "to",
+    "renaming",
+    "using",
+    "hiding",
+    "import",
+    "with",
+    "abstract",
+    "rewrite",
+    "do",
+    "quote",
+    "syntax",
+    "tactic",
+    "macro",
+    "instance",
+    "private",
+    "public",
+    "forall",
+    "constructor",
+    "pattern",
+    "variable",
+}
 NUMBERS = {"u8", "u16", "u32", "u64", "u128", "usize"}
 WIDTHS = {"w8": "1", "w16": "2", "w32": "4", "w64": "8", "w128": "16"}
 MODEL = re.compile(r"impl(?:<[^>]*>)? Model for (\w+)[^{]*\{[\s\S]*?ghost Value = \{ (.*?) \};")
@@ -120,7 +183,9 @@ class Rust:
     def record(self, name: str, body: str, opening: str) -> list[str]:
         pairs = [it.split(":", 1) if opening == "{" else [str(at), it] for at, it in enumerate(self.parts(body))]
         home = self.home
-        fields = [f"    #{mangled(it.split()[-1])} : {self.type(type_.replace('pub ', ''), *home)}" for it, type_ in pairs]
+        fields = [
+            f"    #{mangled(it.split()[-1])} : {self.type(type_.replace('pub ', ''), *home)}" for it, type_ in pairs
+        ]
         return [f"record {name}° : Set where", "  field", *fields, f"open {name}° public"]
 
     def data(self, name: str, body: str) -> list[str]:
@@ -148,7 +213,9 @@ class Writer:
         key = module, name
         if key not in self.names:
             own = mangled(name)
-            self.names[key] = f"{own}-of-{mangled(module.split('.')[-1])}" if own in self.taken or own in BUILT_IN else own
+            self.names[key] = (
+                f"{own}-of-{mangled(module.split('.')[-1])}" if own in self.taken or own in BUILT_IN else own
+            )
             self.taken.add(self.names[key])
         return self.names[key]
 
@@ -163,7 +230,12 @@ class Writer:
             if term.text in here.own or term.text in here.forms or term.text in here.names:
                 return self.of_meaning(self.library.meaning(module, term.text), module, term.text)
             return self.built_in(term.text)
-        if isinstance(term, Field) and isinstance(term.of, Name) and term.of.text in here.aliases and term.of.text not in local:
+        if (
+            isinstance(term, Field)
+            and isinstance(term.of, Name)
+            and term.of.text in here.aliases
+            and term.of.text not in local
+        ):
             return self.of_meaning(self.library.meaning(module, term.name, term.of.text), module, term.name)
         return None
 
@@ -229,7 +301,11 @@ class Writer:
             parts = [self.term(it, module, local) for it in (term.condition, term.then, term.otherwise)]
             return f"(if {parts[0]} then {parts[1]} else {parts[2]})"
         if isinstance(term, Tuple):
-            return f"(t{len(term.items)} {' '.join(self.term(it, module, local) for it in term.items)})" if term.items else "tt"
+            return (
+                f"(t{len(term.items)} {' '.join(self.term(it, module, local) for it in term.items)})"
+                if term.items
+                else "tt"
+            )
         if isinstance(term, (Record, Changed)):
             fields = " ; ".join(f"#{mangled(name)} = {self.term(it, module, local)}" for name, it in term.fields)
             of = f"{self.term(term.of, module, local)} " if isinstance(term, Changed) else ""
@@ -267,20 +343,19 @@ class Writer:
         type_ = self.term(binder.type, module, local)
         if not binder.names:
             return type_
-        opening, closing = "{}" if binder.implicit else "()"
-        return f"{opening}{' '.join(map(mangled, binder.names))} : {type_}{closing}"
+        said = f"{' '.join(map(mangled, binder.names))} : {type_}"
+        return f"{{{said}}}" if binder.implicit else f"({said})"
 
     def product(self, parts: Sequence[tuple[str | None, Term]], module: str, local: frozenset[str]) -> str:
         """A product of two to four parts; of more, the last are nested."""
-        if len(parts) > 4:
-            raise NotWritten("a product of many parts") if any(name is None for name, _ in parts[:3]) else NotWritten("a long product")
         found, names = [], list[str]()
-        for name, type_ in parts:
-            text = self.term(type_, module, local)
+        for at, (name, type_) in enumerate(parts[:4]):
+            is_last = at == 3 and len(parts) > 4
+            text = self.product(parts[3:], module, local) if is_last else self.term(type_, module, local)
             found.append(f"(λ {' '.join(names)} → {text})" if names else text)
             names.append(mangled(name) if name else "_")
             local = local | {name} if name else local
-        return f"(Sig{len(parts)} {' '.join(found)})"
+        return f"(Sig{len(found)} {' '.join(found)})"
 
     # ---- patterns
 
@@ -346,40 +421,60 @@ class Writer:
         for member in it.members:
             text = self.term(member.type, module, local | {*types})
             for other in types:
-                text = re.sub(rf"(?<![\w#.-]){re.escape(mangled(other))}(?![\w-])(?!\s*[:=])", f"#{mangled(other)}", text)
+                text = re.sub(
+                    rf"(?<![\w#.-]){re.escape(mangled(other))}(?![\w-])(?!\s*[:=])", f"#{mangled(other)}", text
+                )
             if any(f".#{mangled(other)})" in text for other in types):
-                used = [other for other in types if re.search(rf"(?<![.\w-])#{re.escape(mangled(other))}(?![\w-])", text)]
+                used = [
+                    other for other in types if re.search(rf"(?<![.\w-])#{re.escape(mangled(other))}(?![\w-])", text)
+                ]
                 said = re.sub(r"(?<![.\w-])#([\w-]+)", r"v-\1", text)
                 takes = " ".join([binders, *(f"(v-{mangled(other)} : {types[other]})" for other in used)])
                 aux = f"{name}-{mangled(member.name)}-type"
-                shown = " ".join(f"{{{mangled(n)} = {mangled(n)}}}" if b.implicit else mangled(n) for b in it.binders for n in b.names)
+                shown = " ".join(
+                    f"{{{mangled(n)} = {mangled(n)}}}" if b.implicit else mangled(n)
+                    for b in it.binders
+                    for n in b.names
+                )
                 before += [f"{aux} : {takes} → Set" if takes.strip() else f"{aux} : Set"]
                 before += [" ".join([aux, shown, *(f"v-{mangled(other)}" for other in used)]) + f" = {said}"]
-                text = " ".join([aux, *(mangled(n) for n in names if not any(n in b.names and b.implicit for b in it.binders)), *(f"#{mangled(other)}" for other in used)])
+                text = " ".join(
+                    [
+                        aux,
+                        *(mangled(n) for n in names if not any(n in b.names and b.implicit for b in it.binders)),
+                        *(f"#{mangled(other)}" for other in used),
+                    ]
+                )
             types[member.name] = text
             lines.append(f"    #{mangled(member.name)} : {text}")
         yield from [*before, *lines, f"open {name} public"]
 
 
-def module_text(file: str, name: str) -> tuple[str, int, int]:
-    """The definitions to which the clauses of a file lead, as a module of Agda; how many they are, and how many types of Rust."""
-    judge = Judge()
+@dataclass(frozen=True)
+class Written:
+    """A module of Agda, and how many definitions and types of Rust it has."""
+
+    text: str
+    definitions: int
+    types: int
+
+
+def written(judge: Judge, clauses: Sequence[str], name: str) -> Written:
+    """The definitions to which the clauses of some files lead, as a module of Agda."""
     reach = Reach(judge.library)
-    for _, term, module in judge.clauses(file):
-        reach.follow_term(term, module)
+    for file in clauses:
+        for _, term, module in judge.clauses(file):
+            reach.follow_term(term, module)
     writer = Writer(judge.library)
-    writer.owners = [key for key, it in reach.definitions.items() if isinstance(it, Typed) and not it.structure.is_record]
-    types: list[str] = []
-    blocks: list[str] = []
-    for meaning in reach.definitions.values():
-        blocks += write_with_types(writer, meaning)
-    del types
-    opaque = " ".join(f"({it}° : Set)" for it in writer.rust.opaque)
-    head = f"{{-# OPTIONS --safe #-}}\nmodule {name} where\n\nopen import Base\n"
-    body = "\n".join(blocks)
-    inner = f"\nmodule _ {opaque} where\n" + re.sub(r"(?m)^(?=.)", "  ", body) if opaque else body
-    count = sum(1 for module, _ in reach.definitions if module != WORDS)
-    return f"{head}{inner}\n", count, len(writer.rust.written)
+    writer.owners = [
+        key for key, it in reach.definitions.items() if isinstance(it, Typed) and not it.structure.is_record
+    ]
+    lines = [line for it in reach.definitions.values() for line in write_with_types(writer, it)]
+    head = ["{-# OPTIONS --safe #-}", f"module {name} where", "", "open import Base", ""]
+    if opaque := " ".join(f"({it}° : Set)" for it in writer.rust.opaque):
+        lines = [f"module _ {opaque} where", *(f"  {it}" if it else it for it in lines)]
+    own = sum(1 for module, _ in reach.definitions if module != WORDS)
+    return Written("\n".join([*head, *lines]), own, len(writer.rust.written))
 
 
 def write_with_types(writer: Writer, meaning: Defined | Typed) -> list[str]:
@@ -390,14 +485,10 @@ def write_with_types(writer: Writer, meaning: Defined | Typed) -> list[str]:
     return [line for it in new for line in (*writer.rust.written[it], "")] + [*lines, ""]
 
 
-def checked(file: str, name: str) -> str:
-    """What is wrong with the definitions of a file, as Agda says; nothing where it finds nothing."""
-    text, _, _ = module_text(file, name)
+def said_of(module: Written, name: str) -> str:
+    """What Agda says is wrong with a module; nothing where it finds nothing."""
     with tempfile.TemporaryDirectory() as room:
         shutil.copy(BASE, room)
-        Path(f"{room}/{name}.agda").write_text(text, encoding="utf-8")
+        Path(f"{room}/{name}.agda").write_text(module.text, encoding="utf-8")
         ran = subprocess.run(["agda", f"{name}.agda"], cwd=room, capture_output=True, text=True, check=False)
     return "" if ran.returncode == 0 else ran.stdout + ran.stderr
-
-
-__all__ = ["LEFT", "Definition", "NoMeaning", "checked", "module_text"]
