@@ -10,15 +10,21 @@ from __future__ import annotations
 import queue
 import subprocess
 import threading
+import time
 from collections.abc import Sequence
+from contextlib import suppress
 from typing import Protocol
 
+from dorydate.contract.coupled import log_with_lives
 from dorydate.deeds import Deed, Stopped, together
 from dorydate.replay import MOST_ROUNDS, Replay, Stranger
 from dorydate.script import BadLine, Out, read_event
 
-SECONDS = 10.0  # so long may a program take to answer a line
-MOST_LINES = 100  # of its answers to one thing that it hears, and to refusals of these
+SECONDS = 10.0  # so long may a program take to answer a line, whatever it says meanwhile
+MOST_LINES = 100  # messages that it answers to one thing that it hears, and to refusals of these
+MOST_ANSWERS = 1_000  # lines of an answer
+MOST_OCTETS = 20_000  # of a line: the longest message has some 2,050
+MOST_TAKEN = 1_000  # things that it takes one after the other
 
 
 class Speaks(Protocol):
@@ -41,14 +47,17 @@ class Process:
             self.process = subprocess.Popen(command, stdin=subprocess.PIPE, stdout=subprocess.PIPE)
         except OSError as why:
             raise Mute(f"`{self.name}` doesn't start: {why.strerror or why}") from None
-        self.answers: queue.Queue[bytes] = queue.Queue()
+        self.answers: queue.Queue[bytes] = queue.Queue(MOST_ANSWERS)  # no more of it is read before these are heard
         threading.Thread(target=self._read, daemon=True).start()
 
     def _read(self) -> None:
-        """Keeps what it says, and nothing at its end."""
+        """Keeps what it says, line by line, and nothing at its end. Of a line that is too long only the beginning."""
         assert self.process.stdout is not None
-        for line in self.process.stdout:
-            self.answers.put(line)
+        with suppress(ValueError, OSError):  # it was ended
+            while line := self.process.stdout.readline(MOST_OCTETS):
+                self.answers.put(line)
+                if not line.endswith(b"\n") and len(line) == MOST_OCTETS:
+                    return
         self.answers.put(b"")
 
     def hear(self, line: str) -> list[str]:
@@ -59,19 +68,24 @@ class Process:
         except OSError:
             raise Mute(f"`{self.name}` has ended before it heard `{line}`") from None
         said: list[str] = []
-        while (answer := self._next(line)) != "":
+        until = time.monotonic() + self.seconds
+        while (answer := self._next(line, until)) != "":
             said.append(answer)
+            if len(said) > MOST_ANSWERS:
+                raise Mute(f"`{self.name}` answers `{line}` by more than {MOST_ANSWERS:,} lines")
         return said
 
-    def _next(self, line: str) -> str:
+    def _next(self, line: str, until: float) -> str:
         """The next line that it says."""
         try:
-            answer = self.answers.get(timeout=self.seconds)
+            answer = self.answers.get(timeout=max(0.001, until - time.monotonic()))
         except queue.Empty:
             limit = f"in {self.seconds:g} seconds"
             raise Mute(f"`{self.name}` ended no answer to `{line}` by an empty line {limit}") from None
         if not answer:
             raise Mute(f"`{self.name}` ended when it heard `{line}`")
+        if len(answer) == MOST_OCTETS:
+            raise Mute(f"`{self.name}` says a line of more than {MOST_OCTETS:,} octets to `{line}`")
         return answer.decode("ascii", "backslashreplace").rstrip("\r\n")
 
     def end(self) -> None:
@@ -86,12 +100,19 @@ class Process:
                 pass  # it had ended already, and something was still to be written
 
 
+def shown(line: str) -> str:
+    """What a program says, as it may be printed: at most 200 characters, and none that a terminal obeys."""
+    words = "".join(it if it.isprintable() else repr(it)[1:-1] for it in line[:200])
+    return words + "..." * (len(line) > 200)
+
+
 class Coupled:
     """A stranger's host in a replay with the program that runs there."""
 
     def __init__(self, stranger: Stranger, program: Speaks) -> None:
         self.stranger, self.program = stranger, program
         self.notices: list[str] = []  # what it says to its user
+        self.happened: list[tuple[int, str]] = []  # what its user asks for and hears, after how many events
         self.refused: list[str] = []  # why messages of its own were refused
 
     def ask(self, line: str) -> Deed:
@@ -99,9 +120,11 @@ class Coupled:
         done: list[Deed] = []
         heard = [line]
         while heard:
+            self.happened.append((len(self.stranger.net.steps), heard[0]))
             for answer in self.program.hear(heard.pop(0)):
                 if not answer.startswith("out "):
                     self.notices.append(answer)
+                    self.happened.append((len(self.stranger.net.steps), answer))
                     continue
                 done.append(self._out(answer))
                 if len(done) > MOST_LINES:
@@ -116,10 +139,18 @@ class Coupled:
         try:
             event = read_event(line)
         except BadLine as why:
-            raise Mute(f"it says `{line}`, which is no line of a script: {why}") from None
+            raise Mute(f"it says `{shown(line)}`, which is no line of a script: {why}") from None
         if not isinstance(event, Out) or event.flow.source != self.stranger.host:
-            raise Mute(f"it says `{line}`, and its host is {self.stranger.host}")
+            raise Mute(f"it says `{shown(line)}`, and its host is {self.stranger.host}")
         return self.stranger.net.do(event)
+
+    def log(self) -> str:
+        """The log of the replay in which this host has the lives that its program reports, for the audit."""
+        return log_with_lives(self.stranger.net, str(self.stranger.host), self.happened)
+
+    def lives(self) -> list[str]:
+        """The lives that its program reports, as lines of a log."""
+        return [it for it in self.log().splitlines() if it.startswith(f"life {self.stranger.host} ")]
 
     def turn(self) -> Deed:
         """It takes all that waits for it, and says what it has to say."""
@@ -129,6 +160,8 @@ class Coupled:
             done += [self.ask(it) for step in taken.steps for it in step.texts]
             if taken.refused:
                 break
+            if len(done) > MOST_TAKEN:
+                raise Mute(f"it takes and says more than {MOST_TAKEN:,} things one after the other")
         self.stranger.net.back()  # the taking at which nothing waited
         return together(done)
 

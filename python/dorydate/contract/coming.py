@@ -82,7 +82,7 @@ class Coming(State):
         foreign, own, last = it.numbers
         if own % 2 != (it.code == RTS) or foreign % 2 != (it.code == STR) or last == 0:
             return
-        if it.code == RTS and ignored is None and (last not in LINKS or pair.on(last, False) is not None):
+        if it.code == RTS and ignored is None and self.has_no_use(pair, last):
             pair.unlinked.add((own, foreign))
             return
         end = pair.enter(peer, (own, foreign))
@@ -95,6 +95,12 @@ class Coming(State):
             end.size = last
             end.keep_waiting(last)
         self.may_open(end)
+
+    def has_no_use(self, pair: Pair, link: int) -> bool:
+        """Whether an RTS is ignored for its link, where nobody says: no connection has it, or an end here that has asked.
+        Of an end that hasn't asked nobody knows whether it is about to refuse, and then it has no link."""
+        other = pair.on(link, False)
+        return link not in LINKS or other is not None and other.asked is not None
 
     def closed_by_partner(self, pair: Pair, foreign: int, own: int) -> None:
         end = pair.ends.get((own, foreign))

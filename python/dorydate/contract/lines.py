@@ -93,8 +93,17 @@ class Hearing:
             asks = Asks(words[2], int(words[3]), int(words[4]))
             self.mine[asks.own] = asks
             self.step(place, asks)
-        elif at := self.end_of(int(words[2])):
+        elif (at := self.end_of(int(words[2]))) and self.may_be_done(words[0], at):
             self.step(place, deed(words, at))
+
+    def may_be_done(self, word: str, at: AtEnd) -> bool:
+        """Whether there is an end at which a user may do that; if not, it isn't done, and no rule is broken by it."""
+        end = self.own.pair(at.peer).ends.get(at.sockets)
+        if word == "close":
+            return True
+        if end is None or end.gone or end.receives() is not (word == "grant"):
+            return False
+        return end.asked is not None if word == "grant" else end.opened is not None
 
     def end_of(self, socket: int) -> AtEnd | None:
         """The end of a socket that its user knows, or one that is there."""

@@ -1,4 +1,4 @@
-"""The words of the library's maps. A map is a list of pairs in the order of their keys; a host comes by its IMP, a flow by its source."""
+"""The words of the library's maps. A map is a list of pairs in the order of their keys."""
 
 from __future__ import annotations
 

@@ -31,7 +31,7 @@ BOOK, BOOK_AMONG = (
     "mixed_worlds/src/book.rt",
 )  # what is promised of a book, and of one among strangers
 LEFT = ("value", "lawful")  # their clauses that speak of the world and its programs
-WORDS_FILE = Path(__file__).with_name("words.antt")
+WORDS_FILE = Path(__file__).with_name("words.txt")  # no .antt: the toolchain asks that each is of a crate
 PACKED = Path(__file__).with_name("promised")  # where a release has the files of the definitions
 STACK = 1 << 29  # octets of the thread that judges: definitions go through a log from its end to its beginning
 DEEPEST = 1 << 20

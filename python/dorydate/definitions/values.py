@@ -25,8 +25,8 @@ class Struct:
 
 
 class Lambda:
-    """A function, with the arguments that it has; what opens a call of it, where a definition can be opened; and what it
-    says, where it gives a statement."""
+    """A function, with the arguments that it has; what opens a call of it, where a definition can be opened; and what
+    it says, where it gives a statement."""
 
     __slots__ = ("arity", "run", "before", "opens", "says")
 

@@ -1,4 +1,4 @@
-"""Words of the library, computed at once. `words.antt` defines them, and a test compares the two."""
+"""Words of the library, computed at once. `words.txt` defines them, and a test compares the two."""
 
 from __future__ import annotations
 

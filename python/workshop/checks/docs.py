@@ -35,6 +35,7 @@ import glob
 import io
 import os
 import re
+import subprocess
 import unittest
 from collections.abc import Iterator
 
@@ -44,6 +45,7 @@ from workshop.documents import named_crates, notebook, paragraphs, planted, refe
 from workshop.documents import versions
 from workshop.drawings import pictures
 from workshop.parts import ROOT
+from workshop.rows import row_names
 
 MOST_REACHING = 0  # imports into another crate's proofs/ beside lemmas
 MOST_DEAD = 50  # declarations of proofs/ that nothing leads to that is proved; `python3 python dead` names them
@@ -84,7 +86,7 @@ def stands_on(crate: str) -> list[str]:
 @functools.cache
 def crates_of_tests() -> list[str]:
     """The crates that hold tests only."""
-    return sorted(os.path.basename(it) for it in glob.glob(f"{ROOT}/crates/*_tests"))
+    return sorted(os.path.basename(it) for it in glob.glob(f"{ROOT}/crates/*tests"))
 
 
 @functools.cache
@@ -123,7 +125,7 @@ def names_in(text: str) -> list[str]:
 
 
 def is_row(name: str, crate: str) -> bool:
-    return any(is_known(name, it) for it in (*crates_of_tests(), crate)) or os.path.exists(f"{ROOT}/cases/{name}")
+    return name in row_names() or any(is_known(name, it) for it in (*crates_of_tests(), crate)) or os.path.exists(f"{ROOT}/cases/{name}")
 
 
 def is_planted_bug(name: str, crate: str) -> bool:
@@ -187,6 +189,14 @@ def sources(pattern: str = "crates/*") -> list[str]:
     """The sources of all crates, by their paths."""
     found = glob.glob(f"{ROOT}/{pattern}/**/*.*", recursive=True)
     return sorted(it for it in found if it.endswith((".rt", ".antt")) and "/out/" not in it)
+
+
+def strayed() -> Iterator[str]:
+    """Sources that are in no crate, for which `rt ci` refuses the whole repository."""
+    listed = subprocess.run(["git", "ls-files", "--cached", "--others", "--exclude-standard"], cwd=ROOT, capture_output=True, text=True, check=False)
+    for path in listed.stdout.splitlines():
+        if path.endswith((".rt", ".antt")) and not re.match(r"crates/\w+/(src|specs|proofs)/", path):
+            yield f"{path}: a source outside of a crate's src/, specs/ and proofs/"
 
 
 def reaching() -> Iterator[str]:
@@ -276,7 +286,7 @@ def main() -> int:
         stated.lower()
     if options.write or options.lower:
         return write() if options.write else 0
-    wrong = [*missing_files(), *missing_claims(), *unknown_names(), *unknown_clauses(), *made(), *over_limits()]
+    wrong = [*missing_files(), *strayed(), *missing_claims(), *unknown_names(), *unknown_clauses(), *made(), *over_limits()]
     print(*wrong, sep="\n", end="\n" if wrong else "")
     print(f"check docs: {len(wrong)} wrong" if wrong else "check docs: each link, source, name and number is there, and each count within its limit")
     return 1 if wrong else 0

@@ -1,17 +1,15 @@
-"""A second reader of the promise: its definitions in Agda, all worked rows, and its judge beside the audit (three minutes).
+"""A second reader: definitions in Agda, worked rows, and the judge beside the audit (three minutes): ./check second [LOGS]
 
-Whoever doubts the prover may read the definitions with something else: ./check second [LOGS]
-
-Agda reads the definitions of the promise, with strangers and without, in a mechanical translation, and finds each well typed
-and each recursion ending. It is Debian's `agda-bin`; where there is none, that is said.
+Agda reads the definitions of the promise, with strangers and without, in a mechanical translation, and finds each well
+typed and each recursion ending. It is Debian's `agda-bin`; where there is none, that is said.
 
 The evaluator of `python/dorydate/definitions` knows how definitions compute and how a statement of given values is
-searched, and no rule of the network. It computes the worked rows of all crates, the clauses of functions `worked_..`; those that
-speak of all values of a type are counted. And it judges 1,000 logs, by hand, of the examples and of random books with
-strangers and without, as `--audit` does: each part has to be the same.
+searched, and no rule of the network. It computes the worked rows of all crates, the clauses of functions `worked_..`;
+those that speak of all values of a type are counted. And it judges 1,000 logs, by hand, of the examples and of random
+books with strangers and without, as `--audit` does: each part has to be the same.
 
-./check second --mutants changes each definition of the promise in one word in 20 ways, and prints how many of these changes no row
-notices (an hour; no part of the gate).
+./check second --mutants changes each definition of the promise in one word, in 20 ways, and prints which of these
+changes no row notices (an hour; no part of the gate).
 """
 
 from __future__ import annotations
@@ -40,15 +38,16 @@ def in_agda() -> list[str]:
     both = agda.written(judge, [BOOK, BOOK_AMONG], "Promise")
     owed = len(believed.reading()[1].definitions)
     wrong = [] if of_page == owed else [f"{of_page} definitions are written of the promise, and its page has {owed}"]
-    told = f"{of_page} definitions of the promise, {both.definitions} with those among strangers, and {both.types} types of Rust"
+    all_ = f"{both.definitions} with those among strangers, and {both.types} types of Rust"
+    what = f"{of_page} definitions of the promise, {all_}"
     if not shutil.which("agda"):
         print(
-            f"check second: agda is not installed, so it did not read the {told} (apt-get install agda-bin)", flush=True
+            f"check second: agda is not installed, so it did not read the {what} (apt-get install agda-bin)", flush=True
         )
         return wrong
     said = agda.said_of(both, "Promise")
     print(
-        f"check second: Agda: {told}: {'refused' if said else 'each is well typed, and each recursion ends'}",
+        f"check second: Agda: {what}: {'refused' if said else 'each is well typed, and each recursion ends'}",
         flush=True,
     )
     return wrong + ([f"Agda: {said[:2000]}"] if said else [])

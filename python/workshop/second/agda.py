@@ -1,7 +1,7 @@
 """Writes definitions as Agda, which then finds each well typed and each recursion ending.
 
-The translation is mechanical, definition by definition, each after those that it uses. A product of many parts is nested
-from its fourth part on. A type of Rust is the Value of its Model, or its fields or variants; one whose Value no file of
+The translation is mechanical, definition by definition, each after those that it uses. A product of many parts is
+nested from its fourth part on. A type of Rust is the Value of its Model, or its fields or variants; one whose Value no file of
 definitions says plainly is a parameter of the module, of which nothing is known.
 """
 
@@ -365,7 +365,8 @@ class Writer:
         if isinstance(term, Implicit):
             return f"{{{mangled(term.name or '')} = {self.pattern(term.term, module, local)}}}"
         if isinstance(term, Apply):
-            return f"({self.term(term.function, module, frozenset())} {' '.join(self.pattern(it, module, local) for it in term.given)})"
+            parts = [self.pattern(it, module, local) for it in term.given]
+            return f"({' '.join([self.term(term.function, module, frozenset()), *parts])})"
         if isinstance(term, Operation):
             return f"({self.pattern(term.left, module, local)} {term.word} {self.pattern(term.right, module, local)})"
         if isinstance(term, Tuple):

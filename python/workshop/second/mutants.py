@@ -126,7 +126,7 @@ def as_term(term: object) -> Term:
 
 
 def spread(all_: list[Change], most: int) -> list[Change]:
-    """At most so many of these, from all parts of them."""
+    """Some of these, from all parts of them."""
     return all_ if len(all_) <= most else [all_[at * len(all_) // most] for at in range(most)]
 
 

@@ -19,7 +19,10 @@ from dorydate.definitions.terms import Term
 from workshop.parts import ROOT, text_of
 
 CRATES = f"{ROOT}/crates"
-OTHERS = Path(__file__).with_name("others")  # what crates of the toolchain define that rows speak of
+OTHERS = {
+    "hex/specs/Hex.antt": "hex.txt",
+    "toml/specs/Data.antt": "toml.txt",
+}  # what rows name of the toolchain's crates
 WORKED = ("worked_", "unsafe_")
 GENERIC = ("C",)  # what a generic function is about
 
@@ -41,8 +44,8 @@ class Row:
 
 def sources() -> Sources:
     """The files of the repository, and those that state words of other crates."""
-    own, others = sources_below(Path(CRATES)), sources_below(OTHERS)
-    return lambda path: own(path) if (found := others(path)) is None or path == "words.antt" else found
+    own = sources_below(Path(CRATES))
+    return lambda path: text_of(str(Path(__file__).with_name(OTHERS[path]))) if path in OTHERS else own(path)
 
 
 def files() -> list[str]:
