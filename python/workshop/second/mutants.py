@@ -12,7 +12,7 @@ from dorydate.definitions.files import Definition, Structure
 from dorydate.definitions.library import WORDS, Defined, Library, Typed
 from dorydate.definitions.promise import BOOK, Judge
 from dorydate.definitions.reach import Reach, meanings_in, terms_of
-from dorydate.definitions.terms import Field, If, Name, Number, Operation, Term
+from dorydate.definitions.terms import Field, If, Implicit, Name, Number, Operation, Term
 from workshop.second.rows import Row, computed, files, rows_of, sources
 
 MOST_ROWS = 60  # that are tried of each definition: those that lead to the fewest others
@@ -86,8 +86,24 @@ class Change:
     item: Union[Definition, Structure]
 
 
+LOCAL = {"own", "partner", "foreign", "from", "to", "a", "b", "receiver", "sender", "mine", "yours", "h", "peer", "server", "user"}
+
+
+def names_in(term: object) -> set[str]:
+    """The names in a term, and those that its binders give."""
+    if isinstance(term, Name):
+        return {term.text}
+    if isinstance(term, str):
+        return {term}
+    if isinstance(term, tuple):
+        return {name for it in term for name in names_in(it)}
+    return names_in(tuple(vars(term).values())) if dataclasses.is_dataclass(term) else set()
+
+
 def changed(term: object) -> Iterator[tuple[str, object]]:
     """A term with one word changed, in each way, with what that is."""
+    if isinstance(term, Implicit):
+        return
     if isinstance(term, Name) and term.text in NAMES:
         yield f"{term.text} → {NAMES[term.text]}", Name(NAMES[term.text])
     elif isinstance(term, Number):
@@ -107,16 +123,24 @@ def changed(term: object) -> Iterator[tuple[str, object]]:
                 yield what, replace(term, **{one.name: other})
 
 
+def in_scope(term: object, known: set[str]) -> Iterator[tuple[str, object]]:
+    """The changes of a term that name nothing unknown."""
+    for what, other in changed(term):
+        if not names_in(other) & LOCAL - known:
+            yield what, other
+
+
 def changes(key: Key, item: Definition | Structure) -> Iterator[Change]:
     """The changes of a definition: of the values of its clauses, or of what its fields say."""
+    known = names_in(terms_of(item))
     if isinstance(item, Structure):
         for at, member in enumerate(item.members):
-            for what, type_ in changed(member.type):
+            for what, type_ in in_scope(member.type, known):
                 members = (*item.members[:at], replace(member, type=as_term(type_)), *item.members[at + 1 :])
                 yield Change(key, f"{member.name}: {what}", replace(item, members=members))
         return
     for at, clause in enumerate(item.clauses):
-        for what, value in changed(clause.value):
+        for what, value in in_scope(clause.value, names_in((clause.patterns, clause.value))):
             clauses = [*item.clauses[:at], replace(clause, value=as_term(value)), *item.clauses[at + 1 :]]
             yield Change(key, f"clause {at + 1}: {what}", replace(item, clauses=clauses))
 
