@@ -41,12 +41,12 @@ class Marked:
     events: Sequence[bytes]
     mark: bytes | None
 
-    def parts(self) -> Iterator[Part]:
-        """All events in parts, of which each has as many as have room with a mark after each of them but the last."""
+    def parts(self, most: int = MOST_OCTETS) -> Iterator[Part]:
+        """All events in parts, of which each has as many as have room in this many octets with a mark after each of them but the last."""
         begin, before = 0, len(self.topology) + 3
         while begin < len(self.events):
             end, octets = begin + 1, before + len(self.events[begin]) + 1
-            while self.mark and end < len(self.events) and octets + len(self.mark) + len(self.events[end]) + 2 <= MOST_OCTETS:
+            while self.mark and end < len(self.events) and octets + len(self.mark) + len(self.events[end]) + 2 <= most:
                 octets += len(self.mark) + len(self.events[end]) + 2
                 end += 1
             yield Part(begin, end)

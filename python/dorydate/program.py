@@ -11,7 +11,7 @@ from dataclasses import dataclass
 
 SECONDS = 60.0  # so long may a run take where nothing else is said
 UNLIMITED = 1e7  # seconds, which no run takes
-MOST_OCTETS = 1_048_576  # of an input
+MOST_OCTETS = 268_435_456  # of an input
 
 
 class NoProgram(Exception):

@@ -10,6 +10,7 @@ import io
 import os
 import socket
 import tempfile
+import time
 import unittest
 from collections.abc import Awaitable, Callable
 from pathlib import Path
@@ -20,9 +21,13 @@ from dorydate.live import command
 from dorydate.live.command import opened, parser, serve
 from dorydate.live.engine import Ended
 from dorydate.live.frames import LAST, READY, Frame
+from dorydate.live.gateway import Gateway
+from dorydate.live.interface import Allowance, Interface
 from dorydate.live.record import Record, read
+from dorydate.live.session import Session, Wish
+from dorydate.network import Host
 from dorydate.replay import output_of
-from dorydate.script import octets_of
+from dorydate.script import octets_of, read_event
 from dorydate.where import found
 
 THREE = """[[imp]]
@@ -46,6 +51,10 @@ b = 3
 PACKED = """<html><meta charset="utf-8"><meta content="default-src 'none'; base-uri 'none'"></html>"""
 RST, RRP = bytes.fromhex("00080001000C"), bytes.fromhex("00080001000D")
 TO_HERE = bytes.fromhex("00010000")
+
+
+class Killed(BaseException):
+    """As a kill: nothing comes after it."""
 
 
 def free_port() -> int:
@@ -223,6 +232,72 @@ class Live(unittest.TestCase):
         with mock.patch("os.write", half), self.assertRaisesRegex(Ended, "No space left"):
             record.say("something")
         self.assertEqual((self.folder / "other" / "script").read_bytes(), before)
+
+    def rounds(self, folder: str, resumed: bool = False) -> tuple[Session, Gateway]:
+        """A session without a wire."""
+        asked = ["--record", str(self.folder / folder)]
+        asked += ["--resume", str(self.folder / folder)] if resumed else [str(self.folder / "three")]
+        session = opened(parser().parse_args(asked))
+        session.say = session.record.say
+        return session, Gateway(session)
+
+    def test_a_kill_at_each_write(self) -> None:
+        """Whatever was written last, what was printed is a prefix of the replay, and the session continues there."""
+        real, left = os.write, 0
+
+        def until_a_kill(file: int, octets: bytes) -> int:
+            nonlocal left
+            left -= 1
+            if left < 0:
+                real(file, octets[: len(octets) // 2])
+                raise Killed
+            return real(file, octets)
+
+        for writes in range(4, 12):
+            folder, left = f"killed-{writes}", writes
+            with mock.patch("os.write", until_a_kill), self.assertRaises(Killed):
+                session, gateway = self.rounds(folder)
+                gateway.begin()
+                for line in ("hostup 0/2", "contact 0/1 0/2", "calm 1", "take 0/2", "calm 2", "take 0/2", "calm 3"):
+                    session.happen([Wish(read_event(line))])
+            printed = (self.folder / folder / "printed").read_text()
+            again, _ = self.rounds(folder, resumed=True)
+            script = (self.folder / folder / "script").read_bytes()
+            whole = output_of(found(), script).removesuffix("end\n")
+            self.assertTrue(whole.startswith(printed))
+            self.assertEqual((self.folder / folder / "printed").read_text(), whole)
+            again.happen([Wish(read_event("calm 1"))])
+            self.assertTrue((self.folder / folder / "script").read_bytes().startswith(script))
+
+    def test_a_ready_line_that_flaps(self) -> None:
+        session, gateway = self.rounds("flaps")
+        gateway.begin()
+        interface = Interface(session, Host(0, 3), gateway.wake)
+        gateway.parts.append(interface)
+        sent: list[bytes] = []
+        wire = mock.Mock(send=lambda words, ready=True: sent.append(words), has_room=lambda: True, where=lambda: "udp")
+        for _ in range(20):
+            interface.comes(wire)
+            gateway.round()
+            interface.goes("it says so")
+            gateway.round()
+        script = (self.folder / "flaps" / "script").read_text()
+        self.assertLessEqual(script.count("\nhostup 0/3") + script.count("\nhostdown 0/3"), 1 + 4 + 5)
+        self.assertGreaterEqual(script.count("\nhostup 0/3"), 2)
+
+    def test_a_host_that_is_silent_and_one_that_floods(self) -> None:
+        session, gateway = self.rounds("silent")
+        gateway.begin()
+        interface = Interface(session, Host(0, 3), gateway.wake, silence=0.01)
+        gateway.parts.append(interface)
+        interface.comes(mock.Mock(has_room=lambda: True, where=lambda: "udp"))
+        gateway.round()
+        time.sleep(0.05)
+        gateway.round()
+        script = (self.folder / "silent" / "script").read_text()
+        self.assertIn("0/3 is gone: it has said nothing for 0.01 seconds", script)
+        allowance = Allowance(2, 0)
+        self.assertEqual([allowance.take() for _ in range(4)], [True, True, False, False])
 
     def test_what_a_session_is_asked_for(self) -> None:
         (self.folder / "plain").write_text('carrier = "plain"\n[[imp]]\nid = 1\nhosts = 2\n')

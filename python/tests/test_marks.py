@@ -5,7 +5,6 @@ from __future__ import annotations
 import unittest
 
 from dorydate.marks import Marked, Part, Unmarked, each_printed, mark_for, printed_in
-from dorydate.program import MOST_OCTETS
 
 NOTHING: list[str] = []
 MARK = ["refused NoSuch", "refused NotOutstanding"]
@@ -47,11 +46,11 @@ class Marks(unittest.TestCase):
     def test_a_script_without_room_is_run_on_first_parts(self) -> None:
         events = [f"take 0/{1 + place % 9}".encode() for place in range(116_000)]
         marked = Marked(b"x" * 100, events, mark_for(["0/1"], events))
-        parts = [*marked.parts()]
+        parts = [*marked.parts(1_048_576)]
         self.assertEqual([it.begin for it in parts], [0, *(it.end for it in parts[:-1])])
         self.assertEqual(parts[-1].end, len(events))
         self.assertLess(len(parts), 60)
-        self.assertTrue(all(len(marked.input(it)) <= MOST_OCTETS for it in parts))
+        self.assertTrue(all(len(marked.input(it)) <= 1_048_576 for it in parts))
 
     def test_parts_are_put_together(self) -> None:
         first, second = ["one", *MARK, "end"], ["one", "two", *MARK, "three", "end"]

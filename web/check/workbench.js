@@ -20,7 +20,18 @@ const SIZES = /** @type {[number, number][]} */ (
 );
 const LARGE = /** @type {[number, number][]} */ ([[1280, 800], [360, 740]]);
 const LARGER = /** @type {[number, number][]} */ ([[1024, 768], WIDE]);
-const MOST_OCTETS = 1_000_000;
+const MOST_OCTETS = 1_050_000;
+/** The sizes at which maps are read, and the maps. */
+const READ_AT = /** @type {[number, number][]} */ ([[1280, 800], [1440, 900], [1920, 1080], [390, 844], [740, 360], [1024, 768]]);
+const MAPS = [
+    "arpanet-of-december-1969",
+    "arpanet-of-december-1970",
+    "arpanet-of-april-1971",
+    "arpanet-of-august-1972",
+    "arpanet-of-september-1973",
+    "arpanet-of-july-1977",
+    "reassembly-lockup",
+];
 const SHOWN = [
     "lo-of-login",
     "arpanet-of-december-1969",
@@ -119,7 +130,11 @@ function messageOnEachLink() {
 }
 
 /** What trials are given, by their names. */
-const GIVEN = /** @type {{[name: string]: () => string}} */ ({ large: largeNetwork, linked: messageOnEachLink });
+const GIVEN = /** @type {{[name: string]: () => string}} */ ({
+    large: largeNetwork,
+    legible: () => "arpanet-of-july-1977",
+    linked: messageOnEachLink,
+});
 
 /**
  * A fault for the page.
@@ -197,8 +212,8 @@ const PLANTED = /** @type {Planted[]} */ ([
     },
     {
         what: "a zoom that loses labels",
-        from: 'element.classList.toggle("folded", !shown[place]);',
-        to: 'element.classList.toggle("folded", !shown[place] || this.port.scale > 1.5);',
+        from: 'element.classList.toggle("folded", !put);',
+        to: 'element.classList.toggle("folded", !put || this.port.scale > 1.5);',
         by: "large",
         words: "labels are left out from near",
     },
@@ -220,25 +235,31 @@ const PLANTED = /** @type {Planted[]} */ ([
     },
     {
         what: "lines side by side that are not folded",
-        from: "const NEAR = 24;",
+        from: "const NEAR = 14;",
         to: "const NEAR = 0;",
         by: "bundles",
         words: "lines are folded",
     },
     {
-        what: "IMPs beyond the edge that are heaped at it",
-        from: "shown[place] && x >= left && x <= left + width",
-        to: "shown[place]",
-        by: "bundles",
-        size: [390, 844],
-        words: "are on others from near",
+        what: "names that are put on others",
+        from: "put.every((it) => !meet(rect, it, GAP))",
+        to: "true",
+        by: "legible",
+        words: "lies on",
     },
     {
-        what: "labels that shrink with the map",
-        from: "Math.max(1, LEAST_LETTERS / letters)",
-        to: "1",
-        by: "large",
-        words: "pixels high",
+        what: "letters that shrink with the map",
+        from: "const unit = frame.unit * grown;",
+        to: "const unit = 0.8 * frame.unit * grown;",
+        by: "legible",
+        words: "letters of",
+    },
+    {
+        what: "sites of the lesson that have no weight on the map",
+        from: "this.named.has(number) ? 16 : 0",
+        to: "this.named.has(number) ? -16 : 0",
+        by: "legible",
+        words: "has no name on the map",
     },
     {
         what: "buttons that do not fit",
@@ -447,7 +468,7 @@ async function whole(browser, address) {
         steps += await browser.evaluate('return Number(document.getElementById("slider").max);');
     }
     const { keys, tapped, holding, distances, compared, printed, hidden, typed, measured, contrast } = trials;
-    const { booked, bundles, followed, happening, judged, large, linked, named, reached, sending, touched, unopened } = trials;
+    const { booked, bundles, followed, happening, judged, large, legible, linked, named, reached, sending, touched, unopened } = trials;
     for (const size of LARGE) {
         await browser.resize(...size);
         wrong.push(...(await trial(browser, [large, largeNetwork()], [followed], [bundles])));
@@ -486,6 +507,11 @@ async function whole(browser, address) {
             await trial(browser, [table, "waits"]);
             places += 1;
         }
+    }
+    for (const [width, height] of READ_AT) {
+        await browser.resize(width, height);
+        const found = await trial(browser, ...MAPS.map((name) => /** @type {[Trial, any?]} */ ([legible, name])));
+        wrong.push(...found.map((it) => `${it}, at ${width} by ${height}`));
     }
     for (const [width, height] of LARGER) {
         await browser.resize(width, height);

@@ -8,7 +8,7 @@
  * When a run is ended from outside.
  *
  * @typedef {object} Limits
- * @property {number} seconds how long a run may take, in seconds
+ * @property {number} seconds how long a run may take, in seconds; one that is listened to, how long it may say nothing
  * @property {number} octets how many octets a run may write, standard output and standard error together
  */
 
@@ -111,9 +111,17 @@ export function makeRunner(module, spawn) {
             const done = [];
             /** @type {Uint8Array[][]} */
             let written = [[], [], []];
-            const timer = setTimeout(() => end("time"), limits.seconds * 1000);
+            let timer = setTimeout(late, limits.seconds * 1000);
+            let isHeard = false;
             const stop = () => end("stopped");
             stops.add(stop);
+
+            /** A run that is listened to is only late where it says nothing, so that no slow machine cuts one that goes on. */
+            function late() {
+                if (!isHeard) return end("time");
+                isHeard = false;
+                timer = setTimeout(late, limits.seconds * 1000);
+            }
 
             function leave() {
                 clearTimeout(timer);
@@ -146,6 +154,7 @@ export function makeRunner(module, spawn) {
             worker.onmessage = ({ data }) => {
                 /** @type {Said} */
                 const said = data;
+                isHeard ||= heard !== undefined && "octets" in said;
                 if ("octets" in said && said.descriptor === 1 && heard) heard(said.octets);
                 else if ("octets" in said) written[said.descriptor].push(said.octets);
                 else if ("full" in said) end("output");

@@ -1,5 +1,6 @@
 /** The workbench: one script, its replay, and the step at which one is. */
 
+import { TABLE } from "../../python/dorydate/sentences/table.mjs";
 import { chartOf } from "./chart.js";
 import { arrangement } from "./arrangement.js";
 import { addedLines, goOn } from "./edits.js";
@@ -10,32 +11,37 @@ import { stopsOfFlow, stopsWith } from "./follow.js";
 import { keepText, storedText } from "./kept.js";
 import { Past } from "./past.js";
 import { isReplay, LIMITS, replay } from "./runs.js";
-import { headComment, notesOf, readInput } from "./script.js";
-import { CUT, fragment, noLesson, placeIn } from "./share.js";
+import { impsNamed, notesOf, readInput } from "./script.js";
+import { CUT, noLesson, placeIn } from "./share.js";
 import { stopAt, stopsOf } from "./stops.js";
 import { Talk } from "./talk.js";
 import { messageName, waitsOf } from "./waits.js";
 import { tripsOf } from "./trips.js";
 import { nextFollowed, nextFound, nextLine, nextRefusal, questionAt } from "./walk.js";
 import { Compare } from "./view/compare.js";
+import { Doors } from "./view/doors.js";
 import { makeBorder } from "./view/borders.js";
 import { byId, h, say, set } from "./view/dom.js";
 import { Editor } from "./view/editor.js";
-import { saveText, textOfFile } from "./view/files.js";
+import { textOfFile } from "./view/files.js";
 import { drawFoot, drawSentence, drawTabs, fillLists, TABS } from "./view/frame.js";
-import { fillHandout } from "./view/handout.js";
+import { travel } from "./view/frames.js";
 import { Hands } from "./view/hands.js";
 import { Index } from "./view/index.js";
+import { drawGoal } from "./view/goal.js";
+import { drawLegend } from "./view/legend.js";
 import { listenToKeys } from "./view/keys.js";
 import { MapView } from "./view/map.js";
 import { Toast } from "./view/menu.js";
 import { Next } from "./view/next.js";
+import { Pack } from "./view/pack.js";
 import { Panes } from "./view/panes.js";
 import { Player } from "./view/player.js";
 import { BookView } from "./view/book.js";
 import { Printed } from "./view/printed.js";
 import { SheetView } from "./view/sheet.js";
 import { Taps } from "./view/taps.js";
+import { Terms } from "./view/terms.js";
 
 /** @typedef {import("../run/runner.js").Runner} Runner */
 /** @typedef {import("./stops.js").Grain} Grain */
@@ -43,8 +49,10 @@ import { Taps } from "./view/taps.js";
 /** @typedef {import("./choices.js").Part} Part */
 /** @typedef {import("./script.js").Note} Note */
 /** @typedef {import("./past.js").Kept} Kept */
-/** @typedef {{name: string, title: string, group: string, text: string}} Example */
+/** @typedef {{name: string, title: string, group: string, text: string, at?: number}} Example */
 
+const FIRST = "lo-of-login"; // what a first visit sees
+const ROOMY = 1560; // pixels of plain letters from which what can happen next has a place beside the map
 const SLOW = 300; // milliseconds of a run after which the page says that it runs
 const TYPED = 350; // milliseconds after the last key until what was typed is run
 
@@ -97,8 +105,9 @@ export class Workbench {
      * @param {Runner} runner
      * @param {Example[]} examples
      * @param {import("./chronology.js").Chronology} years
+     * @param {import("./view/saving.js").Source} source
      */
-    constructor(runner, examples, years) {
+    constructor(runner, examples, years, source) {
         this.runner = runner;
         this.examples = examples;
         const go = (/** @type {number} */ position) => this.go(position);
@@ -129,13 +138,42 @@ export class Workbench {
                 return this.asking === null;
             },
             pace: () => Number(/** @type {HTMLSelectElement} */ (byId("pace")).value),
-            show: (playing) => say(byId("play"), playing ? "Pause" : "Play"),
+            show: (playing) => this.showPlaying(playing),
         });
+        this.doors = new Doors((door) => void this.enter(door));
+        this.terms = new Terms();
+        this.pack = new Pack(this, source);
         fillLists(examples, (tab) => this.openTab(tab));
         this.listen();
     }
 
     // ---- the frame
+
+    /**
+     * A door of a first visit is opened.
+     *
+     * @param {import("./view/doors.js").Door} door
+     */
+    async enter(door) {
+        const lesson = { watch: "lo-of-login", break: "arpanet-of-december-1969", solve: "exercise-an-rfnm" }[door];
+        if (this.example !== lesson) await this.load(lesson);
+        this.doors.show(false);
+        if (door === "watch") this.player.toggle();
+        if (door === "solve") this.tab = "next";
+        byId("network").classList.toggle("hinted", door === "break");
+        this.draw();
+        if (door === "break") this.toast.show(TABLE.doors["tap a line"], null, true);
+        if (door === "solve") this.toast.show(TABLE.doors.task, null);
+        byId(door === "watch" ? "play" : "network").focus();
+    }
+
+    /** @param {boolean} playing */
+    showPlaying(playing) {
+        const [sign, words] = byId("play").children;
+        say(words, playing ? "Pause" : "Play");
+        set(sign.children[0], { d: playing ? "M4 2.5h3v11H4zM9 2.5h3v11H9z" : "M4 2.5v11l9.5-5.5z" });
+        this.draw();
+    }
 
     listen() {
         /** @type {{[id: string]: () => void}} */
@@ -150,14 +188,12 @@ export class Workbench {
             edit: () => this.edit(byId("editor").hidden),
             hide: () => this.hide(),
             larger: () => this.larger(),
-            share: () => void this.share(),
-            save: () => saveText(this.text, `${this.example || "script"}.txt`),
+            ...this.pack.presses(),
             open: () => byId("file").click(),
             lessons: () => this.index.open(),
             round: () => void this.change(["calm 1"], "A round passes"),
             rounds: () => void this.change(["calm 3"], "Three rounds pass"),
             stop: () => this.runner.stop(),
-            print: () => window.print(),
             nearer: () => this.map?.zoom(1.4),
             farther: () => this.map?.zoom(1 / 1.4),
             whole: () => this.wholeMap(),
@@ -179,8 +215,8 @@ export class Workbench {
         makeBorder("split-x", "x", () => this.draw());
         makeBorder("split-y", "y", () => this.draw());
         window.addEventListener("hashchange", () => void this.fromAddress());
-        window.addEventListener("beforeprint", () => this.print());
-        window.addEventListener("afterprint", () => byId("handout").replaceChildren());
+        window.addEventListener("beforeprint", () => this.pack.print());
+        window.addEventListener("afterprint", () => this.pack.printed());
         window.addEventListener("resize", () => this.arrange());
         this.arrange();
     }
@@ -191,8 +227,12 @@ export class Workbench {
         const scale = 16 / parseFloat(getComputedStyle(root).fontSize);
         const { layout, isLow } = arrangement(root.clientWidth * scale, root.clientHeight * scale);
         root.dataset.layout = layout;
+        root.toggleAttribute("data-slim", layout !== "wide");
         root.toggleAttribute("data-low", isLow);
         root.toggleAttribute("data-tight", root.clientWidth * scale < 1340);
+        root.toggleAttribute("data-roomy", layout === "wide" && root.clientWidth * scale >= ROOMY);
+        byId("beside").hidden = !root.hasAttribute("data-roomy");
+        this.map?.see();
         this.draw();
     }
 
@@ -201,13 +241,6 @@ export class Workbench {
         const isWhole = document.documentElement.toggleAttribute("data-whole");
         set(byId("whole"), { "aria-pressed": String(isWhole) });
         this.draw();
-    }
-
-    /** Fills the sheets of paper: the list of lessons if it is open, else the handout of the script. */
-    print() {
-        if (this.index.isOpen()) return byId("handout").replaceChildren(this.index.forPaper());
-        if (!this.history) return;
-        fillHandout(byId("handout"), this.history, this.title(), headComment(this.history.replay.input));
     }
 
     /** @param {string} name */
@@ -222,7 +255,13 @@ export class Workbench {
 
     /** The tab that is shown: where the script has a place of its own, there is no tab for it. */
     shownTab() {
-        return this.tab === "script" && this.isWide() ? "waits" : this.tab;
+        const isBeside = (this.tab === "script" && this.isWide()) || (this.tab === "next" && this.isRoomy());
+        return isBeside ? "waits" : this.tab;
+    }
+
+    /** Whether what can happen next has a place of its own. */
+    isRoomy() {
+        return document.documentElement.hasAttribute("data-roomy");
     }
 
     title() {
@@ -244,8 +283,15 @@ export class Workbench {
         if (kept) {
             this.example = kept.example;
             this.origin = this.examples.find((it) => it.name === kept.example)?.text ?? kept.text;
+            this.doors.show(kept.example === FIRST && kept.text === this.origin && !this.why);
             await this.show(kept.text, 0);
-        } else if (this.examples.length) await this.load(this.examples[0].name);
+        } else if (this.examples.length && !this.examples.some((it) => it.name === FIRST)) await this.load(this.examples[0].name);
+        else if (this.examples.length) {
+            const opens = beside[0]?.name ?? FIRST;
+            this.doors.show(opens === FIRST && !this.why);
+            await this.load(opens);
+            if (beside[0]?.at) this.goStop(beside[0].at);
+        }
         if (!kept && beside.length > 1) this.compareWith(beside[1]);
     }
 
@@ -384,10 +430,7 @@ export class Workbench {
         if (!this.history) return;
         const { isReached, text } = await judged(this.runner.batch, this.history.replay.input);
         if (run !== this.runs) return;
-        const goal = byId("goal");
-        goal.hidden = text === "";
-        say(goal, text);
-        goal.classList.toggle("reached", isReached);
+        drawGoal({ isReached, text }, this.history.replay.input, this.example);
     }
 
     /**
@@ -429,6 +472,8 @@ export class Workbench {
             this.map = new MapView(this.network, network, (part, element) => this.taps.tapped(part, element));
             this.topology = topology;
         }
+        drawLegend(network);
+        this.map.name(impsNamed(input.events.map((it) => it.words)));
         if (!network.sites.some((site) => site.number === this.to)) this.to = 0;
         this.talk = new Talk(this.history.replay);
         this.earlier = new Talk(this.history.replay);
@@ -460,6 +505,7 @@ export class Workbench {
     /** @param {number} position */
     go(position) {
         this.position = position;
+        if (position) this.doors.show(false);
         this.asking = null;
         this.draw();
     }
@@ -560,7 +606,7 @@ export class Workbench {
         const trips = tripsOf(this.history, stop);
         const each = Math.max(160, Math.min(420, (0.8 * pace) / Math.max(1, Math.min(trips.length, 4))));
         const gap = trips.length > 1 ? (0.8 * pace - each) / (trips.length - 1) : 0;
-        trips.forEach(({ line, from, frame }, at) => this.map?.travel(line, from, frame, each, Math.max(0, gap * at)));
+        trips.forEach(({ line, from, frame }, at) => this.map && travel(this.map, line, from, frame, each, Math.max(0, gap * at)));
     }
 
     // ---- changes
@@ -582,6 +628,7 @@ export class Workbench {
         const edit = goOn(this.history, this.position, lines, this.taps.cutOff);
         if (!(await this.show(edit.text, edit.position))) return;
         this.past.add(before);
+        byId("network").classList.remove("hinted");
         const { moments, input } = this.history.replay;
         const isAdded = (/** @type {number} */ event) => input.events[event].line < edit.line + edit.added;
         const last = moments.reduce((end, { event }, at) => (isAdded(event) ? at + 1 : end), edit.position);
@@ -670,21 +717,6 @@ export class Workbench {
 
     // ---- to others
 
-    async share() {
-        const isExample = this.text === this.examples.find((it) => it.name === this.example)?.text;
-        const { grain, hidden, to } = this;
-        const what = isExample ? { example: this.example } : { text: this.text };
-        history.replaceState(null, "", await fragment({ ...what, at: this.at(), grain, hidden, to }));
-        const address = window.location.href;
-        const size = `${address.length} characters`;
-        try {
-            await navigator.clipboard.writeText(address);
-            this.toast.show(`The address is copied: ${size}. It has the script and this step.`, null);
-        } catch {
-            this.toast.show(`The address in the browser's bar has the script and this step: ${size}.`, null);
-        }
-    }
-
     async openFile() {
         const file = /** @type {HTMLInputElement} */ (byId("file")).files?.[0];
         if (!file) return;
@@ -716,8 +748,10 @@ export class Workbench {
         const waits = waitsOf(state, talk);
         const { notes, asking, asked } = this;
         const next = () => this.step(1);
-        drawSentence({ history, stops, at, notes, asking, asked, hidden, title: this.title(), next });
-        drawFoot(stops, at, hidden, { undo: this.past.done.length > 0, redo: this.past.undone.length > 0 });
+        const first = this.doors.isShown() ? TABLE.doors.first : "";
+        drawSentence({ history, stops, at, notes, asking, asked, hidden, title: this.title(), first, next });
+        const can = { undo: this.past.done.length > 0, redo: this.past.undone.length > 0 };
+        drawFoot(stops, at, hidden, can, history.rounds[position]);
         this.map?.draw({ state, talk, to });
         const name = this.shownTab();
         drawTabs(name, waits.length, waits.some((it) => it.bad));
@@ -733,6 +767,7 @@ export class Workbench {
             const earlier = before && name === "hosts" ? (this.earlier?.goTo(from) ?? null) : null;
             this.panes.draw(name, { history, position, state, before, talk, earlier, waits, to, hidden });
         }
+        if (this.isRoomy() && !this.player.timer) this.next.draw(byId("beside-pane"));
         this.compare.showMap(name === "compare");
         document.title = `${this.title()} – Dorydate`;
     }

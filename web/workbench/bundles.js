@@ -4,7 +4,7 @@
 /** @typedef {{ends: [Point, Point], isBusy: boolean}} Course a line's two ends, and whether it has to be seen by itself */
 
 /** How far apart, in pixels, the ends of two lines may be that are drawn as one. */
-const NEAR = 24;
+const NEAR = 14;
 
 /**
  * For each line the one as which it is drawn: itself, or an earlier one that runs beside it.

@@ -30,7 +30,7 @@ import { isOfHost, isQuiet, put, REST, TraceReader } from "./trace.js";
 /** @typedef {{text: string, step: number, quiet: boolean}} Line */
 
 /** The most octets of an input that the program reads. */
-const MOST_OCTETS = 1_048_576;
+const MOST_OCTETS = 268_435_456;
 
 /** Of how many moments a replay may be, and from how many on the uneventful ones of its rounds are joined. */
 const [MOST_MOMENTS, MOST_SPELLED] = [60_000, 20_000];

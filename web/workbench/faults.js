@@ -8,7 +8,7 @@ import { filled, joinedWords } from "./words.js";
 /** @typedef {import("./runs.js").Refusal} Refusal */
 /** @typedef {import("./script.js").Input} Input */
 
-const [MOST_OCTETS, MOST_IMPS, MOST_LINES] = [1_048_576, 63, 5];
+const [MOST_OCTETS, MOST_IMPS, MOST_LINES] = [268_435_456, 63, 5];
 const FAULTS = /** @type {{[name: string]: string}} */ (TABLE.faults);
 const TOPOLOGIES = /** @type {{[name: string]: string}} */ (TABLE.topologies);
 
@@ -48,7 +48,7 @@ export function faultOf({ input, said, status }) {
             line: input.head.length + 1 + number,
         };
     }
-    if (said.includes("bad topology")) return wrongTopology(input) ?? NOT_FOUND;
+    if (/bad topology|input too long/.test(said)) return wrongTopology(input) ?? NOT_FOUND;
     return {
         text: said.trim().replace(/^arpasim: /, "The program says: ") || `The program ended with status ${status}.`,
         line: 0,

@@ -27,6 +27,8 @@ export class History {
         this.notes = [];
         /** @type {{[name: string]: Part}[]} */
         this.kept = [];
+        /** @type {number[]} how many rounds have passed at each position */
+        this.rounds = [0];
         this.fold();
     }
 
@@ -54,6 +56,7 @@ export class History {
             if (left.length % KEPT_EVERY === 0) this.kept.push({ ...after.parts });
         }
         this.replay.moments = left;
+        left.forEach((moment, at) => this.rounds.push(this.rounds[at] + roundsBetween(left[at - 1], moment)));
     }
 
     /**
@@ -141,4 +144,14 @@ export class Accepted {
             else for (const key of keys) if (isOfImp(key)) keys.delete(key);
         }
     }
+}
+
+/**
+ * How many rounds pass until a moment, from the one before.
+ *
+ * @param {Moment | undefined} before
+ * @param {Moment} moment
+ */
+function roundsBetween(before, { event, round }) {
+    return before?.event === event ? Math.max(0, round - before.round) : round;
 }

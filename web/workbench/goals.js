@@ -3,6 +3,7 @@
  *
  *     # Goal: in A B N .. then answer incomplete A B N
  *     # Shortest known: 7 events
+ *     # Hint: cut the line before the answer is through
  */
 
 import { TABLE } from "../../python/dorydate/sentences/table.mjs";
@@ -13,9 +14,10 @@ import { filled } from "./words.js";
 /** @typedef {import("../run/runner.js").Runner} Runner */
 /** @typedef {import("./script.js").Input} Input */
 
-/** @typedef {{pattern: string, shortest: number}} Goal the shortest is 0 where none is known */
+/** @typedef {{pattern: string, shortest: number, hint: string}} Goal the shortest is 0 where none is known, the hint "" where there is none */
 
 const GOAL = /^#\s*Goal:\s*(.+)$/;
+const HINT = /^#\s*Hint:\s*(.+)$/;
 const SHORTEST = /^#\s*Shortest known:\s*(\d+) events?\.?$/;
 
 /**
@@ -27,7 +29,8 @@ const SHORTEST = /^#\s*Shortest known:\s*(\d+) events?\.?$/;
 export function goalOf({ head }) {
     const of = (/** @type {RegExp} */ form) => head.map((line) => form.exec(line)?.[1]).find((it) => it !== undefined);
     const pattern = of(GOAL);
-    return pattern === undefined ? null : { pattern: pattern.trim(), shortest: Number(of(SHORTEST) ?? 0) };
+    if (pattern === undefined) return null;
+    return { pattern: pattern.trim(), shortest: Number(of(SHORTEST) ?? 0), hint: (of(HINT) ?? "").trim() };
 }
 
 /**

@@ -3,6 +3,7 @@
  * the number of lines between them. The same network is always placed alike.
  */
 
+import { around } from "./labels.js";
 import { isInStates, OUTLINE, placeOn } from "./states.js";
 import { farEnd, linesOf } from "./topology.js";
 
@@ -10,76 +11,316 @@ import { farEnd, linesOf } from "./topology.js";
 /** @typedef {{x: number, y: number}} Point */
 
 /**
- * @typedef {object} Layout
+ * The room for a map, in pixels, and how many times larger than plain the letters are.
+ *
+ * @typedef {{width: number, height: number, unit: number, taken?: import("./labels.js").Rect[]}} Frame
+ */
+
+/**
+ * How much is written on a map: the sizes of letters, boxes and hosts, in pixels of plain letters.
+ *
+ * @typedef {object} Detail
+ * @property {string} name
+ * @property {number} title letters of the names of IMPs
+ * @property {number} text letters of all else that is written
+ * @property {number} half of the height of a box
+ * @property {number} pad beside the letters in a box, on each side
+ * @property {number} radius of a host's circle
+ * @property {boolean} hosts whether hosts have their names
+ */
+
+/** @type {Detail[]} the richest first; none has letters below 9 pixels */
+export const DETAILS = [
+    { name: "full", title: 13, text: 10.5, half: 20, pad: 10, radius: 15, hosts: true },
+    { name: "brief", title: 12.4, text: 10, half: 12, pad: 9, radius: 12, hosts: true },
+    { name: "bare", title: 11.5, text: 9.6, half: 11, pad: 8, radius: 5.5, hosts: false },
+];
+
+/** @type {Detail} of a map of many IMPs, which are dots there with a name beside each for which there is room */
+export const DOTS = { name: "dots", title: 10.5, text: 9.6, half: 8, pad: 3, radius: 5, hosts: false };
+
+/**
+ * @typedef {object} Layout in pixels of its frame
  * @property {number} width
  * @property {number} height
- * @property {boolean} small whether the map has too many IMPs to name hosts, which are dots then
+ * @property {boolean} small whether IMPs are dots
+ * @property {Detail} detail
+ * @property {number} unit by how much all of that is larger than plain
  * @property {Map<number, Point>} imps
  * @property {Map<string, Point>} hosts
- * @property {{w: number, h: number}} box half the size of the widest box of an IMP
- * @property {Map<number, {w: number, h: number}>} boxes half the size of each IMP's box
+ * @property {Map<number, {w: number, h: number}>} boxes half the size of each IMP's box, or of its dot
  * @property {number} radius of a host's circle
  * @property {Point[]} outline of the land on which the sites are; empty where it isn't known where they are
  */
 
+const PLAIN = { width: 640, height: 360, unit: 1 };
+const MOST_BOXES = 12; // IMPs of a map with boxes
+const LETTER = 0.74; // the width of a capital letter, as a share of its height
+const EDGE = 8; // pixels around a map
+const ROOMY = { width: 640, height: 300, most: 1.2 }; // a frame that is larger has larger letters
+const DOT = 4; // the radius of an IMP that is a dot
+const LONGEST = 330; // pixels of a line at most, where the frame leaves more
+
 /**
- * Places a network.
+ * Places a network so that it fills a frame: with as much detail as has room there, and not with smaller letters.
  *
  * @param {Network} network
+ * @param {Frame} [frame]
  * @returns {Layout}
  */
-export function placed(network) {
-    const numbers = network.sites.map((site) => site.number);
-    const small = numbers.length > 12;
-    const sized = (/** @type {number} */ letters) => (
-        small ? { w: Math.max(13, 3.1 * letters + 5), h: 10 } : { w: Math.max(34, 5.2 * letters + 14), h: 21 }
-    );
-    const boxes = new Map(network.sites.map((site) => [site.number, sized(site.name.length)]));
-    const box = sized(Math.max(0, ...network.sites.map((site) => site.name.length)));
-    const radius = small ? 5 : 15;
-    const step = small ? 74 : 172;
-    const places = network.sites.map((site) => site.place);
-    const isKnown = areFarApart(places);
-    const isCrowded = numbers.length > CROWDED;
-    const wide = isCrowded ? 1400 : small ? 820 : 1000;
-    let points = isKnown
-        ? places.map((it) => placeOn(it ?? { north: 0, east: 0 }, wide))
-        : fitted(turned(spread(numbers.length, hopCounts(network, numbers), step)));
-    const outline = isKnown ? OUTLINE.map(([north, east]) => placeOn({ north, east }, wide)) : [];
-    const widths = numbers.map((number) => boxes.get(number)?.w ?? box.w);
-    const room = !isKnown ? 0 : isCrowded ? 10 : 28; // between sites of one town
-    points = apart(points, widths, room + (small ? 12 : 46), room + 2 * box.h + (small ? 15 : 52), isCrowded && isKnown);
-    const imps = new Map(numbers.map((number, place) => [number, points[place]]));
-    const hosts = hostsAround(network, imps, boxes, radius, small);
-    const margin = small ? 12 : 26;
-    const all = [
-        ...outline,
-        ...[...imps].flatMap(
-            ([number, { x, y }]) => [
-                { x: x - (boxes.get(number)?.w ?? 0), y: y - box.h },
-                { x: x + (boxes.get(number)?.w ?? 0), y: y + box.h },
-            ],
-        ),
-        ...[...hosts.values()].flatMap(
-            ({ x, y }) => [{ x: x - radius, y: y - radius }, { x: x + radius, y: y + radius }],
-        ),
-    ];
-    const left = Math.min(...all.map((it) => it.x)) - margin;
-    const top = Math.min(...all.map((it) => it.y)) - margin;
-    for (const it of [...imps.values(), ...hosts.values(), ...outline]) {
-        Object.assign(it, { x: Math.round(10 * (it.x - left)) / 10, y: Math.round(10 * (it.y - top)) / 10 });
+export function placed(network, frame = PLAIN) {
+    const shape = shapeOf(network);
+    const grown = Math.min(ROOMY.most, Math.max(1, Math.min(frame.width / ROOMY.width, frame.height / ROOMY.height)));
+    const unit = frame.unit * grown;
+    if (network.sites.length <= MOST_BOXES) {
+        for (const detail of DETAILS) {
+            const found = withBoxes(network, shape, frame, detail, unit);
+            if (found) return found;
+        }
     }
+    return withDots(network, shape, frame, unit);
+}
+
+/**
+ * Half the size of each IMP's box.
+ *
+ * @param {Network} network
+ * @param {Detail} detail
+ * @param {number} unit
+ */
+export function boxesOf(network, { title, half, pad }, unit) {
+    const letters = (/** @type {import("./topology.js").Site} */ { name, number }) => (
+        (name || (half > 10 ? `IMP ${number}` : String(number))).length
+    );
+    return new Map(network.sites.map((site) => [
+        site.number,
+        { w: unit * Math.max(half, (LETTER * title * letters(site)) / 2 + pad), h: unit * half },
+    ]));
+}
+
+/**
+ * A map with boxes, null where something would lie on something else, or beyond the frame.
+ *
+ * @param {Network} network
+ * @param {Shape} shape
+ * @param {Frame} frame
+ * @param {Detail} detail
+ * @param {number} unit
+ * @returns {Layout | null}
+ */
+function withBoxes(network, shape, frame, detail, unit) {
+    const numbers = network.sites.map((site) => site.number);
+    const boxes = boxesOf(network, detail, unit);
+    const widths = numbers.map((number) => boxes.get(number)?.w ?? 0);
+    const radius = detail.radius * unit;
+    const edge = EDGE * unit;
+    let over = { left: 50, right: 50, top: 40, bottom: 40 };
+    for (let turn = 0; turn < 4; turn += 1) {
+        const inner = {
+            x: edge + over.left,
+            y: edge + over.top,
+            width: frame.width - 2 * edge - over.left - over.right,
+            height: frame.height - 2 * edge - over.top - over.bottom,
+        };
+        if (inner.width < 0 || inner.height < 0) return null;
+        const filled = filling(shape.points, inner, shape.isKnown ? 1.45 : 2.6, LONGEST * unit, isTall(frame));
+        const points = apart(filled, widths, 14 * unit, (2 * detail.half + 14) * unit);
+        const imps = new Map(numbers.map((number, place) => [number, points[place]]));
+        const hosts = hostsAround(network, imps, boxes, radius, (detail.hosts ? 13 : 8) * unit);
+        const rects = rectsOf(network, imps, hosts, boxes, radius, detail.text * unit);
+        const isFree = areApart(rects) && rects.every((it) => isWithin(it, frame, edge / 2) && isOffTaken(it, frame));
+        if (isFree) {
+            const { width, height } = frame;
+            return { width, height, small: false, detail, unit, imps, hosts, boxes, radius, outline: shape.outline };
+        }
+        over = beyond(rects, points);
+    }
+    return null;
+}
+
+/**
+ * A map with dots.
+ *
+ * @param {Network} network
+ * @param {Shape} shape
+ * @param {Frame} frame
+ * @param {number} unit
+ * @returns {Layout}
+ */
+function withDots(network, shape, frame, unit) {
+    const [x, y] = [24 * unit, 20 * unit];
+    const inner = { x, y, width: Math.max(1, frame.width - 2 * x), height: Math.max(1, frame.height - 2 * y) };
+    const count = shape.points.length;
+    const all = filling([...shape.points, ...shape.outline], inner, shape.isKnown ? 1.45 : 2.6, LONGEST * unit, isTall(frame));
+    const radius = DOTS.radius * unit;
+    const points = pushed(all.slice(0, count), (2 * DOT + 3) * unit);
+    const imps = new Map(network.sites.map(({ number }, place) => [number, points[place]]));
+    const boxes = new Map(network.sites.map(({ number }) => [number, { w: DOT * unit, h: DOT * unit }]));
     return {
-        width: Math.max(...all.map((it) => it.x)) + margin - left,
-        height: Math.max(...all.map((it) => it.y)) + margin - top,
-        small,
+        width: frame.width,
+        height: frame.height,
+        small: true,
+        detail: DOTS,
+        unit,
         imps,
-        hosts,
-        box,
+        hosts: hostsAround(network, imps, boxes, radius, 5 * unit),
         boxes,
         radius,
-        outline,
+        outline: all.slice(count),
     };
+}
+
+/**
+ * The rectangles on which nothing else may lie: boxes, hosts, and the numbers of lines.
+ *
+ * @param {Network} network
+ * @param {Map<number, Point>} imps
+ * @param {Map<string, Point>} hosts
+ * @param {Map<number, {w: number, h: number}>} boxes
+ * @param {number} radius
+ * @param {number} letters
+ * @returns {import("./labels.js").Rect[]}
+ */
+function rectsOf(network, imps, hosts, boxes, radius, letters) {
+    const none = { x: 0, y: 0 };
+    const middle = (/** @type {number} */ line) => {
+        const [a, b] = network.lines[line].map((imp) => imps.get(imp) ?? none);
+        return { x: (a.x + b.x) / 2, y: (a.y + b.y) / 2 };
+    };
+    return [
+        ...[...imps].map(([number, at]) => {
+            const { w, h } = boxes.get(number) ?? { w: 0, h: 0 };
+            return around(at, 2 * w, 2 * h);
+        }),
+        ...[...hosts.values()].map((at) => around(at, 2 * radius, 2 * radius)),
+        ...(network.plain ? [] : network.lines.map((_, line) => around(middle(line), 1.5 * letters, 1.5 * letters))),
+    ];
+}
+
+/** @param {import("./labels.js").Rect[]} rects */
+function areApart(rects) {
+    return rects.every((a, at) => rects.slice(at + 1).every(
+        (b) => a.x >= b.x + b.width || b.x >= a.x + a.width || a.y >= b.y + b.height || b.y >= a.y + a.height,
+    ));
+}
+
+/**
+ * @param {import("./labels.js").Rect} rect
+ * @param {Frame} frame
+ * @param {number} edge
+ */
+function isWithin({ x, y, width, height }, frame, edge) {
+    return x >= edge && y >= edge && x + width <= frame.width - edge && y + height <= frame.height - edge;
+}
+
+/**
+ * @param {import("./labels.js").Rect} rect
+ * @param {Frame} frame
+ */
+function isOffTaken(rect, { taken = [] }) {
+    return taken.every((it) => areApart([rect, it]));
+}
+
+/**
+ * By how much rectangles reach beyond the points around which they are.
+ *
+ * @param {import("./labels.js").Rect[]} rects
+ * @param {Point[]} points
+ */
+function beyond(rects, points) {
+    return {
+        left: Math.min(...points.map((it) => it.x)) - Math.min(...rects.map((it) => it.x)),
+        right: Math.max(...rects.map((it) => it.x + it.width)) - Math.max(...points.map((it) => it.x)),
+        top: Math.min(...points.map((it) => it.y)) - Math.min(...rects.map((it) => it.y)),
+        bottom: Math.max(...rects.map((it) => it.y + it.height)) - Math.max(...points.map((it) => it.y)),
+    };
+}
+
+/**
+ * @typedef {object} Shape where the IMPs of a network are to each other: in lines, or on the map of the country
+ * @property {Point[]} points
+ * @property {Point[]} outline
+ * @property {boolean} isKnown whether it is known where the sites are
+ */
+
+/** @type {WeakMap<Network, Shape>} */
+const shapes = new WeakMap();
+
+/**
+ * @param {Network} network
+ * @returns {Shape}
+ */
+function shapeOf(network) {
+    const known = shapes.get(network);
+    if (known) return known;
+    const numbers = network.sites.map((site) => site.number);
+    const places = network.sites.map((site) => site.place);
+    const isKnown = areFarApart(places);
+    const shape = {
+        points: isKnown
+            ? places.map((it) => placeOn(it ?? { north: 0, east: 0 }, 1000))
+            : turned(spread(numbers.length, hopCounts(network, numbers), 1)),
+        outline: isKnown ? OUTLINE.map(([north, east]) => placeOn({ north, east }, 1000)) : [],
+        isKnown,
+    };
+    shapes.set(network, shape);
+    return shape;
+}
+
+/** @param {Frame} frame */
+function isTall({ width, height }) {
+    return height > 1.15 * width;
+}
+
+/**
+ * Points scaled so that they fill a rectangle, each way by its own factor up to a ratio, and in its middle where that
+ * leaves room. Points that may be turned are, where the frame is higher than wide.
+ *
+ * @param {Point[]} given
+ * @param {import("./labels.js").Rect} inner
+ * @param {number} ratio
+ * @param {number} longest pixels of a line
+ * @param {boolean} isHigh whether the frame is higher than wide
+ * @returns {Point[]}
+ */
+function filling(given, inner, ratio, longest, isHigh) {
+    const isFree = ratio > 2;
+    const points = isFree && isHigh ? given.map(({ x, y }) => ({ x: y, y: x })) : given;
+    const [left, top] = [Math.min(...points.map((it) => it.x)), Math.min(...points.map((it) => it.y))];
+    const width = Math.max(...points.map((it) => it.x)) - left;
+    const height = Math.max(...points.map((it) => it.y)) - top;
+    const most = isFree ? longest : Infinity;
+    let [x, y] = [Math.min(most, inner.width / Math.max(width, 1e-6)), Math.min(most, inner.height / Math.max(height, 1e-6))];
+    if (width < 1e-3) x = y;
+    if (height < 1e-3) y = x;
+    [x, y] = [Math.min(x, ratio * y), Math.min(y, ratio * x)];
+    const [restX, restY] = [(inner.width - x * width) / 2, (inner.height - y * height) / 2];
+    return points.map((it) => ({ x: inner.x + restX + (it.x - left) * x, y: inner.y + restY + (it.y - top) * y }));
+}
+
+/**
+ * Dots pushed apart until each has a distance from each other.
+ *
+ * @param {Point[]} points
+ * @param {number} distance
+ */
+function pushed(points, distance) {
+    for (let turn = 0; turn < 120; turn += 1) {
+        let moved = false;
+        for (let a = 0; a < points.length; a += 1) {
+            for (let b = a + 1; b < points.length; b += 1) {
+                const [dx, dy] = [points[b].x - points[a].x || 0.01 * (b - a), points[b].y - points[a].y || 0.01];
+                const far = Math.hypot(dx, dy);
+                if (far >= distance) continue;
+                moved = true;
+                const by = (distance - far) / 2 + 0.05;
+                points[a] = { x: points[a].x - (by * dx) / far, y: points[a].y - (by * dy) / far };
+                points[b] = { x: points[b].x + (by * dx) / far, y: points[b].y + (by * dy) / far };
+            }
+        }
+        if (!moved) break;
+    }
+    return points;
 }
 
 /**
@@ -94,8 +335,6 @@ function areFarApart(places) {
 }
 
 const COAST_TO_COAST = 30; // degrees
-
-const CROWDED = 20; // sites, beyond which the country is drawn larger, so that a town does not become a coast
 
 /**
  * Over how many lines each IMP is from each other, by their places; those that no route joins are far.
@@ -200,22 +439,6 @@ function turned(points) {
     return flat.map((it) => ({ x: sx * it.x, y: sy * it.y }));
 }
 
-/** How many times wider than high maps are, about. */
-const ASPECT = 1.8;
-
-/**
- * Points stretched towards the shape of a map.
- *
- * @param {Point[]} points
- */
-function fitted(points) {
-    const span = (/** @type {number[]} */ values) => Math.max(...values) - Math.min(...values);
-    const [width, height] = [span(points.map((it) => it.x)), span(points.map((it) => it.y))];
-    if (height < 1) return points;
-    const factor = Math.min(1.35, Math.max(1, Math.sqrt((ASPECT * height) / width)));
-    return points.map((it) => ({ x: it.x * factor, y: it.y / factor }));
-}
-
 /**
  * Points pushed apart until their boxes don't overlap.
  *
@@ -223,9 +446,8 @@ function fitted(points) {
  * @param {number[]} widths half the width of each
  * @param {number} gap between two beside each other
  * @param {number} h the distance that two need in height
- * @param {boolean} isCrowded whether they are to spread in both directions, and not where the way is shortest
  */
-function apart(points, widths, gap, h, isCrowded) {
+function apart(points, widths, gap, h) {
     for (let turn = 0; turn < 200; turn += 1) {
         let moved = false;
         for (let a = 0; a < points.length; a += 1) {
@@ -236,7 +458,7 @@ function apart(points, widths, gap, h, isCrowded) {
                 const under = h - Math.abs(dy);
                 if (over <= 0 || under <= 0) continue;
                 moved = true;
-                const isBeside = isCrowded ? over / (over + Math.abs(dx)) < under / h : over < under;
+                const isBeside = over < under;
                 const x = isBeside ? ((dx < 0 ? -1 : 1) * over) / 2 + 0.1 : 0;
                 const y = isBeside ? 0 : ((dy < 0 ? -1 : 1) * under) / 2 + 0.1;
                 points[a] = { x: points[a].x - x, y: points[a].y - y };
@@ -263,12 +485,11 @@ function sum(points, value) {
  * @param {Map<number, Point>} imps
  * @param {Map<number, {w: number, h: number}>} boxes
  * @param {number} radius
- * @param {boolean} small
+ * @param {number} gap
  */
-function hostsAround(network, imps, boxes, radius, small) {
+function hostsAround(network, imps, boxes, radius, gap) {
     /** @type {Map<string, Point>} */
     const hosts = new Map();
-    const gap = small ? 4 : 15;
     for (const { number, hosts: count } of network.sites) {
         const at = imps.get(number) ?? { x: 0, y: 0 };
         const box = boxes.get(number) ?? { w: 0, h: 0 };

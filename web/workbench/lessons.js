@@ -6,7 +6,7 @@ import { QUESTIONS, SUBJECTS } from "./questions.js";
 
 /** @typedef {import("./app.js").Example} Example */
 /** @typedef {import("./questions.js").Question} Question */
-/** @typedef {{name: string, title: string, text: string}} Given an input of the page */
+/** @typedef {{name: string, title: string, text: string, at?: number}} Given an input of the page, and the step at which it opens */
 
 const HOURS = /** @type {[string, string[]][]} */ ([
     [

@@ -8,8 +8,10 @@ import { arranged, opened } from "./lessons.js";
 import { lacking, wanting } from "./lacking.js";
 import { follow, sessionOf } from "./live.js";
 import { byId, say } from "./view/dom.js";
+import { Source } from "./view/saving.js";
 
 async function start() {
+    const source = new Source();
     const lacks = lacking(globalThis);
     if (lacks.length) throw new Error(wanting(lacks));
     const { runner, note } = await embedded();
@@ -23,7 +25,7 @@ async function start() {
     const examples = await examplesInPage();
     const inputs = [...opened(JSON.parse(block("opened")), examples), ...arranged(examples)];
     const years = readChronology(await unpackedText(block("chronology")));
-    const bench = new Workbench(runner, inputs, years);
+    const bench = new Workbench(runner, inputs, years, source);
     if (session) follow(bench, session);
     else await bench.begin();
     document.documentElement.dataset.ready = "yes";

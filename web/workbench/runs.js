@@ -8,7 +8,7 @@
 
 import { driven } from "./driven.js";
 import { octetsOf } from "./octets.js";
-import { readInput } from "./script.js";
+import { readInput, withScript } from "./script.js";
 import { readTopology } from "./topology.js";
 import { TraceReader } from "./trace.js";
 
@@ -75,10 +75,31 @@ export async function replay(run, text, limits = LIMITS, opened = () => {}) {
     const outcome = await run(["--trace"], octetsOf(text), limits, (octets) => reader.add(octets));
     const cut = whyCut(outcome, limits);
     const trace = reader.read();
+    const brief = outcome.ended === "time" && !trace?.records.length ? shortened(input) : null;
+    if (brief) return { ...await replay(run, brief.text, limits, opened), .../** @type {{}} */ (brief.why) };
     if (!trace) return { ...nothing, cut };
     const { opening, records: moments } = trace;
     if (network.raw) return { input, network, moments, opening, cut };
     return programReplay(run, { input, network, moments, opening, cut }, reader.octets, limits);
+}
+
+const BRIEF = 60; // rounds to which a calm is shortened of which nothing came in the time that a run has
+
+/**
+ * An input with its long calms shortened, and why; null where it has none. A calm in which nothing ends can hold back even
+ * what was before it.
+ *
+ * @param {Input} input
+ * @returns {{text: string, why: {cut: string}} | null}
+ */
+function shortened(input) {
+    const isLong = (/** @type {import("./script.js").Input["events"][0]} */ { words: [kind, rounds] }) => kind === "calm" && Number(rounds) > BRIEF;
+    const long = input.events.filter(isLong);
+    if (!long.length) return null;
+    const lines = new Set(long.map((it) => it.line));
+    const text = withScript(input, input.lines.map((it) => (lines.has(it.line) ? `calm ${BRIEF}` : it.text)));
+    const [{ line, text: calm }] = long;
+    return { text, why: { cut: `Nothing came of the run in time, so \`${calm}\` in line ${line} is shown as \`calm ${BRIEF}\`.` } };
 }
 
 /**

@@ -85,6 +85,8 @@ export function withScript(input, lines) {
     return `${[...input.head, "%", ...lines].join("\n")}\n`;
 }
 
+const MOST_ALONE = 200; // comments in a row that have a row each
+
 /**
  * The comments of a script; `#?` asks a question and `#!` gives its answer.
  *
@@ -97,9 +99,11 @@ export function notesOf(input) {
     /** @type {Note[]} */
     const notes = [];
     let events = 0;
+    let alone = 0; // comments since the last event
     for (const { line, text, kind } of input.lines) {
-        if (kind === "event") events += 1;
+        if (kind === "event") [events, alone] = [events + 1, 0];
         if (kind !== "comment") continue;
+        alone += 1;
         const sort = text.startsWith("#?") ? "question" : text.startsWith("#!") ? "answer" : "comment";
         const told = text.replace(/^#[?!]?\s*/, "");
         const last = notes[notes.length - 1];
@@ -108,7 +112,11 @@ export function notesOf(input) {
             && last.last === line - 1
             && sort === "comment"
             && (last.kind !== "comment" || (before !== undefined && before.length > 60 && !/[.:!?]$/.test(before)));
-        if (goesOn) {
+        if (alone > MOST_ALONE && last) {
+            const more = alone - MOST_ALONE;
+            last.text = `${last.text.replace(/ … \d+ more$/, "")} … ${more} more`;
+            last.last = line;
+        } else if (goesOn) {
             last.text = joinedWords([last.text, told]);
             last.last = line;
         } else {
@@ -128,8 +136,18 @@ export function headComment(input) {
     const found = [];
     for (const line of input.head) {
         if (!line.startsWith("#")) break;
-        if (/^#\s*(?:Goal|Shortest known):/.test(line)) continue;
+        if (/^#\s*(?:Goal|Shortest known|Hint):/.test(line)) continue;
         found.push(line.replace(/^#\s*/, ""));
     }
     return found.join(" ").trim();
+}
+
+/**
+ * The IMPs of the hosts that events name.
+ *
+ * @param {string[][]} events
+ */
+export function impsNamed(events) {
+    const isHost = (/** @type {string} */ word) => /^\d+\/\d+$/.test(word);
+    return new Set(events.flatMap((words) => words.slice(1, 3).filter(isHost).map((it) => Number(it.split("/")[1]))));
 }

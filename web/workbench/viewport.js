@@ -8,7 +8,6 @@
 /** @typedef {{x: number, y: number, width: number, height: number}} Box */
 
 const MOST = 3.2; // pixels of a unit at the most
-const GAP = 11; // pixels between two labels, so that lines between them are seen
 const FROM_NEAR = 5; // times larger than the whole map at the most, where that is more
 
 /** A view of a map in a frame. */
@@ -136,32 +135,4 @@ export class Viewport {
  */
 function within(start, size, first, whole) {
     return size >= whole ? first + (whole - size) / 2 : Math.min(Math.max(start, first), first + whole - size);
-}
-
-/** @typedef {{at: {x: number, y: number}, width: number, weight: number}} Label its middle, its width in pixels */
-
-/**
- * Which labels are shown, so that none is on another: the weightier ones first.
- *
- * @param {Label[]} labels
- * @param {number} scale pixels of a unit
- * @param {number} height of a label, in pixels
- * @returns {boolean[]}
- */
-export function readable(labels, scale, height) {
-    const order = labels.map((_, place) => place).sort((a, b) => labels[b].weight - labels[a].weight || a - b);
-    /** @type {Label[]} */
-    const shown = [];
-    const found = labels.map(() => false);
-    for (const place of order) {
-        const it = labels[place];
-        const isFree = shown.every(
-            (other) => Math.abs(it.at.x - other.at.x) * scale > (it.width + other.width) / 2 + GAP
-                || Math.abs(it.at.y - other.at.y) * scale > height + GAP,
-        );
-        if (!isFree) continue;
-        shown.push(it);
-        found[place] = true;
-    }
-    return found;
 }

@@ -1,11 +1,11 @@
 //! The program `arpasim`: it runs a network over a script and prints what its hosts see.
 //!
 //! Standard input is a topology, a line `%` and a script, or for `--audit` a log. The program itself is
-//! `command_line::run_program`; here it is given the words of the command line, standard input and standard output, and its
+//! `simulator::run_program`; here it is given the words of the command line, standard input and standard output, and its
 //! fault becomes a line on standard error.
 #![tactic(auto)]
 
-use command_line::{Done, Printer, ProgramFault, Reader, ScriptFault, exit_status, run_program};
+use simulator::{Done, Printer, ProgramFault, Reader, ScriptFault, exit_status, run_program};
 use std::io::{BufWriter, ErrorKind};
 use std::process::ExitCode;
 use std::rt::Env;

@@ -8,24 +8,20 @@ pub use Rattle.clap.specs.Lexer.{long_of}
 pub use Rattle.clap.specs.Values.{kind_of}
 pub use Rattle.clap.specs.Walk.{one_of}
 pub use Rattle.command_line.specs.Audits.{AuditsLog, IsAuditFault, IsBookFault, IsSomeLog, Judged, SaysOf, kept, word_text}
-pub use Rattle.command_line.specs.Carriers.{ends_of, plain_of, subnet_of}
+pub use Rattle.command_line.specs.Carriers.{plain_of, subnet_of}
 pub use Rattle.command_line.specs.Described.{Describes}
-pub use Rattle.command_line.specs.Either.{IsEitherFault, IsEitherInput, RanEither, RanEitherInPart, ReplaysEither, StopsEither}
-pub use Rattle.command_line.specs.Events.{AsksFor, Raw, World, asked_of}
+pub use Rattle.command_line.specs.Either.{IsEitherFault, IsEitherInput, ReplaysEither, StopsEither}
+pub use Rattle.command_line.specs.Events.{Raw, World, asked_of}
 pub use Rattle.command_line.specs.Input.{IsInput, IsInputFault}
 pub use Rattle.command_line.specs.Lived.{AreLived, lives_in, ungranted}
 pub use Rattle.command_line.specs.Logs.{LogsFrom, LogsOn, LogsOver, raw_book, world_book}
 pub use Rattle.command_line.specs.Mixed.{IsMixedFault, MixedEndsOn, MixedReplaysOn, MixedReplaysOver}
-pub use Rattle.command_line.specs.Options.{detail_of, options_of}
 pub use Rattle.command_line.specs.Parser.{command_line}
 pub use Rattle.command_line.specs.Printed.{AreOneBook, PrintsBook, PrintsPart}
-pub use Rattle.command_line.specs.Program.{EndsReplay, EndsTask, Sides}
 pub use Rattle.command_line.specs.Replayed.{ReplaysFrom, ReplaysInput, ReplaysOn, ReplaysOver, ShowsBook, ShowsFrom, StopsFrom, WorldShowsFrom, WorldStopsFrom, WritesWorld, book_text}
 pub use Rattle.command_line.specs.Steps.{IsNetworkFault, IsReplayFault}
-pub use Rattle.command_line.specs.Traced.{EndsAll, IsScriptOf, IsScripted, TracesAll, TracesFrom, TracesInput, TracesOn, TracesOver, WorldEndsFrom, WorldTracesFrom, asked_count}
 pub use Rattle.command_line.specs.declared.auditing.AuditFault.{AuditFault}
 pub use Rattle.command_line.specs.declared.fault.ScriptFault.{ScriptFault}
-pub use Rattle.command_line.specs.declared.options.Options.{Options}
 pub use Rattle.command_line.specs.declared.verdict.Verdict.{Verdict}
 pub use Rattle.headline.proofs.lemmas.{given}
 pub use Rattle.headline.specs.Promise.{KeepsPromise}
@@ -46,40 +42,26 @@ pub use Rattle.promise.specs.Safe.{AreTwo}
 pub use Rattle.promise.specs.declared.book.Told.{Told}
 pub use Rattle.promise.specs.declared.life.Fate.{Fate}
 pub use Rattle.promise.specs.declared.life.Life.{Life}
-pub use Rattle.replay.proofs.lemmas.{OneReplay, appends_more, ends_front, in_turn_once, on_ok, replays_once}
-pub use Rattle.replay.specs.InTurn.{HappensOnce, ShowsFront, text_of}
+pub use Rattle.replay.proofs.lemmas.{OneReplay, appends_more, on_ok, replays_once}
 pub use Rattle.replay.specs.Output.{Writes, crossings_of, output}
 pub use Rattle.replay.specs.Settled.{AreSettled}
 pub use Rattle.replay.specs.declared.print.Detail.{Detail}
 pub use Rattle.replay.specs.declared.print.Detail.TheVariants.{Sizes}
 pub use Rattle.script.proofs.lemmas.{parted_once}
-pub use Rattle.script.specs.Input.{IsParted, ended_line}
-pub use Rattle.script.specs.Spelling.{IsEvent}
+pub use Rattle.script.specs.Input.{IsParted}
 pub use Rattle.script.specs.declared.event.RawEvent.{RawEvent}
-pub use Rattle.std.proofs.Common.{Bool, Err, IfErr, IfSome, IsUtf8, List, MatchResult, None, Ok, OnOk, Option, Result, Some, [], ap, ap₂, arith, codes, false, if◌then◌else◌, inl, inr, map, not, refl, rules, subst, sym, take, true, zip, ℕ, ◌++◌, ◌+◌, ◌<◌, ◌==◌, ◌||◌, ◌∙◌, ◌∷◌, ◌≡◌, ◌≢◌, ◌≤◌, ◌⊎◌}
+pub use Rattle.std.proofs.Common.{Bool, Err, IfErr, IfSome, IsUtf8, List, MatchResult, None, Ok, OnOk, Option, Result, Some, [], ap, ap₂, arith, codes, false, if◌then◌else◌, inl, inr, map, not, refl, rules, subst, sym, take, true, ℕ, ◌++◌, ◌+◌, ◌<◌, ◌==◌, ◌||◌, ◌∙◌, ◌∷◌, ◌≡◌, ◌≢◌, ◌⊎◌}
 pub use Rattle.std.proofs.lemmas.Bool.{false≢true}
-pub use Rattle.std.proofs.lemmas.List.{append_assoc, length-append, length-map, map-append, reverse-reverse}
-pub use Rattle.std.proofs.lemmas.List.Elements.{All-head, All-tail}
+pub use Rattle.std.proofs.lemmas.List.{append_assoc, length-append, reverse-reverse}
 pub use Rattle.std.specs.Io.KnownBytes.{Appends, Keeps}
-pub use Rattle.std.specs.List.{All, Contains, list_any, range_with_len}
+pub use Rattle.std.specs.List.{All, Contains, list_any}
 pub use Rattle.std.specs.Option.{option_and_then}
 pub use Rattle.std.specs.Str.{bytes_eq}
 pub use Rattle.subnet.specs.Working.{subnet_calls}
 pub use Rattle.subnet_trace.proofs.lemmas.{subnet_settled}
-pub use Rattle.subnet_trace.specs.Traced.{subnet_inside}
 pub use Rattle.topology.specs.Mixed.{MixedFields}
 pub use Rattle.topology.specs.Topology.{TopologyFields, hosts_of}
 pub use Rattle.topology.specs.declared.network.CarrierKind.{CarrierKind}
 pub use Rattle.trace.proofs.lemmas.{plain_settled}
-pub use Rattle.trace.specs.Changes.{members_of}
-pub use Rattle.trace.specs.Texts.{object, opening_line}
-pub use Rattle.trace.specs.Traces.{Inside, TellsEvent, asking_from, numbered_from, plain_inside}
-pub use Rattle.trace.specs.declared.all_parts.AllParts.{AllParts}
-pub use Rattle.trace.specs.declared.element.Spot.{Spot}
-pub use Rattle.world_replay.proofs.lemmas.Replays.{SameGains, gains_once, happens_once, shown_settled}
-pub use Rattle.world_replay.specs.Replay.{Happens, HappensInCalm}
-pub use Rattle.world_replay.specs.Rounds.{EndsRound}
 pub use Rattle.world_script.specs.declared.event.MixedWorldEvent.{MixedWorldEvent}
 pub use Rattle.world_script.specs.declared.event.WorldEvent.{WorldEvent}
-pub use Rattle.world_trace.specs.Texts.{opening_text, world_line}
-pub use Rattle.world_trace.specs.Traces.{StopsOne, TellsIn, TellsInCalm, TellsOne, TellsRound, change_of, first_rounds, state_of}

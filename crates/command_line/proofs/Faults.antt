@@ -10,7 +10,8 @@ use Rattle.command_line.specs.Faults.{told_as}
 use Rattle.command_line.specs.declared.fault.ScriptFault.TheVariants as fault
 
 pub network_fault : (octets document script : List ℕ) (f : ScriptFault) → IsParted octets document script → IsNetworkFault f → (f ≡ fault.BadTopology → IsUtf8 document → (t : TopologyFields) → ¬ (Describes document t)) → IsInputFault octets f
-network_fault octets document script fault.BadTopology parted known refused = inr (inr (record { document = document; script = script; parted = parted; unfit = refused refl }))
+network_fault octets document script fault.BadTopology parted known refused = inr (record { document = document; script = script; parted = parted; unfit = refused refl })
+network_fault octets document script fault.TooLong parted known refused = absurd known
 network_fault octets document script fault.OutOfMemory parted known refused = tt
 network_fault octets document script fault.CannotRead parted known refused = absurd known
 network_fault octets document script fault.CannotWrite parted known refused = absurd known

@@ -1,5 +1,4 @@
--- Words of the command line: what the parser makes of them (Words, Hyphens), that it is as described (CommandLine), and how a replay ends (Jobs).
+-- Words of the command line: what the parser makes of them (Words, Hyphens), and that it is as described (CommandLine).
 pub mod CommandLine
 pub mod Hyphens
-pub mod Jobs
 pub mod Words

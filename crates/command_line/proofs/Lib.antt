@@ -1,6 +1,5 @@
 pub mod Common
 mod Faults
-mod InCalm
 mod Joined
 mod Joins
 mod Lived
@@ -9,11 +8,9 @@ mod Once
 mod OneInput
 mod Printed
 mod Reading
-mod Recorded
 mod Replayed
 mod Sites
-mod Traces
 mod WorkedLines
-mod WorkedPrograms
 mod Flags
 mod Verdicts
+pub mod lemmas

@@ -1,7 +1,9 @@
 -- The lives of a book are those that its crossings and notices make.
 use Rattle.command_line.proofs.Common.{◌≡◌, ℕ, ◌<◌, ◌==◌, Bool, true, false, if◌then◌else◌, List, [], ◌∷◌, ◌++◌, map}
-use Rattle.command_line.proofs.Common.{refl, sym, ap, ap₂, ◌∙◌, arith, subst, map-append, Host, Crossing, Told, Life}
-use Rattle.command_line.proofs.Common.{AreLived, lives_in, ungranted, ◌≤◌}
+use Rattle.command_line.proofs.Common.{refl, sym, ap, ap₂, ◌∙◌, arith, subst, Host, Crossing, Told, Life}
+use Rattle.std.proofs.lemmas.List.{map-append}
+use Rattle.command_line.proofs.Common.{AreLived, lives_in, ungranted}
+use Rattle.std.proofs.Common.{◌≤◌}
 use Rattle.std.proofs.Common.{suc, length, append-nil}
 use Rattle.std.proofs.lemmas.Bool.{eq-eqb, ne_eqb}
 use Rattle.interface.specs.declared.crossing.Crossing.TheVariants as crossing

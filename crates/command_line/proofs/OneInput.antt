@@ -1,5 +1,6 @@
 -- Octets are one input.
-use Rattle.command_line.proofs.Common.{◌≡◌, ℕ, Bool, true, false, List, Some, ap, sym, ◌∙◌, subst, parted_once, TopologyFields, Describes, AsksFor, Raw, World, IsInput}
+use Rattle.command_line.proofs.Common.{◌≡◌, ℕ, Bool, true, false, List, Some, ap, sym, ◌∙◌, subst, parted_once, TopologyFields, Describes, Raw, World, IsInput}
+use Rattle.command_line.specs.Events.{AsksFor}
 use Rattle.script.specs.Script.{lines_of}
 use Rattle.script.proofs.lemmas.{SameInput, asked_once}
 use Rattle.world_script.proofs.lemmas.{world_asked_once}

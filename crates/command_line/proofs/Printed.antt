@@ -2,7 +2,8 @@
 use Rattle.command_line.proofs.Common.{arith, ◌≡◌, ◌+◌, ℕ, Bool, true, false, List, [], ◌∷◌, ◌++◌, Option, codes, refl}
 use Rattle.command_line.proofs.Common.{ap, sym, subst, ◌∙◌, length-append, Appends, Contains, KeepsPromise, plain_calls}
 use Rattle.command_line.proofs.Common.{Calls, Host, IsRun, SafeMessages, Crossing, Told, AreTwo, WorldState, Life}
-use Rattle.command_line.proofs.Common.{Reported, crossings_of, output, Detail, ended_line, TopologyFields, CarrierKind}
+use Rattle.command_line.proofs.Common.{Reported, crossings_of, output, Detail, TopologyFields, CarrierKind}
+use Rattle.script.specs.Input.{ended_line}
 use Rattle.command_line.proofs.Common.{WorldEvent, subnet_calls, plain_of, subnet_of, Raw, World, AreLived, lives_in}
 use Rattle.command_line.proofs.Common.{AreOneBook, PrintsBook, PrintsPart, ReplaysFrom, ReplaysOver, ShowsBook}
 use Rattle.command_line.proofs.Common.{WorldShowsFrom, book_text, Boxes, plain_settled}

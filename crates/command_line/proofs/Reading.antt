@@ -18,7 +18,7 @@ consumes_more (Some old) None c xs ys h k = absurd h
 consumes_more (Some old) (Some bs) None xs ys h k = absurd k
 consumes_more (Some old) (Some bs) (Some cs) xs ys h k = h ∙ ap (λ zs. xs ++ zs) k ∙ sym (append_assoc xs ys cs)
 
-pub reads_more : (a b c : Option (List ℕ)) (xs buf : List ℕ) (count : ℕ) → Consumes a b xs → Consumes b c (take count buf) → count ≤ length buf → length xs + length buf ≤ 1048577 → ReadsFirst a c
+pub reads_more : (a b c : Option (List ℕ)) (xs buf : List ℕ) (count : ℕ) → Consumes a b xs → Consumes b c (take count buf) → count ≤ length buf → length xs + length buf ≤ 268435457 → ReadsFirst a c
 reads_more a b c xs buf count h k few room =
     let long : length (xs ++ take count buf) ≡ length xs + length (take count buf) = length-append xs (take count buf) in
     let taken : length (take count buf) ≡ count = length-take-le count buf few in

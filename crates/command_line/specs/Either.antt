@@ -1,5 +1,5 @@
 -- Any network, with strangers or without.
-use Rattle.std.specs.Prelude.{◌⊎◌, ℕ, Bool, List, Option, IfSome}
+use Rattle.std.specs.Prelude.{◌⊎◌, ◌<◌, ℕ, Bool, List, Option, IfSome, length}
 use Rattle.replay.specs.declared.print.Detail.{Detail}
 use Rattle.command_line.specs.Input.{HasBadLine, IsInputFault, IsSomeInput}
 use Rattle.command_line.specs.Mixed.{HasBadMixedLine, IsMixedFault, IsSomeMixed, MixedReplaysInput, MixedStopsInput}
@@ -16,6 +16,7 @@ IsEitherInput octets = IsSomeInput octets ⊎ IsSomeMixed octets
 -- when each fault may be given for these octets, where no read failed: a topology is bad if it is bad for both kinds
 abbrev pub IsEitherFault : List ℕ → ScriptFault → Type 0
 IsEitherFault octets (fault.BadLine number) = HasBadLine octets number ⊎ HasBadMixedLine octets number
+IsEitherFault octets fault.TooLong = 268435456 < length octets
 IsEitherFault octets fault.BadTopology = IsInputFault octets fault.BadTopology × IsMixedFault octets fault.BadTopology
 IsEitherFault octets fault.CannotRead = ⊥
 IsEitherFault octets fault.OutOfMemory = Unit {0}

@@ -10,6 +10,7 @@ use Rattle.command_line.specs.declared.fault.ScriptFault.TheVariants as fault
 abbrev pub status_of : ScriptFault → ℕ
 status_of fault.BadOptions = 1
 status_of fault.CannotRead = 1
+status_of fault.TooLong = 1
 status_of fault.BadTopology = 1
 status_of (fault.BadLine number) = 2
 status_of fault.OutOfMemory = 3
@@ -19,6 +20,7 @@ status_of fault.CannotWrite = 3
 abbrev pub script_text : ScriptFault → List ℕ
 script_text fault.BadOptions = codes "arpasim: bad arguments"
 script_text fault.CannotRead = codes "arpasim: cannot read"
+script_text fault.TooLong = codes "arpasim: input too long"
 script_text fault.BadTopology = codes "arpasim: bad topology"
 script_text (fault.BadLine number) = codes "arpasim: bad script line " ++ decimal number
 script_text fault.OutOfMemory = codes "arpasim: stopped"

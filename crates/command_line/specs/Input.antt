@@ -9,9 +9,9 @@ use Rattle.command_line.specs.Events.{Asked, AsksFor, IsFirstBadIn}
 use Rattle.command_line.specs.declared.fault.ScriptFault.{ScriptFault}
 use Rattle.command_line.specs.declared.fault.ScriptFault.TheVariants as fault
 
--- an input: at most 1,048,576 octets, which are this topology, the marker line `%`, and a script of these events
+-- an input: at most 268,435,456 octets, which are this topology, the marker line `%`, and a script of these events
 pub record IsInput (octets : List ℕ) (network : TopologyFields) (events : Asked) : Type 0 where
-  pub short : length octets ≤ 1048576
+  pub short : length octets ≤ 268435456
   pub document : List ℕ
   pub script : List ℕ
   pub parted : IsParted octets document script
@@ -23,7 +23,7 @@ IsSomeInput octets = (network : TopologyFields) × (events : Asked) × IsInput o
 
 -- all is well up to the script, of which this is the first bad line
 pub record HasBadLine (octets : List ℕ) (number : ℕ) : Type 0 where
-  pub short : length octets ≤ 1048576
+  pub short : length octets ≤ 268435456
   pub document : List ℕ
   pub script : List ℕ
   pub network : TopologyFields
@@ -42,7 +42,8 @@ pub record HasBadTopology (octets : List ℕ) : Type 0 where
 -- Memory may run out at any octets
 abbrev pub IsInputFault : List ℕ → ScriptFault → Type 0
 IsInputFault octets (fault.BadLine number) = HasBadLine octets number
-IsInputFault octets fault.BadTopology = (1048576 < length octets) ⊎ (All (λ line. line ≢ codes "%") (lines_of octets)) ⊎ HasBadTopology octets
+IsInputFault octets fault.TooLong = 268435456 < length octets
+IsInputFault octets fault.BadTopology = (All (λ line. line ≢ codes "%") (lines_of octets)) ⊎ HasBadTopology octets
 IsInputFault octets fault.CannotRead = ⊥
 IsInputFault octets fault.OutOfMemory = Unit {0}
 IsInputFault octets fault.CannotWrite = IsSomeInput octets

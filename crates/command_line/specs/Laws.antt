@@ -14,7 +14,6 @@ use Rattle.promise.specs.Notices.{FormedNotices}
 use Rattle.promise.specs.Safe.{SafeBook}
 use Rattle.promise.specs.declared.life.Life.{Life}
 use Rattle.replay.specs.declared.print.Detail.{Detail}
-use Rattle.replay.specs.declared.print.Detail.TheVariants.{Sizes}
 use Rattle.world_replay.specs.Output.{Shown, crossings_of, notices_of, reports_of}
 use Rattle.world_replay.specs.Output as lines
 use Rattle.world_script.specs.declared.event.WorldEvent.{WorldEvent}
@@ -24,9 +23,7 @@ use Rattle.command_line.specs.Lived.{AreLived}
 use Rattle.command_line.specs.Logs.{LogsInput}
 use Rattle.command_line.specs.MixedPrinted.{AreOneBookAmong, PrintsBookAmong}
 use Rattle.command_line.specs.Printed.{AreOneBook, PrintsBook, PrintsPart}
-use Rattle.command_line.specs.Recorded.{PrintsTrace, told_lines}
 use Rattle.command_line.specs.Replayed.{ReplaysInput, WorldShowsFrom}
-use Rattle.command_line.specs.Traced.{TracesInput}
 
 -- The input determines the output, with the book and without it, with texts and without them. It asks for one list of
 -- events over the carrier of one topology, and neither plain mailboxes nor a subnet leave their replay a choice, without
@@ -45,8 +42,7 @@ pub record FirstPart : Type 0 where
       ReplaysEither book detail input (Some before) (Some whole) → (rest : List ℕ) × (whole ≡ part ++ rest)
 
 -- The outputs of one input are of one replay. Whether the book and texts are asked for only decides how much of it is
--- printed; and the log is that of the crossings and the lives that are printed. The lines of a plain output are those
--- that its trace has as printed, in turn.
+-- printed; and the log is that of the crossings and the lives that are printed.
 pub record OneReplay : Type 0 where
   pub options :
       (book other : Bool) (detail more : Detail) (input one two : List ℕ) →
@@ -55,10 +51,6 @@ pub record OneReplay : Type 0 where
   pub log :
       (book : Bool) (detail : Detail) (input out log : List ℕ) → ReplaysInput book detail input (Some []) (Some out) →
       LogsInput input (Some []) (Some log) → TellTheSame book detail out log
-  pub trace :
-      (book : Bool) (input out trace : List ℕ) → ReplaysInput book Sizes input (Some []) (Some out) →
-      (h : TracesInput input (Some []) (Some trace)) →
-      PrintsTrace book out trace (told_lines input (Some []) (Some trace) h)
 
 -- What it means that lines and lives are one book: all that was promised holds of what the lines show.
 pub record OneBook : Type 0 where

@@ -1,3 +1,4 @@
+pub mod About
 pub mod Audits
 pub mod Carriers
 pub mod Described
@@ -11,17 +12,13 @@ pub mod Logs
 pub mod Mixed
 pub mod MixedLogs
 pub mod MixedPrinted
-pub mod MixedTraced
 pub mod Options
 pub mod Parser
 pub mod Printed
-pub mod Program
 pub mod Reading
-pub mod Recorded
 pub mod Replayed
 pub mod Steps
 pub mod Stopping
-pub mod Traced
 pub mod Worked
-pub mod WorkedSides
+pub mod WorkedVerdicts
 pub mod Laws

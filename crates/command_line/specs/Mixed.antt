@@ -30,9 +30,9 @@ use Rattle.command_line.specs.declared.fault.ScriptFault.TheVariants as fault
 abbrev pub DescribesMixed : List ℕ → MixedFields → Type 0
 DescribesMixed document t = mixed_in document ≡ Some t
 
--- an input: at most 1,048,576 octets, which are this topology, the marker line `%`, and a script of these events
+-- an input: at most 268,435,456 octets, which are this topology, the marker line `%`, and a script of these events
 pub record IsMixedInput (octets : List ℕ) (network : MixedFields) (events : List MixedWorldEvent) : Type 0 where
-  pub short : length octets ≤ 1048576
+  pub short : length octets ≤ 268435456
   pub document : List ℕ
   pub script : List ℕ
   pub parted : IsParted octets document script
@@ -44,7 +44,7 @@ IsSomeMixed octets = (network : MixedFields) × (events : List MixedWorldEvent) 
 
 -- all is well up to the script, of which this is the first bad line
 pub record HasBadMixedLine (octets : List ℕ) (number : ℕ) : Type 0 where
-  pub short : length octets ≤ 1048576
+  pub short : length octets ≤ 268435456
   pub document : List ℕ
   pub script : List ℕ
   pub network : MixedFields
@@ -62,8 +62,8 @@ pub record HasNoStrangers (octets : List ℕ) : Type 0 where
 -- when each fault may be given for octets that have to be such an input
 abbrev pub IsMixedFault : List ℕ → ScriptFault → Type 0
 IsMixedFault octets (fault.BadLine number) = HasBadMixedLine octets number
-IsMixedFault octets fault.BadTopology = (1048576 < length octets) ⊎ (All (λ line. line ≢ codes "%") (lines_of octets))
-    ⊎ HasNoStrangers octets
+IsMixedFault octets fault.TooLong = 268435456 < length octets
+IsMixedFault octets fault.BadTopology = (All (λ line. line ≢ codes "%") (lines_of octets)) ⊎ HasNoStrangers octets
 IsMixedFault octets fault.CannotRead = ⊥
 IsMixedFault octets fault.OutOfMemory = Unit {0}
 IsMixedFault octets fault.CannotWrite = IsSomeMixed octets

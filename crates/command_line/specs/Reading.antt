@@ -9,8 +9,8 @@ TellsEnd (Err e) ended = ended ≡ false
 
 -- the first octets are read, at most one more than an input may have
 abbrev pub ReadsFirst : Option (List ℕ) → Option (List ℕ) → Type 0
-ReadsFirst old new = (first : List ℕ) × Consumes old new first × (length first ≤ 1048577)
+ReadsFirst old new = (first : List ℕ) × Consumes old new first × (length first ≤ 268435457)
 
 -- all octets are read, or 1,048,577, which are too many for an input
 abbrev pub ReadsAll : Option (List ℕ) → Option (List ℕ) → Type 0
-ReadsAll old new = (first : List ℕ) × Consumes old new first × (IsAtEnd new ⊎ (length first ≡ 1048577))
+ReadsAll old new = (first : List ℕ) × Consumes old new first × (IsAtEnd new ⊎ (length first ≡ 268435457))

@@ -9,6 +9,7 @@ use Rattle.command_line.specs.declared.fault.ScriptFault.TheVariants as fault
 -- the faults of a topology
 abbrev pub IsNetworkFault : ScriptFault → Type 0
 IsNetworkFault fault.BadTopology = Unit {0}
+IsNetworkFault fault.TooLong = ⊥
 IsNetworkFault fault.OutOfMemory = Unit {0}
 IsNetworkFault fault.BadOptions = ⊥
 IsNetworkFault fault.CannotRead = ⊥
@@ -17,7 +18,8 @@ IsNetworkFault (fault.BadLine number) = ⊥
 
 -- the faults of reading octets
 abbrev pub IsReadFault : ScriptFault → Type 0
-IsReadFault fault.BadTopology = Unit {0}
+IsReadFault fault.TooLong = Unit {0}
+IsReadFault fault.BadTopology = ⊥
 IsReadFault fault.CannotRead = Unit {0}
 IsReadFault fault.OutOfMemory = Unit {0}
 IsReadFault fault.BadOptions = ⊥
@@ -29,6 +31,7 @@ abbrev pub IsReplayFault : ScriptFault → Type 0
 IsReplayFault fault.OutOfMemory = Unit {0}
 IsReplayFault fault.CannotWrite = Unit {0}
 IsReplayFault fault.BadTopology = ⊥
+IsReplayFault fault.TooLong = ⊥
 IsReplayFault fault.CannotRead = ⊥
 IsReplayFault fault.BadOptions = ⊥
 IsReplayFault (fault.BadLine number) = ⊥
@@ -38,6 +41,7 @@ abbrev pub IsEventsFault : Bool → List ℕ → ScriptFault → Type 0
 IsEventsFault raw text (fault.BadLine number) = IsFirstBadIn raw text number
 IsEventsFault raw text fault.OutOfMemory = Unit {0}
 IsEventsFault raw text fault.BadTopology = ⊥
+IsEventsFault raw text fault.TooLong = ⊥
 IsEventsFault raw text fault.BadOptions = ⊥
 IsEventsFault raw text fault.CannotRead = ⊥
 IsEventsFault raw text fault.CannotWrite = ⊥
@@ -47,6 +51,7 @@ abbrev pub IsMixedEventsFault : List ℕ → ScriptFault → Type 0
 IsMixedEventsFault text (fault.BadLine number) = IsFirstBadAs mixed_spelling IsMixedEvent text number
 IsMixedEventsFault text fault.OutOfMemory = Unit {0}
 IsMixedEventsFault text fault.BadTopology = ⊥
+IsMixedEventsFault text fault.TooLong = ⊥
 IsMixedEventsFault text fault.BadOptions = ⊥
 IsMixedEventsFault text fault.CannotRead = ⊥
 IsMixedEventsFault text fault.CannotWrite = ⊥
@@ -56,6 +61,7 @@ abbrev pub IsFollowFault : ScriptFault → Type 0
 IsFollowFault fault.OutOfMemory = Unit {0}
 IsFollowFault fault.CannotWrite = Unit {0}
 IsFollowFault fault.BadTopology = Unit {0}
+IsFollowFault fault.TooLong = Unit {0}
 IsFollowFault (fault.BadLine number) = Unit {0}
 IsFollowFault fault.CannotRead = ⊥
 IsFollowFault fault.BadOptions = ⊥

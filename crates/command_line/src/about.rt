@@ -2,15 +2,15 @@
 
 ghost use Rattle.std.specs.Prelude.{◌≡◌, ◌↔◌, Err, IfErr, OnOk, false, true};
 ghost use Rattle.std.specs.Io.KnownBytes.{Appends};
-ghost use Rattle.command_line.specs.Program.{version_text};
+ghost use Rattle.command_line.specs.About.{version_text};
 
 use crate::carriers::write_last;
 use crate::fault::ScriptFault;
 use replay::Output;
 
 /// The version of the program. What users write and read (options, scripts, topologies, printed lines, logs, traces) is
-/// what a version promises to keep.
-pub const VERSION: &str = "1.1.0";
+/// what a version promises to keep. Between releases it ends in `-dev`, so that a released number belongs to one program.
+pub const VERSION: &str = "1.2.0-dev";
 
 /// How the program is called, as it says itself.
 pub const HELP: &str = "\
@@ -41,7 +41,7 @@ why; 3 memory ran out, or a write failed; 4 an audited log has no safe book. doc
 /// Writes how the program is called.
 ///
 /// Errors: `CannotWrite`.
-pub(crate) fn write_help<W: Output>(writer: &mut W) -> Result<(), ScriptFault>
+pub fn write_help<W: Output>(writer: &mut W) -> Result<(), ScriptFault>
     requires { W.failed writer.old ≡ false }
     ensures written { OnOk result (Appends (W.contents writer.old) (W.contents writer.new) HELP.now) }
     ensures fault { IfErr result (λ f. f ≡ ScriptFault.CannotWrite) }
@@ -54,7 +54,7 @@ pub(crate) fn write_help<W: Output>(writer: &mut W) -> Result<(), ScriptFault>
 /// Writes the version of the program.
 ///
 /// Errors: `CannotWrite`.
-pub(crate) fn write_version<W: Output>(writer: &mut W) -> Result<(), ScriptFault>
+pub fn write_version<W: Output>(writer: &mut W) -> Result<(), ScriptFault>
     requires { W.failed writer.old ≡ false }
     ensures written { OnOk result (Appends (W.contents writer.old) (W.contents writer.new) version_text) }
     ensures fault { IfErr result (λ f. f ≡ ScriptFault.CannotWrite) }

@@ -20,8 +20,9 @@ pub enum ScriptFault {
     BadOptions,
     /// The input could not be read.
     CannotRead,
-    /// The input has more than 1,048,576 octets, has no line `%`, or begins with no topology that can be
-    /// replayed.
+    /// The input has more than 268,435,456 octets.
+    TooLong,
+    /// The input has no line `%`, or begins with no topology that can be replayed.
     BadTopology,
     /// This line of the script, counted from 1, is no event. Nothing was replayed.
     BadLine(usize),
@@ -42,6 +43,7 @@ impl fmt::Display for ScriptFault {
         match self {
             ScriptFault::BadOptions => f.write_str("arpasim: bad arguments"),
             ScriptFault::CannotRead => f.write_str("arpasim: cannot read"),
+            ScriptFault::TooLong => f.write_str("arpasim: input too long"),
             ScriptFault::BadTopology => f.write_str("arpasim: bad topology"),
             ScriptFault::BadLine(number) => write!(f, "arpasim: bad script line {number}"),
             ScriptFault::OutOfMemory | ScriptFault::CannotWrite => f.write_str("arpasim: stopped"),
@@ -56,7 +58,10 @@ impl ScriptFault {
         ensures { result ≡ status_of self.now }
     {
         match self {
-            ScriptFault::BadOptions | ScriptFault::CannotRead | ScriptFault::BadTopology => 1,
+            ScriptFault::BadOptions
+            | ScriptFault::CannotRead
+            | ScriptFault::TooLong
+            | ScriptFault::BadTopology => 1,
             ScriptFault::BadLine(_) => 2,
             ScriptFault::OutOfMemory | ScriptFault::CannotWrite => 3,
         }

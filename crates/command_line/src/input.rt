@@ -19,7 +19,7 @@ use world_script::{WorldEvent, read_world_script};
 
 /// What a script asks for.
 #[derive(Drop)]
-pub(crate) enum Events {
+pub enum Events {
     /// Events of a network without host programs.
     Raw(Vec<RawEvent>),
     /// Events of a network whose hosts have programs.
@@ -28,7 +28,7 @@ pub(crate) enum Events {
 
 /// What an input asks for.
 #[derive(Drop)]
-pub(crate) struct Input {
+pub struct Input {
     /// Its topology.
     pub network: Topology,
     /// The events of its script.
@@ -39,7 +39,7 @@ pub(crate) struct Input {
 ///
 /// Errors: `BadTopology` where the octets have no line `%` or begin with no topology,
 /// `BadLine` for the first line of the script that is no event, `OutOfMemory`.
-pub(crate) fn read_input(alloc: Global, octets: &[u8]) -> Result<Input, ScriptFault>
+pub fn read_input(alloc: Global, octets: &[u8]) -> Result<Input, ScriptFault>
     requires { length octets.now ≤ MAX_INPUT }
     ensures read { IfOk result (λ input. IsInput octets.now input.network (asked_of input.events)) }
     ensures fault { IfErr result (IsInputFault octets.now) }
@@ -89,14 +89,14 @@ pub(crate) const CHUNK: usize = 4096;
 /// Returns all octets that the reader gives. It is asked for one octet more than an input may have, and for none after
 /// that.
 ///
-/// Errors: `CannotRead` where a read fails, `BadTopology` where there are more octets than an input may
-/// have, `OutOfMemory`.
-pub(crate) fn read_octets<R: Source>(alloc: Global, reader: &mut R) -> Result<Vec<u8>, ScriptFault>
+/// Errors: `CannotRead` where a read fails, `TooLong` where there are more octets than an input may have,
+/// `OutOfMemory`.
+pub fn read_octets<R: Source>(alloc: Global, reader: &mut R) -> Result<Vec<u8>, ScriptFault>
     requires reads { R.failed reader.old ≡ false }
     requires more { R.ended reader.old ≡ false }
     ensures long { IfOk result (λ octets. length octets.items ≤ MAX_INPUT) }
     ensures whole { IfOk result (λ octets. IfSome (R.remaining reader.old) (λ known. octets.items ≡ known)) }
-    ensures too_long { result ≡ Err ScriptFault.BadTopology → IfSome (R.remaining reader.old) (λ known. MAX_INPUT < length known) }
+    ensures too_long { result ≡ Err ScriptFault.TooLong → IfSome (R.remaining reader.old) (λ known. MAX_INPUT < length known) }
     ensures fault { IfErr result IsReadFault }
     ensures failed { (result ≡ Err ScriptFault.CannotRead) ↔ (R.failed reader.new ≡ true) }
     ensures reads { ReadsFirst (R.remaining reader.old) (R.remaining reader.new) }
@@ -113,7 +113,7 @@ pub(crate) fn read_octets<R: Source>(alloc: Global, reader: &mut R) -> Result<Ve
         }
         octets.extend_from_slice(&chunk[..count])?;
     }
-    Err(ScriptFault::BadTopology)
+    Err(ScriptFault::TooLong)
 }
 
 /// Returns the topology that a document describes.

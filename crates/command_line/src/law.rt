@@ -1,8 +1,8 @@
-//! What the simulator promises, as laws over its definitions. The functions here do nothing: their clauses
+//! What replays, logs and audits promise, as laws over their definitions. The functions here do nothing: their clauses
 //! are the laws.
 
-ghost use Rattle.std.specs.Prelude.{◌≡◌, ◌↔◌, ◌++◌, ◌+◌, ℕ, Bool, true, false, List, [], ◌∷◌, length, reverse};
-ghost use Rattle.std.specs.Prelude.{Ok, Err, Option, Some, None, codes};
+ghost use Rattle.std.specs.Prelude.{◌≡◌, ◌↔◌, ◌+◌, ℕ, Bool, true, false, List, [], ◌∷◌, reverse};
+ghost use Rattle.std.specs.Prelude.{Ok, Option, Some, None, codes};
 ghost use Rattle.book_judge.specs.Fates.{AreSuited};
 ghost use Rattle.book_judge.specs.Lives.{AreMade};
 ghost use Rattle.book_judge.specs.Runs.{IsSomeRun};
@@ -31,19 +31,10 @@ ghost use Rattle.command_line.specs.Lived.{AreLived};
 ghost use Rattle.command_line.specs.Mixed.{RanMixed, RanMixedInPart};
 ghost use Rattle.command_line.specs.MixedLogs.{LoggedEither, LogsEither};
 ghost use Rattle.command_line.specs.MixedPrinted.{PrintsBookAmong, PrintsPartAmong, are_strange};
-ghost use Rattle.command_line.specs.MixedTraced.{TraceStopsEither, TracesEither};
 ghost use Rattle.command_line.specs.Printed.{PrintsBook, PrintsPart};
-ghost use Rattle.command_line.specs.Program.{Closes, EndsTask, Sides};
-ghost use Rattle.command_line.specs.Recorded.{PrintsTrace, recorded_text, unforgotten};
 ghost use Rattle.command_line.specs.Replayed.{Ran, RanInPart};
 ghost use Rattle.command_line.specs.Worked.{here, life_one, there, told_one, took_one};
-ghost use Rattle.command_line.specs.WorkedSides.{Never, NotSaid, matched_past, starts};
-ghost use Rattle.command_line.specs.WorkedSides.{drained, no_options, only_check, out_of_memory, unread, wrote};
-ghost use Rattle.command_line.specs.declared.auditing.AuditFault.TheVariants as unlogged;
-ghost use Rattle.command_line.specs.declared.fault.ScriptFault.TheVariants as script;
-ghost use Rattle.command_line.specs.declared.options.Task.TheVariants as task;
-ghost use Rattle.command_line.specs.declared.program.Done.TheVariants as did;
-ghost use Rattle.command_line.specs.declared.program.ProgramFault.TheVariants as fault;
+ghost use Rattle.command_line.specs.WorkedVerdicts.{NotSaid, matched_past};
 ghost use Rattle.command_line.specs.declared.verdict.Verdict.{Verdict};
 
 /// The input determines the output, with the book and without it, with texts and without them. It asks for one list of
@@ -58,37 +49,15 @@ pub fn first_part()
     ensures { FirstPart }
 {}
 
-/// The input determines its trace, too; and what was written before memory ran out is a prefix of the whole trace.
-pub fn one_trace()
-    ensures whole { (input before after other : List ℕ) → TracesEither input (Some before) (Some after) → TracesEither input (Some before) (Some other) → after ≡ other }
-    ensures part { (input before part whole : List ℕ) → TraceStopsEither input (Some before) (Some part) → TracesEither input (Some before) (Some whole) → (rest : List ℕ) × (whole ≡ part ++ rest) }
-{}
-
 /// The input determines its log.
 pub fn one_log()
     ensures { (input before after other : List ℕ) → LogsEither input (Some before) (Some after) → LogsEither input (Some before) (Some other) → after ≡ other }
 {}
 
 /// The outputs of one input are of one replay. Whether the book and texts are asked for only decides how much of it is
-/// printed; and the log is that of the crossings and the lives that are printed. The lines of a plain output are those
-/// that its trace has as printed, in turn.
+/// printed; and the log is that of the crossings and the lives that are printed.
 pub fn one_replay()
     ensures { OneReplay }
-{}
-
-/// Outputs that a trace does not have.
-pub fn worked_traces()
-    // the line of a crossing, where the trace has its first line only
-    ensures swallowed { (book : Bool) (opening trace : List ℕ) → PrintsTrace book starts trace (opening ∷ []) → ⊥ }
-
-    // a trace without its first line
-    ensures none { (book : Bool) (out trace : List ℕ) → PrintsTrace book out trace [] → ⊥ }
-
-    // no line of an event that printed something, where the trace has one
-    ensures left_out { (book : Bool) (opening trace : List ℕ) → PrintsTrace book (codes "end\n") trace (opening ∷ recorded_text unforgotten ∷ []) → ⊥ }
-
-    // whatever the output: no line of the trace has swallowed another one
-    ensures one_each { (book : Bool) (out opening trace : List ℕ) (lines : List (List ℕ)) (h : PrintsTrace book out trace (opening ∷ lines)) → length h.recorded ≡ length lines }
 {}
 
 /// What is printed is one book, of whatever network and events, with the book or without it: all that lines show is in
@@ -200,46 +169,6 @@ pub fn worked_words()
     ensures grants { (at : Finding) → word_text (record kept { grants = Some at }) ≡ [] }
     ensures toward { (n : ℕ) → word_text (record kept { toward = Some n }) ≡ [] }
     ensures both { (at : Finding) (n : ℕ) → word_text (record kept { grants = Some at; unsuited = Some n }) ≡ [] }
-{}
-
-/// Ends that the program does not have.
-pub fn worked_programs()
-    // memory ran out, and something is written of a log, of an audit, or of an input that is only read
-    ensures log_memory { (x : ℕ) → Never task.Log (wrote (x ∷ [])) out_of_memory }
-    ensures audit_memory { (x : ℕ) → Never task.Audit (wrote (x ∷ [])) (Err (fault.Audit unlogged.OutOfMemory)) }
-    ensures check_memory { (x : ℕ) → EndsTask None (Some only_check) (wrote (x ∷ [])) out_of_memory → ⊥ }
-
-    // an input that is only read, of which something else is written
-    ensures not_ok { EndsTask None (Some only_check) (wrote (codes "end\n")) (Ok did.Written) → ⊥ }
-
-    // a log and a trace that are not written, and an audit that leaves octets
-    ensures no_log { Never task.Log (wrote []) (Ok did.Written) }
-    ensures no_trace { Never task.Trace (wrote []) (Ok did.Written) }
-    ensures left { (v : Verdict) (x : ℕ) → Never task.Audit (unread (x ∷ [])) (Ok (did.Audited v)) }
-
-    // help that is not written, and words that ask for nothing taken for a replay
-    ensures no_help { Never task.Help (wrote []) (Ok did.Written) }
-    ensures not_refused { (s : Sides) → EndsTask None None s (Ok did.Written) → ⊥ }
-
-    // what was written is held back when memory runs out, and something is written before a bad line is found
-    ensures held_back { Closes out_of_memory false false false ⊥ → ⊥ }
-    ensures left_written { (line : ℕ) → Closes (Err (fault.Script (script.BadLine line))) false false true ⊥ → ⊥ }
-{}
-
-/// Ends that report no failure, or a wrong one.
-pub fn worked_failures()
-    // a read and a write failed, and the program ends as if it were done; and none failed, and one is reported
-    ensures unread { Closes (Ok did.Written) true false true ⊥ → ⊥ }
-    ensures unwritten { Closes (Ok did.Written) false true true ⊥ → ⊥ }
-    ensures no_read { Closes (Err (fault.Script script.CannotRead)) false false true (Unit {0}) → ⊥ }
-    ensures no_write { Closes (Err (fault.Audit unlogged.CannotWrite)) false false true (Unit {0}) → ⊥ }
-
-    // help after something was read, and a replay that prints nothing
-    ensures reads_first { (x : ℕ) → Never task.Help (drained x) (Err (fault.Script script.CannotWrite)) }
-    ensures no_output { EndsTask None (Some no_options) (wrote []) (Ok did.Written) → ⊥ }
-
-    // options that were read are not refused
-    ensures good_words { (s : Sides) → EndsTask None (Some no_options) s (Err (fault.Script script.BadOptions)) → ⊥ }
 {}
 
 /// Places at which a part of a log isn't broken: partners are broken at two lives, the second one after the first, and

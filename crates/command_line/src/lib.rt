@@ -1,8 +1,8 @@
-//! The simulator and its command line: which options it takes, what it reads, and what it writes.
+//! The command line of the simulator, and all that it asks for but a trace: a replay, its log, and the audit of a log.
 //!
-//! [`run_program`] is the whole program: its words ask for a replay with [`Options`], for its log or its trace, or for
-//! the audit of a log, or for what the program says of itself. [`run`] is the part of it that replays an input or only
-//! reads it, as the options ask, and [`run_script`] does the same for options that were read already.
+//! [`Task::of`] and [`Options::read`] say what words ask for. [`run`] replays an input or only reads it, as the options
+//! ask, and [`run_script`] does the same for options that were read already; [`run_log`] writes the log of a replay, and
+//! [`run_audit`] judges one. What the program says of itself is here, too ([`write_help`], [`write_version`]).
 //!
 //! An input is a topology, the marker line `%` and a script. A caller may rely on three things. Every input is
 //! replayed or refused by name, with the first fault of the list. What is written is what the replay shows.
@@ -25,24 +25,21 @@ mod layout;
 mod logging;
 mod mixed;
 mod mixed_logging;
-mod mixed_tracing;
 mod options;
-mod program;
 mod simulator;
 mod source;
-mod tracing;
 mod verdict;
 
-pub use about::{HELP, VERSION};
+pub use about::{HELP, VERSION, write_help, write_version};
 pub use auditing::{AuditFault, audit_status, run_audit};
 pub use carriers::subnet_of;
 pub use fault::ScriptFault;
+pub use input::{Events, Input, read_input, read_octets};
 pub use logging::run_log;
+pub use mixed::{MixedInput, read_mixed_input};
 pub use net_sim::Finding;
 pub use options::{Options, OptionsFault, Task};
-pub use program::{Done, ProgramFault, exit_status, run_program};
 pub use replay::{Detail, Output, Printer, WriteFailed};
 pub use simulator::{run, run_script};
 pub use source::{ReadFailed, Reader, Source};
-pub use tracing::run_trace;
 pub use verdict::Verdict;

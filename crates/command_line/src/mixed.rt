@@ -26,7 +26,7 @@ use world_script::{MixedWorldEvent, read_mixed_script};
 
 /// What an input of a network with strangers asks for.
 #[derive(Drop)]
-pub(crate) struct MixedInput {
+pub struct MixedInput {
     /// Its topology.
     pub network: MixedTopology,
     /// The events of its script.
@@ -37,7 +37,7 @@ pub(crate) struct MixedInput {
 ///
 /// Errors: `BadTopology` where the octets have no line `%` or begin with no topology with strangers,
 /// `BadLine` for the first line of the script that is no event, `OutOfMemory`.
-pub(crate) fn read_mixed_input(alloc: Global, octets: &[u8]) -> Result<MixedInput, ScriptFault>
+pub fn read_mixed_input(alloc: Global, octets: &[u8]) -> Result<MixedInput, ScriptFault>
     requires { length octets.now ≤ MAX_INPUT }
     ensures read { IfOk result (λ input. IsMixedInput octets.now input.network input.events.items) }
     ensures fault { IfErr result (IsMixedFault octets.now) }

@@ -99,7 +99,8 @@ pub fn run<R: Source, W: Output>(
 ///
 /// Errors, in this order:
 /// - `CannotRead`: a read failed. Nothing more is asked of the reader.
-/// - `BadTopology`: the input has more than 1,048,576 octets, has no line `%`, or begins with no topology.
+/// - `TooLong`: the input has more than 268,435,456 octets.
+/// - `BadTopology`: the input has no line `%`, or begins with no topology.
 /// - `BadLine`: the first line of the script that is no event. Nothing is replayed and nothing is written.
 /// - `CannotWrite`: a write or a flush failed. Nothing more is asked of the writer, which is the only one to know how
 ///   much was written.

@@ -8,6 +8,7 @@ use Rattle.reset_law.specs.Events.{Event}
 use Rattle.reset_law.specs.Runs.{IsRun}
 use Rattle.reset_law.specs.Stays as stays
 use Rattle.host_keeps_pairing.specs.Spoken.{marks_of_text, one_more, spoken_upon, untagged, upon}
+use Rattle.reset_law.specs.Network.{AreOurs, Network}
 
 pub untagged_is : (place : ℕ) (text : List Bool) → untagged (tagged place text) ≡ (place, text)
 untagged_is zero text = refl
@@ -44,5 +45,5 @@ front_spoken own foreign xs ys front =
     let above : Above (spoken_upon own foreign front.0 (spoken_upon own foreign xs [])) (spoken_upon own foreign xs []) = spoken_above own foreign front.0 (spoken_upon own foreign xs []) in
     (above.new, ap (λ (texts : List (List Bool)). spoken_upon own foreign texts []) (sym front.1) ∙ spoken_append own foreign xs front.0 [] ∙ above.is)
 
-pub heard_older : (hosts : List Host) (events : List Event) → IsRun hosts events → (a b : Host) (own foreign : ℕ) → IsOlder (listened a b own foreign events) (spoken a b own foreign events)
-heard_older hosts events run a b own foreign = front_spoken own foreign (stays.heard_in_stay a b 0 (placed events)) (stays.said_in_stay a b 0 (placed events)) (placed_front hosts events run a b 0)
+pub heard_older : (hosts : Network) (events : List Event) → IsRun hosts events → (a b : Host) → AreOurs hosts a b → (own foreign : ℕ) → IsOlder (listened a b own foreign events) (spoken a b own foreign events)
+heard_older hosts events run a b ours own foreign = front_spoken own foreign (stays.heard_in_stay a b 0 (placed events)) (stays.said_in_stay a b 0 (placed events)) (placed_front hosts events run a b ours 0)

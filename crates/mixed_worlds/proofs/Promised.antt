@@ -5,7 +5,10 @@ use Rattle.interface.specs.declared.crossing.Crossing.TheVariants as crossing
 use Rattle.net_sim.specs.Clean.{HaveAddresses}
 use Rattle.net_sim.specs.Timeline.{IsTimeline}
 use Rattle.net_sim.proofs.lemmas.{kept_fated}
-use Rattle.world_keeps_pairing.specs.Laws.Worlds.{Lives}
+use Rattle.net_sim.proofs.lemmas.{Coupled}
+use Rattle.net_sim.proofs.lemmas.AllOurs.{coupled}
+use Rattle.reset_law.specs.Network.{all_ours}
+use Rattle.world_keeps_pairing.proofs.lemmas.AllOurs.{life_alone, safe_partners, served_in}
 use Rattle.world_keeps_lives.specs.Laws.{Programs}
 use Rattle.world_keeps_streams.specs.Laws as ends
 
@@ -19,18 +22,19 @@ below hosts [] earlier h = h
 below hosts (Crossed c ∷ later) earlier h = below hosts later earlier (record { run = h.run.1; time = h.time.1 })
 below hosts (Asked g r ∷ later) earlier h = below hosts later earlier (record { run = h.run; time = h.time.1 })
 
-pub promised : Lives → Programs → ends.Lives → (hosts : List Host) (moments : List Moment) → HaveAddresses hosts
+pub promised : Programs → ends.Lives → (hosts : List Host) (moments : List Moment) → HaveAddresses hosts
     → IsRun hosts (crossings_of moments) → IsTimeline hosts moments → Promises hosts moments
-promised pairing programs connections hosts moments addresses run time = record {
+promised programs connections hosts moments addresses run time = record {
   time = time;
   run = run;
   formed = connections.formed hosts moments addresses run time;
   told = programs.told hosts moments addresses run time;
   safe = record {
     messages = safe_messages hosts (crossings_of moments) run;
-    partners = pairing.partners hosts moments addresses run time;
+    partners = safe_partners hosts moments c.story c.run run (served_in hosts moments time);
     streams = record {
-      one = λ receiver x y there two mx my. pairing.one hosts moments addresses run time receiver x y two mx my;
+      one = λ receiver x y there two mx my.
+          life_alone hosts moments c.story c.run run (served_in hosts moments time) receiver x y two mx my;
       source = λ receiver there kind some.
           connections.source hosts moments addresses run time receiver there kind some;
       sent = programs.handed hosts moments addresses run time;
@@ -72,6 +76,9 @@ promised pairing programs connections hosts moments addresses run time = record 
   handed = λ later earlier is.
       (let h : IsLater hosts earlier = older later earlier is in connections.handed hosts earlier addresses h.run h.time);
 } where
+  c : Coupled (all_ours hosts) moments
+  c = coupled hosts addresses moments run time
+
   older : (later earlier : List Moment) → moments ≡ later ++ earlier → IsLater hosts earlier
   older later earlier is = below hosts later earlier
       (subst (λ (ms : List Moment). IsLater hosts ms) is (record { run = run; time = time }))

@@ -35,7 +35,6 @@ use masked_worlds::law::{masked, masked_logs};
 use net_sim::law::orders;
 use world_keeps_connections::law as connections;
 use world_keeps_lives::law::programs;
-use world_keeps_pairing::law as pairing;
 use world_keeps_streams::law as streams;
 
 /// Hosts with programs among each other, whatever strangers send and take.
@@ -45,7 +44,6 @@ pub fn among()
     masked_logs();
     masked();
     orders();
-    pairing::lives();
     programs();
     streams::lives();
     connections::lives();

@@ -3,4 +3,5 @@ pub mod Books
 pub mod Resets
 pub mod Hosts
 pub mod Audits
+pub mod AllOurs
 pub mod lemmas

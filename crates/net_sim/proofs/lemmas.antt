@@ -1,4 +1,6 @@
 -- The lemmas of this crate that others may use: the proofs of headline, world_keeps_connections, world_keeps_lives, world_keeps_pairing, world_keeps_streams, world_replay and world_trace do. All others in proofs/ are its own.
+pub use Rattle.net_sim.proofs.AllOurs
+pub use Rattle.net_sim.proofs.AllOurs.{kept_same}
 pub use Rattle.net_sim.proofs.Books.Always.{calm_keeps}
 pub use Rattle.net_sim.proofs.Books.Booked.{booked_messages}
 pub use Rattle.net_sim.proofs.Books.Fated.{by_fated, kept_fated, told_fated, world_fated}

@@ -17,6 +17,7 @@ pub mod Clean
 pub mod WorkedResets
 pub mod Told
 pub mod Mixed
+pub mod Among
 pub mod MixedWorlds
 pub mod WorkedMoments
 pub mod SmallLogs

@@ -2,6 +2,7 @@
 -- users, notices and lives (NIC 8246). Lists are read newest first.
 use Rattle.std.specs.Prelude.{◌≡◌, Bool, false, if◌then◌else◌, List, [], ◌∷◌}
 use Rattle.interface.specs.Host.{Host}
+use Rattle.reset_law.specs.Network.{Network}
 use Rattle.net_sim.specs.Book.{Kept, all_told, crossed, opening_kept}
 use Rattle.net_sim.specs.Story.{Moment, Crossed, Asked}
 use Rattle.net_sim.specs.Timeline.{Happens}
@@ -14,6 +15,10 @@ MayHappen strange hosts x moments = strange (host_in x) ≡ false → Happens ho
 abbrev pub AreMixed : (Host → Bool) → List Host → List Moment → Type 0
 AreMixed strange hosts [] = Unit {0}
 AreMixed strange hosts (x ∷ moments) = MayHappen strange hosts x moments × AreMixed strange hosts moments
+
+-- what happened in a network, whatever its strangers did
+abbrev pub Happened : Network → List Moment → Type 0
+Happened hosts moments = AreMixed hosts.strange hosts.all moments
 
 -- of a stranger only what crosses is kept
 abbrev pub crossed_only : Moment → Kept → Kept

@@ -1,6 +1,6 @@
 -- What happens to all hosts in one list, the crossings and what users ask for, and the programs and events that come of it.
 -- The list is read newest first.
-use Rattle.std.specs.Prelude.{◌≡◌, ℕ, ◌+◌, true, if◌then◌else◌, List, [], ◌∷◌, map, Some, is_some}
+use Rattle.std.specs.Prelude.{◌≡◌, ℕ, ◌+◌, Bool, true, false, if◌then◌else◌, List, [], ◌∷◌, map, Some, is_some}
 use Rattle.interface.specs.Host.{Host, same_host}
 use Rattle.interface.specs.declared.crossing.Crossing.{Crossing}
 use Rattle.interface.specs.declared.crossing.Crossing.TheVariants as crossing
@@ -17,6 +17,7 @@ use Rattle.sockets.specs.declared.request.Request.{Request}
 use Rattle.reset_law.specs.Events.{Event}
 use Rattle.reset_law.specs.Pairs.{pair}
 use Rattle.net_sim.specs.Projection.{IsApart, message_on, event_of, event_by}
+use Rattle.reset_law.specs.Network.{AreOurs, Network}
 
 -- something crosses, or the user of a host asks for something and isn't refused
 pub data Moment : Type 0 where
@@ -58,14 +59,15 @@ pub record IsNext (s : NcpState) (m : HostMessage) : Type 0 where
   pub next : next_in s.peers ≡ Some (peer, parcel)
   pub message : m ≡ message_for s.own peer parcel
 
--- what a moment asks of those before it: what goes out is what the program says, what is taken has RST and RRP only or neither,
--- and an answer is about a message that is outstanding
-abbrev pub Follows : Moment → List Moment → Type 0
-Follows (Crossed (crossing.Out m)) moments = IsNext (program m.flow.source moments) m
-Follows (Crossed (crossing.In m)) moments = IsApart m.flow.link.0 m.text (message_on m.flow.link.0 m.text)
-Follows (Crossed (crossing.Answer kind f)) moments = is_some ((pair f.source f.destination (events_of moments)).out f.link.0) ≡ true
-Follows x moments = Unit {0}
+-- what a moment asks of those before it: what goes out of a host with a program is what the program says, and between two of them
+-- what is taken has RST and RRP only or neither, and an answer is about a message that is outstanding
+abbrev pub Follows : Network → Moment → List Moment → Type 0
+Follows hosts (Crossed (crossing.Out m)) moments = hosts.strange m.flow.source ≡ false → IsNext (program m.flow.source moments) m
+Follows hosts (Crossed (crossing.In m)) moments = AreOurs hosts m.flow.source m.flow.destination → IsApart m.flow.link.0 m.text (message_on m.flow.link.0 m.text)
+Follows hosts (Crossed (crossing.Answer kind f)) moments =
+    AreOurs hosts f.source f.destination → is_some ((pair f.source f.destination (events_of moments)).out f.link.0) ≡ true
+Follows hosts x moments = Unit {0}
 
-abbrev pub IsStory : List Moment → Type 0
-IsStory [] = Unit {0}
-IsStory (x ∷ moments) = Follows x moments × IsStory moments
+abbrev pub IsStory : Network → List Moment → Type 0
+IsStory hosts [] = Unit {0}
+IsStory hosts (x ∷ moments) = Follows hosts x moments × IsStory hosts moments

@@ -14,6 +14,7 @@ ghost use Rattle.net_sim.specs.Projection.{Agrees, event_of};
 ghost use Rattle.net_sim.specs.Timeline.{IsAddressed, crossings_of, seen_box};
 ghost use Rattle.reset_law.specs.Boxes.{boxes};
 ghost use Rattle.reset_law.specs.Events as events;
+ghost use Rattle.reset_law.specs.Network.{AreOurs, Network};
 ghost use Rattle.reset_law.specs.Pairs as pairs;
 ghost use Rattle.reset_law.specs.Runs as runs;
 ghost use Rattle.sockets.specs.Accepting.{accepted};
@@ -35,7 +36,7 @@ pub fn resets()
 /// What becomes of all programs, moment by moment: crossings, and what users ask for.
 pub fn stories()
     // in a story each program is, for each peer, where the law of resets has it
-    ensures agrees { (moments : List Moment) (a b : Host) → IsStory moments → Agrees (pair_with b (program a moments).peers) (pairs.pair a b (events_of moments)) }
+    ensures agrees { (hosts : Network) (moments : List Moment) (a b : Host) → AreOurs hosts a b → IsStory hosts moments → Agrees (pair_with b (program a moments).peers) (pairs.pair a b (events_of moments)) }
 
     // and keeps its own address
     ensures own { (moments : List Moment) (a : Host) → (program a moments).own ≡ a }

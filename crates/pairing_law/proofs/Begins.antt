@@ -16,6 +16,7 @@ use Rattle.reset_law.specs.Runs.{IsRun}
 use Rattle.ncp_control.specs.Phases.{is_ready}
 use Rattle.reset_law.specs.Stays.{ready, joint, begins, takes_reset, stays}
 use Rattle.reset_law.proofs.lemmas.{at, carry, contradicts, down_pair, ready_phase, ready_taken, ready_up, reply_from, reset_unready, sound_run, stays_ready, still_ready, turned_about, unready_phase}
+use Rattle.reset_law.specs.Network.{AreOurs, Network}
 
 -- ---- an RST that was taken
 
@@ -155,17 +156,17 @@ reset_waits (Waiting p Reset) m w e = sym w
 reset_waits (Waiting p Reply) m w e = absurd (cc)
 reset_waits (Waiting p (Other text)) m w e = absurd (cc)
 
-gone_up : (hosts : List Host) (events : List Event) → IsRun hosts events → (a b : Host) (early : Bool) → (pair a b events).phase ≡ Gone early → is_up hosts a events ≡ true
-gone_up hosts events r a b early gone = by (is_up hosts a events) refl where
-  by : (v : Bool) → is_up hosts a events ≡ v → is_up hosts a events ≡ true
+gone_up : (hosts : Network) (events : List Event) → IsRun hosts events → (a b : Host) → AreOurs hosts a b → (early : Bool) → (pair a b events).phase ≡ Gone early → is_up hosts.all a events ≡ true
+gone_up hosts events r a b ours early gone = by (is_up hosts.all a events) refl where
+  by : (v : Bool) → is_up hosts.all a events ≡ v → is_up hosts.all a events ≡ true
   by true e = e
-  by false e = absurd (let both : Gone early ≡ Closed = sym gone ∙ ap (λ (p : Pair). p.phase) (down_pair hosts events r a b e) in absurd (cc))
+  by false e = absurd (let both : Gone early ≡ Closed = sym gone ∙ ap (λ (p : Pair). p.phase) (down_pair hosts events r a b ours e) in absurd (cc))
 
-takes_it : (hosts : List Host) (events : List Event) (x y : Host) (l : ℕ) (m : Message) → IsRun hosts (In x y l m ∷ events) → (v w : Host) → are v w x y ≡ true → l ≡ 0 → IsGone (pair v w events).phase
+takes_it : (hosts : Network) (events : List Event) (x y : Host) (l : ℕ) (m : Message) → IsRun hosts (In x y l m ∷ events) → (v w : Host) → AreOurs hosts v w → are v w x y ≡ true → l ≡ 0 → IsGone (pair v w events).phase
     → takes_reset w v (In x y l m) ≡ true
-takes_it hosts events x y l m r v w same zero gone =
-    let up : is_up hosts v events ≡ true = gone_up hosts events r.2 v w gone.0 gone.1 in
-    let s : Sound (pair v w events) (monitor v w events) (boxes v w events) = sound_run hosts events r.2 v w up in
+takes_it hosts events x y l m r v w ours same zero gone =
+    let up : is_up hosts.all v events ≡ true = gone_up hosts events r.2 v w ours gone.0 gone.1 in
+    let s : Sound (pair v w events) (monitor v w events) (boxes v w events) = sound_run hosts events r.2 v w ours up in
     let S : Phase → Type 0 = λ ph. Shape ph (monitor v w events) (pair v w events).begun (pair v w events).out in
     let i : InGone gone.0 (monitor v w events) (pair v w events).begun (pair v w events).out = subst S gone.1 s.shape in
     let waits : WaitsWith (boxes v w events l) m = carry (λ i j. WaitsWith (boxes i j events l) m) v w x y same r.0.1 in
@@ -174,23 +175,23 @@ takes_it hosts events x y l m r v w same zero gone =
     subst (λ (n : Message). takes_reset w v (In x y l n) ≡ true) (sym rst) (turned_about w v y x same)
 
 -- a host whose RST was taken has a peer that left
-has_left : (hosts : List Host) (events : List Event) → IsRun hosts events → (v w : Host) → HasGone (pair v w events).phase (boxes v w events 0) → stays w v events ≡ false
-has_left hosts [] r v w h = refl
-has_left hosts (Contact x y ∷ events) r v w h = stays_left (Contact x y) events v w h (inr (has_left hosts events r.2 v w (call_gone (are v w x y) (pair v w events) (boxes v w events 0) h)))
-has_left hosts (Out x y l m ∷ events) r v w h =
+has_left : (hosts : Network) (events : List Event) → IsRun hosts events → (v w : Host) → AreOurs hosts v w → HasGone (pair v w events).phase (boxes v w events 0) → stays w v events ≡ false
+has_left hosts [] r v w ours h = refl
+has_left hosts (Contact x y ∷ events) r v w ours h = stays_left (Contact x y) events v w h (inr (has_left hosts events r.2 v w ours (call_gone (are v w x y) (pair v w events) (boxes v w events 0) h)))
+has_left hosts (Out x y l m ∷ events) r v w ours h =
     stays_left (Out x y l m) events v w h
-    (inr (has_left hosts events r.2 v w (sent_gone (are v w x y) l (place events) m (pair v w events) (boxes v w events) (λ e. carry (λ i j. MaySend (pair i j events) l m) v w x y e r.1) h)))
-has_left hosts (In x y l m ∷ events) r v w h =
+    (inr (has_left hosts events r.2 v w ours (sent_gone (are v w x y) l (place events) m (pair v w events) (boxes v w events) (λ e. carry (λ i j. AreOurs hosts i j → MaySend (pair i j events) l m) v w x y e r.1 ours) h)))
+has_left hosts (In x y l m ∷ events) r v w ours h =
     stays_left (In x y l m) events v w h (elim (fetched_gone (are v w x y) l (place events) (pair v w events).phase (boxes v w events) (took_gone (are v w y x) m (pair v w events) (boxes v w (In x y l m ∷ events) 0) h)) [
-      | inl old ↦ inr (has_left hosts events r.2 v w old)
-      | inr now ↦ inl (takes_it hosts events x y l m r v w now.0 now.1 now.2)
+      | inl old ↦ inr (has_left hosts events r.2 v w ours old)
+      | inr now ↦ inl (takes_it hosts events x y l m r v w ours now.0 now.1 now.2)
     ])
-has_left hosts (Told x y l k ∷ events) r v w h =
+has_left hosts (Told x y l k ∷ events) r v w ours h =
     stays_left (Told x y l k) events v w h
-    (inr (has_left hosts events r.2 v w (told_gone (are v w x y) l (place events) k (pair v w events) (boxes v w events) (λ e. carry (λ i j. Fits k (boxes i j events l)) v w x y e r.0.1) h)))
-has_left hosts (Down x ∷ events) r v w h = stays_left (Down x) events v w h (inr (has_left hosts events r.2 v w (down_gone (same_host v x) (pair v w events) (boxes v w events 0) h)))
-has_left hosts (Up x ∷ events) r v w h = stays_left (Up x) events v w h (inr (has_left hosts events r.2 v w (up_gone (same_host v x) (place events) (pair v w events) (boxes v w events) h)))
-has_left hosts (Idle ∷ events) r v w h = stays_left Idle events v w h (inr (has_left hosts events r.2 v w h))
+    (inr (has_left hosts events r.2 v w ours (told_gone (are v w x y) l (place events) k (pair v w events) (boxes v w events) (λ e. carry (λ i j. Fits k (boxes i j events l)) v w x y e r.0.1) h)))
+has_left hosts (Down x ∷ events) r v w ours h = stays_left (Down x) events v w h (inr (has_left hosts events r.2 v w ours (down_gone (same_host v x) (pair v w events) (boxes v w events 0) h)))
+has_left hosts (Up x ∷ events) r v w ours h = stays_left (Up x) events v w h (inr (has_left hosts events r.2 v w ours (up_gone (same_host v x) (place events) (pair v w events) (boxes v w events) h)))
+has_left hosts (Idle ∷ events) r v w ours h = stays_left Idle events v w h (inr (has_left hosts events r.2 v w ours h))
 
 -- ---- how a stay begins
 
@@ -216,26 +217,26 @@ unready_left events v w none = by (stays v w events) refl where
   by false e = e
   by true e = absurd (none (ready_phase (pair v w events).phase (stays_ready events v w e)))
 
-heard_left : (hosts : List Host) (events : List Event) → IsRun hosts events → (v w : Host) → (pair v w events).phase ≡ Heard → stays w v events ≡ false
-heard_left hosts events r v w h = has_left hosts events r v w (subst (λ (ph : Phase). HasGone ph (boxes v w events 0)) (sym h) tt)
+heard_left : (hosts : Network) (events : List Event) → IsRun hosts events → (v w : Host) → AreOurs hosts v w → (pair v w events).phase ≡ Heard → stays w v events ≡ false
+heard_left hosts events r v w ours h = has_left hosts events r v w ours (subst (λ (ph : Phase). HasGone ph (boxes v w events 0)) (sym h) tt)
 
-became_fresh : (hosts : List Host) (e : Event) (events : List Event) → IsRun hosts (e ∷ events) → (v w : Host) → (pair v w (e ∷ events)).phase ≡ Ready → (pair v w events).phase ≢ Ready
+became_fresh : (hosts : Network) (e : Event) (events : List Event) → IsRun hosts (e ∷ events) → (v w : Host) → AreOurs hosts v w → (pair v w (e ∷ events)).phase ≡ Ready → (pair v w events).phase ≢ Ready
     → (pair w v (e ∷ events)).phase ≡ Ready → Fresh v w e events
-became_fresh hosts (Contact x y) events r v w here before there = absurd (before (still_ready (are v w x y) Call (place events) (pair v w events) (monitor v w events) tt here).0)
-became_fresh hosts (Out x y l m) events r v w here before there = absurd (before (still_ready (are v w x y) (Send l m) (place events) (pair v w events) (monitor v w events) tt here).0)
-became_fresh hosts (In x y l Reset) events r v w here before there = elim (ready_taken (are v w y x) Reset (place events) (pair v w events) (monitor v w events) here) [
-  | inl s ↦ absurd (reset_unready hosts events x y l r v w s.0 there)
+became_fresh hosts (Contact x y) events r v w ours here before there = absurd (before (still_ready (are v w x y) Call (place events) (pair v w events) (monitor v w events) tt here).0)
+became_fresh hosts (Out x y l m) events r v w ours here before there = absurd (before (still_ready (are v w x y) (Send l m) (place events) (pair v w events) (monitor v w events) tt here).0)
+became_fresh hosts (In x y l Reset) events r v w ours here before there = elim (ready_taken (are v w y x) Reset (place events) (pair v w events) (monitor v w events) here) [
+  | inl s ↦ absurd (reset_unready hosts events x y l r v w ours s.0 there)
   | inr t ↦ absurd (before t.0)
 ]
-became_fresh hosts (In x y l Reply) events r v w here before there = elim (ready_taken (are v w y x) Reply (place events) (pair v w events) (monitor v w events) here) [
+became_fresh hosts (In x y l Reply) events r v w ours here before there = elim (ready_taken (are v w y x) Reply (place events) (pair v w events) (monitor v w events) here) [
   | inl s ↦ elim (reply_from (are v w y x) (pair v w events) here) [
     | inl awaited ↦
-        (let up : is_up hosts v events ≡ true = ready_up hosts (In x y l Reply ∷ events) r v w here in
-        let sound : Sound (pair v w events) (monitor v w events) (boxes v w events) = sound_run hosts events r.2 v w up in
+        (let up : is_up hosts.all v events ≡ true = ready_up hosts (In x y l Reply ∷ events) r v w ours here in
+        let sound : Sound (pair v w events) (monitor v w events) (boxes v w events) = sound_run hosts events r.2 v w ours up in
         let S : Phase → Type 0 = λ ph. Shape ph (monitor v w events) (pair v w events).begun (pair v w events).out in
         let i : InHeard (monitor v w events) (pair v w events).begun (pair v w events).out = subst S awaited sound.shape in
-        let peer_up : is_up hosts w events ≡ true = ready_up hosts (In x y l Reply ∷ events) r w v there in
-        let other : Sound (pair w v events) (monitor w v events) (boxes w v events) = sound_run hosts events r.2 w v peer_up in
+        let peer_up : is_up hosts.all w events ≡ true = ready_up hosts (In x y l Reply ∷ events) r w v (ours.1, ours.0) there in
+        let other : Sound (pair w v events) (monitor w v events) (boxes w v events) = sound_run hosts events r.2 w v (ours.1, ours.0) peer_up in
         let same : are w v x y ≡ true = turned_about w v x y s.0 in
         let waits : WaitsWith (boxes w v events l) Reply = carry (λ i j. WaitsWith (boxes i j events l) Reply) w v x y same r.0.1 in
         let out : (pair w v events).out l ≡ Some Rrp = other.outstanding.boxed l ∙ reply_kind (boxes w v events l) waits in
@@ -244,35 +245,35 @@ became_fresh hosts (In x y l Reply) events r v w here before there = elim (ready
           silent = reply_begun (are v w y x) (pair v w events) i.silent;
           silent_peer = reply_begun (are w v y x) (pair w v events) (other.outstanding.replying (subst (λ (k : ℕ). (pair w v events).out k ≡ Some Rrp) zero out));
           left = unready_left events v w before;
-          peer_left = heard_left hosts events r.2 v w awaited;
+          peer_left = heard_left hosts events r.2 v w ours awaited;
         })
     | inr old ↦ absurd (before old)
   ]
   | inr t ↦ absurd (before t.0)
 ]
-became_fresh hosts (In x y l (Other text)) events r v w here before there = elim (ready_taken (are v w y x) (Other text) (place events) (pair v w events) (monitor v w events) here) [
+became_fresh hosts (In x y l (Other text)) events r v w ours here before there = elim (ready_taken (are v w y x) (Other text) (place events) (pair v w events) (monitor v w events) here) [
   | inl s ↦ (let both : false ≡ true = s.1 in absurd (cc))
   | inr t ↦ absurd (before t.0)
 ]
-became_fresh hosts (Told x y l k) events r v w here before there = absurd (before (still_ready (are v w x y) (Hear l k) (place events) (pair v w events) (monitor v w events) tt here).0)
-became_fresh hosts (Down x) events r v w here before there = absurd (before (still_ready (same_host v x) Begin (place events) (pair v w events) (monitor v w events) tt here).0)
-became_fresh hosts (Up x) events r v w here before there = absurd (before (still_ready (same_host v x) Begin (place events) (pair v w events) (monitor v w events) tt here).0)
-became_fresh hosts Idle events r v w here before there = absurd (before here)
+became_fresh hosts (Told x y l k) events r v w ours here before there = absurd (before (still_ready (are v w x y) (Hear l k) (place events) (pair v w events) (monitor v w events) tt here).0)
+became_fresh hosts (Down x) events r v w ours here before there = absurd (before (still_ready (same_host v x) Begin (place events) (pair v w events) (monitor v w events) tt here).0)
+became_fresh hosts (Up x) events r v w ours here before there = absurd (before (still_ready (same_host v x) Begin (place events) (pair v w events) (monitor v w events) tt here).0)
+became_fresh hosts Idle events r v w ours here before there = absurd (before here)
 
 one_false : (s t : Bool) → not (s && t) ≡ true → (s ≡ false) ⊎ (t ≡ false)
 one_false true true e = absurd (cc)
 one_false true false e = inr refl
 one_false false t e = inl refl
 
-pub begins_fresh : (hosts : List Host) (e : Event) (events : List Event) → IsRun hosts (e ∷ events) → (a b : Host) → begins a b e events ≡ true → Fresh a b e events
-begins_fresh hosts e events r a b begun =
+pub begins_fresh : (hosts : Network) (e : Event) (events : List Event) → IsRun hosts (e ∷ events) → (a b : Host) → AreOurs hosts a b → begins a b e events ≡ true → Fresh a b e events
+begins_fresh hosts e events r a b ours begun =
     let t : (joint a b (e ∷ events) ≡ true) × (not (joint a b events) ≡ true) = and_parts (joint a b (e ∷ events)) (not (joint a b events)) begun in
     let now : (ready a b (e ∷ events) ≡ true) × (ready b a (e ∷ events) ≡ true) = and_parts (ready a b (e ∷ events)) (ready b a (e ∷ events)) t.0 in
     let first : (pair a b (e ∷ events)).phase ≡ Ready = ready_phase (pair a b (e ∷ events)).phase now.0 in
     let second : (pair b a (e ∷ events)).phase ≡ Ready = ready_phase (pair b a (e ∷ events)).phase now.1 in
     elim (one_false (ready a b events) (ready b a events) t.1) [
-      | inl was ↦ became_fresh hosts e events r a b first (unready_phase (pair a b events).phase was) second
+      | inl was ↦ became_fresh hosts e events r a b ours first (unready_phase (pair a b events).phase was) second
       | inr was ↦
-          (let f : Fresh b a e events = became_fresh hosts e events r b a second (unready_phase (pair b a events).phase was) first in
+          (let f : Fresh b a e events = became_fresh hosts e events r b a (ours.1, ours.0) second (unready_phase (pair b a events).phase was) first in
           record { silent = f.silent_peer; silent_peer = f.silent; left = f.peer_left; peer_left = f.left })
     ]

@@ -11,6 +11,7 @@ use Rattle.ncp_control.specs.Phases.{is_ready}
 use Rattle.reset_law.specs.Stays.{ready, takes_reset, stays, heard_in_stay, said_in_stay, IsPrefix}
 use Rattle.reset_law.proofs.lemmas.{heard_front}
 use Rattle.pairing_law.specs.Places.{tagged, with_place, with_box, placed_event, placed}
+use Rattle.reset_law.specs.Network.{AreOurs, Network}
 
 -- ---- tags
 
@@ -147,30 +148,30 @@ may_same p l q Reset may = may
 may_same p l q Reply may = may
 may_same p l q (Other text) may = may
 
-pub placed_run : (hosts : List Host) (events : List Event) → IsRun hosts events → IsRun hosts (placed events)
+pub placed_run : (hosts : Network) (events : List Event) → IsRun hosts events → IsRun hosts (placed events)
 placed_run hosts [] r = tt
-placed_run hosts (Contact x y ∷ events) r = (up_same hosts x events ∙ r.0, tt, placed_run hosts events r.2)
+placed_run hosts (Contact x y ∷ events) r = (tt, (λ off. up_same hosts.all x events ∙ r.1 off), placed_run hosts events r.2)
 placed_run hosts (Out x y l m ∷ events) r = (
-  (up_same hosts x events ∙ r.0.0, boxes_same x y events l ∙ ap placed_box r.0.1),
-  subst (λ (p : Pair). MaySend p l (with_place (place events) m)) (sym (pair_same x y events)) (may_same (pair x y events) l (place events) m r.1),
+  (up_same hosts.all x events ∙ r.0.0, boxes_same x y events l ∙ ap placed_box r.0.1),
+  (λ ours. subst (λ (p : Pair). MaySend p l (with_place (place events) m)) (sym (pair_same x y events)) (may_same (pair x y events) l (place events) m (r.1 ours))),
   placed_run hosts events r.2,
 )
 placed_run hosts (In x y l m ∷ events) r = (
-  (up_same hosts y events ∙ r.0.0, subst (λ (z : Box). WaitsWith z (with_box (boxes x y events l) m)) (sym (boxes_same x y events l)) (waits_same (boxes x y events l) m r.0.1)),
+  (up_same hosts.all y events ∙ r.0.0, subst (λ (z : Box). WaitsWith z (with_box (boxes x y events l) m)) (sym (boxes_same x y events l)) (waits_same (boxes x y events l) m r.0.1)),
   tt,
   placed_run hosts events r.2,
 )
 placed_run hosts (Told x y l k ∷ events) r = (
-  (up_same hosts x events ∙ r.0.0, subst (λ (z : Box). Fits k z) (sym (boxes_same x y events l)) (fits_same k (boxes x y events l) r.0.1)),
+  (up_same hosts.all x events ∙ r.0.0, subst (λ (z : Box). Fits k z) (sym (boxes_same x y events l)) (fits_same k (boxes x y events l) r.0.1)),
   tt,
   placed_run hosts events r.2,
 )
-placed_run hosts (Down x ∷ events) r = (up_same hosts x events ∙ r.0, tt, placed_run hosts events r.2)
-placed_run hosts (Up x ∷ events) r = ((r.0.0, up_same hosts x events ∙ r.0.1), tt, placed_run hosts events r.2)
+placed_run hosts (Down x ∷ events) r = (up_same hosts.all x events ∙ r.0, tt, placed_run hosts events r.2)
+placed_run hosts (Up x ∷ events) r = ((r.0.0, up_same hosts.all x events ∙ r.0.1), tt, placed_run hosts events r.2)
 placed_run hosts (Idle ∷ events) r = (tt, tt, placed_run hosts events r.2)
 
-pub placed_front : (hosts : List Host) (events : List Event) → IsRun hosts events → (a b : Host) (l : ℕ) → IsPrefix (heard_in_stay a b l (placed events)) (said_in_stay a b l (placed events))
-placed_front hosts events r a b l = heard_front hosts (placed events) (placed_run hosts events r) a b l
+pub placed_front : (hosts : Network) (events : List Event) → IsRun hosts events → (a b : Host) → AreOurs hosts a b → (l : ℕ) → IsPrefix (heard_in_stay a b l (placed events)) (said_in_stay a b l (placed events))
+placed_front hosts events r a b ours l = heard_front hosts (placed events) (placed_run hosts events r) a b ours l
 
 -- ---- stays are the same
 

@@ -18,22 +18,23 @@ use Rattle.pairing_law.specs.Marks.{Ask, Asks, closes}
 use Rattle.pairing_law.specs.Partners.{IsOpen}
 use Rattle.pairing_law.specs.Places.{placed, tagged}
 use Rattle.pairing_law.specs.Sides.{both, Leave, Meet, One, Say, Two}
+use Rattle.reset_law.specs.Network.{AreOurs, Network}
 
 -- What a reset gives, over the law of resets only: where a host hears its peer, and how they meet.
 pub record Resets : Type 0 where
   -- a host that is through a reset takes a text only in a stay
   pub in_stay :
-      (hosts : List Host) (events : List reset.Event) (a b : Host) (link : ℕ) (text : List Bool) →
+      (hosts : Network) (events : List reset.Event) (a b : Host) (link : ℕ) (text : List Bool) → AreOurs hosts a b →
       reset_run.IsRun hosts (reset.In a b link (reset.Other text) ∷ events) → (pair b a events).phase ≡ Ready →
       stay.stays b a events ≡ true
   -- where a stay begins, neither has said anything but RST and RRP since it dropped its connections last
   pub silent :
-      (hosts : List Host) (event : reset.Event) (events : List reset.Event) (a b : Host) →
+      (hosts : Network) (event : reset.Event) (events : List reset.Event) (a b : Host) → AreOurs hosts a b →
       reset_run.IsRun hosts (event ∷ events) → stay.begins a b event events ≡ true →
       ((pair a b (event ∷ events)).begun ≡ false) × ((pair b a (event ∷ events)).begun ≡ false)
   -- and both have left their older stay
   pub left :
-      (hosts : List Host) (event : reset.Event) (events : List reset.Event) (a b : Host) →
+      (hosts : Network) (event : reset.Event) (events : List reset.Event) (a b : Host) → AreOurs hosts a b →
       reset_run.IsRun hosts (event ∷ events) → stay.begins a b event events ≡ true →
       (stay.stays a b events ≡ false) × (stay.stays b a events ≡ false)
 
@@ -43,7 +44,7 @@ pub record Places : Type 0 where
   pub tagged : (p q : ℕ) (s t : List Bool) → tagged p s ≡ tagged q t → (p ≡ q) × (s ≡ t)
   -- events whose texts are tagged are a run too, with the same pairs and stays
   pub run :
-      (hosts : List Host) (events : List reset.Event) → reset_run.IsRun hosts events →
+      (hosts : Network) (events : List reset.Event) → reset_run.IsRun hosts events →
       reset_run.IsRun hosts (placed events)
   pub same :
       (events : List reset.Event) (a b : Host) →
@@ -51,7 +52,7 @@ pub record Places : Type 0 where
   -- so what a host heard of its peer in its stay is a prefix of what the peer said in its own, text by text and place
   -- by place
   pub front :
-      (hosts : List Host) (events : List reset.Event) → reset_run.IsRun hosts events → (a b : Host) (link : ℕ) →
+      (hosts : Network) (events : List reset.Event) → reset_run.IsRun hosts events → (a b : Host) → AreOurs hosts a b → (link : ℕ) →
       stay.IsPrefix (stay.heard_in_stay a b link (placed events)) (stay.said_in_stay a b link (placed events))
 
 -- A message and its place.

@@ -15,6 +15,7 @@ use Rattle.reset_law.specs.Invariant.{kind_in, is_signal, InReady, Shape, Sound}
 use Rattle.reset_law.specs.Runs.{IsRun, WaitsAfterClean}
 use Rattle.reset_law.proofs.Links.{at}
 use Rattle.reset_law.proofs.Runs.{carry, IsAlone, sound_run, alone_run, ready_up}
+use Rattle.reset_law.specs.Network.{AreOurs, Network}
 
 -- ---- clean points lie in the past
 
@@ -172,51 +173,51 @@ ready_taken true (Other text) here p m e = inr (e, refl)
 ready_taken false message here p m e = inr (e, refl)
 
 -- a host that is ready has a clean point, which lies in the past
-point_before : (hosts : List Host) (events : List Event) → IsRun hosts events → (a b : Host) → (pair a b events).phase ≡ Ready → IsAfter (place events) (monitor a b events).clean
-point_before hosts events r a b ready =
-    let s : Sound (pair a b events) (monitor a b events) (boxes a b events) = sound_run hosts events r a b (ready_up hosts events r a b ready) in
+point_before : (hosts : Network) (events : List Event) → IsRun hosts events → (a b : Host) → AreOurs hosts a b → (pair a b events).phase ≡ Ready → IsAfter (place events) (monitor a b events).clean
+point_before hosts events r a b ours ready =
+    let s : Sound (pair a b events) (monitor a b events) (boxes a b events) = sound_run hosts events r a b ours (ready_up hosts events r a b ours ready) in
     let S : Phase → Type 0 = λ ph. Shape ph (monitor a b events) (pair a b events).begun (pair a b events).out in
     let i : InReady (monitor a b events) (pair a b events).out = subst S ready s.shape in
     subst (λ (o : Option ℕ). IsAfter (place events) o) (sym i.clean) (subst (λ (o : Option ℕ). IsPast (place events) o) i.clean (past_run events a b))
 
-fresh_run : (hosts : List Host) (events : List Event) → IsRun hosts events → (a b : Host) → (pair b a events).phase ≡ Ready → IsFresh (boxes a b events) (monitor b a events).clean
-fresh_run hosts [] r a b ready = absurd (cc)
-fresh_run hosts (Contact x y ∷ events) r a b ready =
+fresh_run : (hosts : Network) (events : List Event) → IsRun hosts events → (a b : Host) → AreOurs hosts a b → (pair b a events).phase ≡ Ready → IsFresh (boxes a b events) (monitor b a events).clean
+fresh_run hosts [] r a b ours ready = absurd (cc)
+fresh_run hosts (Contact x y ∷ events) r a b ours ready =
     let t : ((pair b a events).phase ≡ Ready) × ((monitor b a (Contact x y ∷ events)).clean ≡ (monitor b a events).clean) = still_ready (are b a x y) Call (place events) (pair b a events) (monitor b a events) tt ready in
-    subst (λ (o : Option ℕ). IsFresh (boxes a b events) o) (sym t.1) (fresh_run hosts events r.2 a b t.0)
-fresh_run hosts (Out x y l message ∷ events) r a b ready =
+    subst (λ (o : Option ℕ). IsFresh (boxes a b events) o) (sym t.1) (fresh_run hosts events r.2 a b ours t.0)
+fresh_run hosts (Out x y l message ∷ events) r a b ours ready =
     let t : ((pair b a events).phase ≡ Ready) × ((monitor b a (Out x y l message ∷ events)).clean ≡ (monitor b a events).clean) =
     still_ready (are b a x y) (Send l message) (place events) (pair b a events) (monitor b a events) tt ready in
     subst (λ (o : Option ℕ). IsFresh (boxes a b (Out x y l message ∷ events)) o) (sym t.1)
     (fresh_if (are a b x y) (Put l message) (place events) (boxes a b events) (monitor b a events).clean
-    (λ e. fresh_put (boxes a b events) l (place events) message (monitor b a events).clean (point_before hosts events r.2 b a t.0) (fresh_run hosts events r.2 a b t.0))
-    (fresh_run hosts events r.2 a b t.0))
-fresh_run hosts (In x y l message ∷ events) r a b ready = elim (ready_taken (are b a y x) message (place events) (pair b a events) (monitor b a events) ready) [
+    (λ e. fresh_put (boxes a b events) l (place events) message (monitor b a events).clean (point_before hosts events r.2 b a (ours.1, ours.0) t.0) (fresh_run hosts events r.2 a b ours t.0))
+    (fresh_run hosts events r.2 a b ours t.0))
+fresh_run hosts (In x y l message ∷ events) r a b ours ready = elim (ready_taken (are b a y x) message (place events) (pair b a events) (monitor b a events) ready) [
   | inl s ↦
       (let same : are a b x y ≡ true = turned_about a b x y s.0 in
       let waits : WaitsWith (boxes a b events l) message = carry (λ v w. WaitsWith (boxes v w events l) message) a b x y same r.0.1 in
-      rw same (signal_alone (boxes a b events) l message (monitor b a (In x y l message ∷ events)).clean (alone_run hosts events r.2 a b) waits s.1))
+      rw same (signal_alone (boxes a b events) l message (monitor b a (In x y l message ∷ events)).clean (alone_run hosts events r.2 a b ours) waits s.1))
   | inr t ↦
       subst (λ (o : Option ℕ). IsFresh (boxes a b (In x y l message ∷ events)) o) (sym t.1)
       (fresh_if (are a b x y) (Fetch l) (place events) (boxes a b events) (monitor b a events).clean
-      (λ e. fresh_fetched (boxes a b events) l (monitor b a events).clean (fresh_run hosts events r.2 a b t.0))
-      (fresh_run hosts events r.2 a b t.0))
+      (λ e. fresh_fetched (boxes a b events) l (monitor b a events).clean (fresh_run hosts events r.2 a b ours t.0))
+      (fresh_run hosts events r.2 a b ours t.0))
 ]
-fresh_run hosts (Told x y l k ∷ events) r a b ready =
+fresh_run hosts (Told x y l k ∷ events) r a b ours ready =
     let t : ((pair b a events).phase ≡ Ready) × ((monitor b a (Told x y l k ∷ events)).clean ≡ (monitor b a events).clean) =
     still_ready (are b a x y) (Hear l k) (place events) (pair b a events) (monitor b a events) tt ready in
     subst (λ (o : Option ℕ). IsFresh (boxes a b (Told x y l k ∷ events)) o) (sym t.1)
     (fresh_if (are a b x y) (Clear l) (place events) (boxes a b events) (monitor b a events).clean
-    (λ e. fresh_cleared (boxes a b events) l (monitor b a events).clean (fresh_run hosts events r.2 a b t.0))
-    (fresh_run hosts events r.2 a b t.0))
-fresh_run hosts (Down x ∷ events) r a b ready =
+    (λ e. fresh_cleared (boxes a b events) l (monitor b a events).clean (fresh_run hosts events r.2 a b ours t.0))
+    (fresh_run hosts events r.2 a b ours t.0))
+fresh_run hosts (Down x ∷ events) r a b ours ready =
     let t : ((pair b a events).phase ≡ Ready) × ((monitor b a (Down x ∷ events)).clean ≡ (monitor b a events).clean) = still_ready (same_host b x) Begin (place events) (pair b a events) (monitor b a events) tt ready in
-    subst (λ (o : Option ℕ). IsFresh (boxes a b events) o) (sym t.1) (fresh_run hosts events r.2 a b t.0)
-fresh_run hosts (Up x ∷ events) r a b ready =
+    subst (λ (o : Option ℕ). IsFresh (boxes a b events) o) (sym t.1) (fresh_run hosts events r.2 a b ours t.0)
+fresh_run hosts (Up x ∷ events) r a b ours ready =
     let t : ((pair b a events).phase ≡ Ready) × ((monitor b a (Up x ∷ events)).clean ≡ (monitor b a events).clean) = still_ready (same_host b x) Begin (place events) (pair b a events) (monitor b a events) tt ready in
     subst (λ (o : Option ℕ). IsFresh (boxes a b (Up x ∷ events)) o) (sym t.1)
-    (fresh_if (same_host a x) ClearAll (place events) (boxes a b events) (monitor b a events).clean (λ e l p text waits. absurd (cc)) (fresh_run hosts events r.2 a b t.0))
-fresh_run hosts (Idle ∷ events) r a b ready = fresh_run hosts events r.2 a b ready
+    (fresh_if (same_host a x) ClearAll (place events) (boxes a b events) (monitor b a events).clean (λ e l p text waits. absurd (cc)) (fresh_run hosts events r.2 a b ours t.0))
+fresh_run hosts (Idle ∷ events) r a b ours ready = fresh_run hosts events r.2 a b ours ready
 
 -- the box of a message that is taken
 waiting : (x : Box) (m : Message) → WaitsWith x m → (p : ℕ) × (x ≡ Waiting p m)
@@ -224,8 +225,8 @@ waiting Empty m w = absurd w
 waiting (Waiting p n) m w = (p, ap (λ (y : Message). Waiting p y) w)
 waiting (Taken p n) m w = absurd w
 
-pub clean_run : (hosts : List Host) (events : List Event) (a b : Host) (l : ℕ) (text : List Bool) → IsRun hosts (In a b l (Other text) ∷ events) → (pair b a events).phase ≡ Ready
+pub clean_run : (hosts : Network) (events : List Event) (a b : Host) (l : ℕ) (text : List Bool) → AreOurs hosts a b → IsRun hosts (In a b l (Other text) ∷ events) → (pair b a events).phase ≡ Ready
     → WaitsAfterClean a b l text events
-clean_run hosts events a b l text r ready =
+clean_run hosts events a b l text ours r ready =
     let w : (p : ℕ) × (boxes a b events l ≡ Waiting p (Other text)) = waiting (boxes a b events l) (Other text) r.0.1 in
-    record { place = w.0; waits = w.1; after = fresh_run hosts events r.2 a b ready l w.0 text w.1 }
+    record { place = w.0; waits = w.1; after = fresh_run hosts events r.2 a b ours ready l w.0 text w.1 }

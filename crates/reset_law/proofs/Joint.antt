@@ -18,6 +18,7 @@ use Rattle.reset_law.specs.Stays.{ready, waits_in}
 use Rattle.reset_law.proofs.Links.{at, fetched_kind}
 use Rattle.reset_law.proofs.Runs.{carry, IsAlone, sound_run, alone_run, ready_up}
 use Rattle.reset_law.proofs.Fresh.{turned_about, still_ready, ready_taken}
+use Rattle.reset_law.specs.Network.{AreOurs, Network}
 
 -- ---- tests
 
@@ -45,11 +46,11 @@ rst_kind (Waiting q n) w = ap (λ (m : Message). Some (kind_of m)) w
 rst_kind (Taken q n) w = absurd w
 
 -- whose RST is taken isn't ready then
-pub reset_unready : (hosts : List Host) (events : List Event) (x y : Host) (l : ℕ) → IsRun hosts (In x y l Reset ∷ events) → (v w : Host) → are v w y x ≡ true
+pub reset_unready : (hosts : Network) (events : List Event) (x y : Host) (l : ℕ) → IsRun hosts (In x y l Reset ∷ events) → (v w : Host) → AreOurs hosts v w → are v w y x ≡ true
     → (pair w v (In x y l Reset ∷ events)).phase ≡ Ready → ⊥
-reset_unready hosts events x y l r v w same ready =
-    let up : is_up hosts w events ≡ true = ready_up hosts (In x y l Reset ∷ events) r w v ready in
-    let s : Sound (pair w v events) (monitor w v events) (boxes w v events) = sound_run hosts events r.2 w v up in
+reset_unready hosts events x y l r v w ours same ready =
+    let up : is_up hosts.all w events ≡ true = ready_up hosts (In x y l Reset ∷ events) r w v (ours.1, ours.0) ready in
+    let s : Sound (pair w v events) (monitor w v events) (boxes w v events) = sound_run hosts events r.2 w v (ours.1, ours.0) up in
     let o : Outstanding (pair w v events) (monitor w v events) (boxes w v events) = s.outstanding in
     let waits : WaitsWith (boxes w v events l) Reset = carry (λ i j. WaitsWith (boxes i j events l) Reset) w v x y (turned_about w v x y same) r.0.1 in
     let out : (pair w v events).out l ≡ Some Rst = o.boxed l ∙ rst_kind (boxes w v events l) waits in
@@ -150,24 +151,24 @@ sends_signal l Reset p owed may e = absurd (cc)
 sends_signal l Reply p owed may e = absurd (cc)
 sends_signal l (Other text) p owed may e = contradicts p.owed owed may.1
 
-pub owes_run : (hosts : List Host) (events : List Event) → IsRun hosts events → (a b : Host) → (pair a b events).owed ≡ true → (pair b a events).phase ≡ Ready → NoPlain (boxes a b events)
-owes_run hosts [] r a b owed prepared = absurd (cc)
-owes_run hosts (Contact x y ∷ events) r a b owed prepared =
-    owes_run hosts events r.2 a b (owed_call (are a b x y) (pair a b events) owed) (still_ready (are b a x y) Call (place events) (pair b a events) (monitor b a events) tt prepared).0
-owes_run hosts (Out x y l m ∷ events) r a b owed prepared =
+pub owes_run : (hosts : Network) (events : List Event) → IsRun hosts events → (a b : Host) → AreOurs hosts a b → (pair a b events).owed ≡ true → (pair b a events).phase ≡ Ready → NoPlain (boxes a b events)
+owes_run hosts [] r a b ours owed prepared = absurd (cc)
+owes_run hosts (Contact x y ∷ events) r a b ours owed prepared =
+    owes_run hosts events r.2 a b ours (owed_call (are a b x y) (pair a b events) owed) (still_ready (are b a x y) Call (place events) (pair b a events) (monitor b a events) tt prepared).0
+owes_run hosts (Out x y l m ∷ events) r a b ours owed prepared =
     let old : (pair a b events).owed ≡ true = (owed_sent (are a b x y) l m (pair a b events) owed).0 in
-    let h : NoPlain (boxes a b events) = owes_run hosts events r.2 a b old (still_ready (are b a x y) (Send l m) (place events) (pair b a events) (monitor b a events) tt prepared).0 in
+    let h : NoPlain (boxes a b events) = owes_run hosts events r.2 a b ours old (still_ready (are b a x y) (Send l m) (place events) (pair b a events) (monitor b a events) tt prepared).0 in
     plain_if (are a b x y) (Put l m) (place events) (boxes a b events)
-    (λ e. plain_put (boxes a b events) l (place events) m (sends_signal l m (pair a b events) old (carry (λ v w. MaySend (pair v w events) l m) a b x y e r.1)) h) h
-owes_run hosts (In x y l m ∷ events) r a b owed prepared = elim (ready_taken (are b a y x) m (place events) (pair b a events) (monitor b a events) prepared) [
+    (λ e. plain_put (boxes a b events) l (place events) m (sends_signal l m (pair a b events) old (carry (λ v w. AreOurs hosts v w → MaySend (pair v w events) l m) a b x y e r.1 ours)) h) h
+owes_run hosts (In x y l m ∷ events) r a b ours owed prepared = elim (ready_taken (are b a y x) m (place events) (pair b a events) (monitor b a events) prepared) [
   | inl s ↦
       (let same : are a b x y ≡ true = turned_about a b x y s.0 in
       let waits : WaitsWith (boxes a b events l) m = carry (λ v w. WaitsWith (boxes v w events l) m) a b x y same r.0.1 in
-      let h : NoPlain (boxes a b events) = plain_alone (boxes a b events) l m (alone_run hosts events r.2 a b) waits s.1 in
+      let h : NoPlain (boxes a b events) = plain_alone (boxes a b events) l m (alone_run hosts events r.2 a b ours) waits s.1 in
       plain_if (are a b x y) (Fetch l) (place events) (boxes a b events) (λ e. plain_fetched (boxes a b events) l h) h)
   | inr t ↦ elim (owed_taken (are a b y x) m (pair a b events) owed) [
     | inl old ↦
-        (let h : NoPlain (boxes a b events) = owes_run hosts events r.2 a b old t.0 in
+        (let h : NoPlain (boxes a b events) = owes_run hosts events r.2 a b ours old t.0 in
         plain_if (are a b x y) (Fetch l) (place events) (boxes a b events) (λ e. plain_fetched (boxes a b events) l h) h)
     | inr taken ↦ absurd (took_reset taken.1 taken.0)
   ]
@@ -176,15 +177,15 @@ owes_run hosts (In x y l m ∷ events) r a b owed prepared = elim (ready_taken (
   took_reset e same =
       let q : IsRun hosts (In x y l Reset ∷ events) = subst (λ (z : Message). IsRun hosts (In x y l z ∷ events)) e r in
       let p : (pair b a (In x y l Reset ∷ events)).phase ≡ Ready = subst (λ (z : Message). (pair b a (In x y l z ∷ events)).phase ≡ Ready) e prepared in
-      reset_unready hosts events x y l q a b same p
-owes_run hosts (Told x y l k ∷ events) r a b owed prepared =
+      reset_unready hosts events x y l q a b ours same p
+owes_run hosts (Told x y l k ∷ events) r a b ours owed prepared =
     let h : NoPlain (boxes a b events) =
-    owes_run hosts events r.2 a b (owed_told (are a b x y) l k (pair a b events) owed) (still_ready (are b a x y) (Hear l k) (place events) (pair b a events) (monitor b a events) tt prepared).0 in
+    owes_run hosts events r.2 a b ours (owed_told (are a b x y) l k (pair a b events) owed) (still_ready (are b a x y) (Hear l k) (place events) (pair b a events) (monitor b a events) tt prepared).0 in
     plain_if (are a b x y) (Clear l) (place events) (boxes a b events) (λ e. plain_cleared (boxes a b events) l h) h
-owes_run hosts (Down x ∷ events) r a b owed prepared =
-    owes_run hosts events r.2 a b (owed_begin (same_host a x) (pair a b events) owed) (still_ready (same_host b x) Begin (place events) (pair b a events) (monitor b a events) tt prepared).0
-owes_run hosts (Up x ∷ events) r a b owed prepared =
+owes_run hosts (Down x ∷ events) r a b ours owed prepared =
+    owes_run hosts events r.2 a b ours (owed_begin (same_host a x) (pair a b events) owed) (still_ready (same_host b x) Begin (place events) (pair b a events) (monitor b a events) tt prepared).0
+owes_run hosts (Up x ∷ events) r a b ours owed prepared =
     let h : NoPlain (boxes a b events) =
-    owes_run hosts events r.2 a b (owed_begin (same_host a x) (pair a b events) owed) (still_ready (same_host b x) Begin (place events) (pair b a events) (monitor b a events) tt prepared).0 in
+    owes_run hosts events r.2 a b ours (owed_begin (same_host a x) (pair a b events) owed) (still_ready (same_host b x) Begin (place events) (pair b a events) (monitor b a events) tt prepared).0 in
     plain_if (same_host a x) ClearAll (place events) (boxes a b events) (λ e k plain. absurd (cc)) h
-owes_run hosts (Idle ∷ events) r a b owed prepared = owes_run hosts events r.2 a b owed prepared
+owes_run hosts (Idle ∷ events) r a b ours owed prepared = owes_run hosts events r.2 a b ours owed prepared

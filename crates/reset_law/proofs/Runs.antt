@@ -13,6 +13,7 @@ use Rattle.reset_law.specs.Runs.{IsRun}
 use Rattle.reset_law.proofs.Links.{at, fetched_kind}
 use Rattle.reset_law.proofs.Steps.{sound_opening, sound_contact, sound_reset_sent, sound_reply_sent, sound_other_sent, sound_reset_taken, sound_reply_taken, sound_fetched}
 use Rattle.reset_law.proofs.Answers.{sound_told}
+use Rattle.reset_law.specs.Network.{AreOurs, Network}
 
 -- ---- tests of hosts
 
@@ -66,31 +67,31 @@ sound_taken here Reset p m bs s = sound_reset_taken here p m bs s
 sound_taken here Reply p m bs s = sound_reply_taken here p m bs s
 sound_taken here (Other text) p m bs s = s
 
-pub sound_run : (hosts : List Host) (events : List Event) → IsRun hosts events → (a b : Host) → is_up hosts a events ≡ true → Sound (pair a b events) (monitor a b events) (boxes a b events)
-sound_run hosts [] r a b up = sound_opening
-sound_run hosts (Contact x y ∷ events) r a b up =
-    let h : Sound (pair a b events) (monitor a b events) (boxes a b events) = sound_run hosts events r.2 a b up in
+pub sound_run : (hosts : Network) (events : List Event) → IsRun hosts events → (a b : Host) → AreOurs hosts a b → is_up hosts.all a events ≡ true → Sound (pair a b events) (monitor a b events) (boxes a b events)
+sound_run hosts [] r a b ours up = sound_opening
+sound_run hosts (Contact x y ∷ events) r a b ours up =
+    let h : Sound (pair a b events) (monitor a b events) (boxes a b events) = sound_run hosts events r.2 a b ours up in
     chosen_part (are a b x y) Call (place events) (pair a b events) (monitor a b events) (boxes a b events) (λ e. sound_contact (place events) (pair a b events) (monitor a b events) (boxes a b events) h) h
-sound_run hosts (Out x y l message ∷ events) r a b up =
-    let h : Sound (pair a b events) (monitor a b events) (boxes a b events) = sound_run hosts events r.2 a b up in
+sound_run hosts (Out x y l message ∷ events) r a b ours up =
+    let h : Sound (pair a b events) (monitor a b events) (boxes a b events) = sound_run hosts events r.2 a b ours up in
     chosen_both (are a b x y) (Send l message) (Put l message) (place events) (pair a b events) (monitor a b events) (boxes a b events)
-    (λ e. sound_sent (place events) l message (pair a b events) (monitor a b events) (boxes a b events) (carry (λ v w. MaySend (pair v w events) l message) a b x y e r.1) h) h
-sound_run hosts (In x y l message ∷ events) r a b up =
-    let h : Sound (pair a b events) (monitor a b events) (boxes a b events) = sound_run hosts events r.2 a b up in
+    (λ e. sound_sent (place events) l message (pair a b events) (monitor a b events) (boxes a b events) (carry (λ v w. AreOurs hosts v w → MaySend (pair v w events) l message) a b x y e r.1 ours) h) h
+sound_run hosts (In x y l message ∷ events) r a b ours up =
+    let h : Sound (pair a b events) (monitor a b events) (boxes a b events) = sound_run hosts events r.2 a b ours up in
     let bs : ℕ → Box = posted (place events) (when (are a b x y) (Fetch l)) (boxes a b events) in
     let g : Sound (pair a b events) (monitor a b events) bs =
     chosen_post (are a b x y) (Fetch l) (place events) (pair a b events) (monitor a b events) (boxes a b events) (λ e. sound_fetched l (pair a b events) (monitor a b events) (boxes a b events) h) h in
     chosen_part (are a b y x) (Take message) (place events) (pair a b events) (monitor a b events) bs (λ e. sound_taken (place events) message (pair a b events) (monitor a b events) bs g) g
-sound_run hosts (Told x y l k ∷ events) r a b up =
-    let h : Sound (pair a b events) (monitor a b events) (boxes a b events) = sound_run hosts events r.2 a b up in
+sound_run hosts (Told x y l k ∷ events) r a b ours up =
+    let h : Sound (pair a b events) (monitor a b events) (boxes a b events) = sound_run hosts events r.2 a b ours up in
     chosen_both (are a b x y) (Hear l k) (Clear l) (place events) (pair a b events) (monitor a b events) (boxes a b events)
     (λ e. sound_told l k (pair a b events) (monitor a b events) (boxes a b events) (carry (λ v w. Fits k (boxes v w events l)) a b x y e r.0.1) h) h
-sound_run hosts (Down x ∷ events) r a b up =
-    let t : (same_host a x ≡ false) × (is_up hosts a events ≡ true) = stayed_up (same_host a x) (is_up hosts a events) up in
-    not_stopped (same_host a x) (place events) (pair a b events) (monitor a b events) (boxes a b events) t.0 (sound_run hosts events r.2 a b t.1)
-sound_run hosts (Up x ∷ events) r a b up =
-    came_up (same_host a x) (is_up hosts a events) (place events) (pair a b events) (monitor a b events) (boxes a b events) up (λ before. sound_run hosts events r.2 a b before)
-sound_run hosts (Idle ∷ events) r a b up = sound_run hosts events r.2 a b up
+sound_run hosts (Down x ∷ events) r a b ours up =
+    let t : (same_host a x ≡ false) × (is_up hosts.all a events ≡ true) = stayed_up (same_host a x) (is_up hosts.all a events) up in
+    not_stopped (same_host a x) (place events) (pair a b events) (monitor a b events) (boxes a b events) t.0 (sound_run hosts events r.2 a b ours t.1)
+sound_run hosts (Up x ∷ events) r a b ours up =
+    came_up (same_host a x) (is_up hosts.all a events) (place events) (pair a b events) (monitor a b events) (boxes a b events) up (λ before. sound_run hosts events r.2 a b ours before)
+sound_run hosts (Idle ∷ events) r a b ours up = sound_run hosts events r.2 a b ours up
 
 -- ---- RST and RRP each go by themselves
 
@@ -154,26 +155,26 @@ alone_if : (t : Bool) (post : Post) (here : ℕ) (bs : ℕ → Box) → (t ≡ t
 alone_if true post here bs f h = f refl
 alone_if false post here bs f h = h
 
-pub alone_run : (hosts : List Host) (events : List Event) → IsRun hosts events → (a b : Host) → IsAlone (boxes a b events)
-alone_run hosts [] r a b = none_alone
-alone_run hosts (Contact x y ∷ events) r a b = alone_run hosts events r.2 a b
-alone_run hosts (Out x y l message ∷ events) r a b =
+pub alone_run : (hosts : Network) (events : List Event) → IsRun hosts events → (a b : Host) → AreOurs hosts a b → IsAlone (boxes a b events)
+alone_run hosts [] r a b ours = none_alone
+alone_run hosts (Contact x y ∷ events) r a b ours = alone_run hosts events r.2 a b ours
+alone_run hosts (Out x y l message ∷ events) r a b ours =
     alone_if (are a b x y) (Put l message) (place events) (boxes a b events)
     (λ e.
-    (let up : is_up hosts a events ≡ true = carry (λ v w. is_up hosts v events ≡ true) a b x y e r.0.0 in
-    let may : MaySend (pair a b events) l message = carry (λ v w. MaySend (pair v w events) l message) a b x y e r.1 in
+    (let up : is_up hosts.all a events ≡ true = carry (λ v w. is_up hosts.all v events ≡ true) a b x y e r.0.0 in
+    let may : MaySend (pair a b events) l message = carry (λ v w. AreOurs hosts v w → MaySend (pair v w events) l message) a b x y e r.1 ours in
     sound_alone (pair_moved (Some (Send l message)) (pair a b events)) (monitored (place events) (Some (Send l message)) (monitor a b events)) (posted (place events) (Some (Put l message)) (boxes a b events))
-    (sound_sent (place events) l message (pair a b events) (monitor a b events) (boxes a b events) may (sound_run hosts events r.2 a b up))))
-    (alone_run hosts events r.2 a b)
-alone_run hosts (In x y l message ∷ events) r a b =
-    let h : IsAlone (boxes a b events) = alone_run hosts events r.2 a b in
+    (sound_sent (place events) l message (pair a b events) (monitor a b events) (boxes a b events) may (sound_run hosts events r.2 a b ours up))))
+    (alone_run hosts events r.2 a b ours)
+alone_run hosts (In x y l message ∷ events) r a b ours =
+    let h : IsAlone (boxes a b events) = alone_run hosts events r.2 a b ours in
     alone_if (are a b x y) (Fetch l) (place events) (boxes a b events) (λ e. alone_less (at_link (boxes a b events) l (fetched (boxes a b events l))) (boxes a b events) (less_fetched (boxes a b events) l) h) h
-alone_run hosts (Told x y l k ∷ events) r a b =
-    let h : IsAlone (boxes a b events) = alone_run hosts events r.2 a b in
+alone_run hosts (Told x y l k ∷ events) r a b ours =
+    let h : IsAlone (boxes a b events) = alone_run hosts events r.2 a b ours in
     alone_if (are a b x y) (Clear l) (place events) (boxes a b events) (λ e. alone_less (at_link (boxes a b events) l Empty) (boxes a b events) (less_cleared (boxes a b events) l) h) h
-alone_run hosts (Down x ∷ events) r a b = alone_run hosts events r.2 a b
-alone_run hosts (Up x ∷ events) r a b = alone_if (same_host a x) ClearAll (place events) (boxes a b events) (λ e. none_alone) (alone_run hosts events r.2 a b)
-alone_run hosts (Idle ∷ events) r a b = alone_run hosts events r.2 a b
+alone_run hosts (Down x ∷ events) r a b ours = alone_run hosts events r.2 a b ours
+alone_run hosts (Up x ∷ events) r a b ours = alone_if (same_host a x) ClearAll (place events) (boxes a b events) (λ e. none_alone) (alone_run hosts events r.2 a b ours)
+alone_run hosts (Idle ∷ events) r a b ours = alone_run hosts events r.2 a b ours
 
 -- ---- a host that is down is in the initial state
 
@@ -189,25 +190,25 @@ not_up : (t up : Bool) → (if t then true else up) ≡ false → (t ≡ false) 
 not_up true up e = absurd (cc)
 not_up false up e = (refl, e)
 
-pub down_pair : (hosts : List Host) (events : List Event) → IsRun hosts events → (a b : Host) → is_up hosts a events ≡ false → pair a b events ≡ opening_pair
-down_pair hosts [] r a b down = refl
-down_pair hosts (Contact x y ∷ events) r a b down =
-    opened_if (are a b x y) Call (pair a b events) (λ e. up_and_down (is_up hosts a events) (carry (λ v w. is_up hosts v events ≡ true) a b x y e r.0) down) (down_pair hosts events r.2 a b down)
-down_pair hosts (Out x y l message ∷ events) r a b down =
-    opened_if (are a b x y) (Send l message) (pair a b events) (λ e. up_and_down (is_up hosts a events) (carry (λ v w. is_up hosts v events ≡ true) a b x y e r.0.0) down) (down_pair hosts events r.2 a b down)
-down_pair hosts (In x y l message ∷ events) r a b down =
-    opened_if (are a b y x) (Take message) (pair a b events) (λ e. up_and_down (is_up hosts a events) (carry (λ v w. is_up hosts v events ≡ true) a b y x e r.0.0) down) (down_pair hosts events r.2 a b down)
-down_pair hosts (Told x y l k ∷ events) r a b down =
-    opened_if (are a b x y) (Hear l k) (pair a b events) (λ e. up_and_down (is_up hosts a events) (carry (λ v w. is_up hosts v events ≡ true) a b x y e r.0.0) down) (down_pair hosts events r.2 a b down)
-down_pair hosts (Down x ∷ events) r a b down = stopped_pair (same_host a x) (is_up hosts a events) (pair a b events) down (λ before. down_pair hosts events r.2 a b before)
-down_pair hosts (Up x ∷ events) r a b down =
-    let t : (same_host a x ≡ false) × (is_up hosts a events ≡ false) = not_up (same_host a x) (is_up hosts a events) down in
-    opened_if (same_host a x) Begin (pair a b events) (λ e. up_and_down (same_host a x) e t.0) (down_pair hosts events r.2 a b t.1)
-down_pair hosts (Idle ∷ events) r a b down = down_pair hosts events r.2 a b down
+pub down_pair : (hosts : Network) (events : List Event) → IsRun hosts events → (a b : Host) → AreOurs hosts a b → is_up hosts.all a events ≡ false → pair a b events ≡ opening_pair
+down_pair hosts [] r a b ours down = refl
+down_pair hosts (Contact x y ∷ events) r a b ours down =
+    opened_if (are a b x y) Call (pair a b events) (λ e. up_and_down (is_up hosts.all a events) (carry (λ v w. hosts.strange v ≡ false → is_up hosts.all v events ≡ true) a b x y e r.1 ours.0) down) (down_pair hosts events r.2 a b ours down)
+down_pair hosts (Out x y l message ∷ events) r a b ours down =
+    opened_if (are a b x y) (Send l message) (pair a b events) (λ e. up_and_down (is_up hosts.all a events) (carry (λ v w. is_up hosts.all v events ≡ true) a b x y e r.0.0) down) (down_pair hosts events r.2 a b ours down)
+down_pair hosts (In x y l message ∷ events) r a b ours down =
+    opened_if (are a b y x) (Take message) (pair a b events) (λ e. up_and_down (is_up hosts.all a events) (carry (λ v w. is_up hosts.all v events ≡ true) a b y x e r.0.0) down) (down_pair hosts events r.2 a b ours down)
+down_pair hosts (Told x y l k ∷ events) r a b ours down =
+    opened_if (are a b x y) (Hear l k) (pair a b events) (λ e. up_and_down (is_up hosts.all a events) (carry (λ v w. is_up hosts.all v events ≡ true) a b x y e r.0.0) down) (down_pair hosts events r.2 a b ours down)
+down_pair hosts (Down x ∷ events) r a b ours down = stopped_pair (same_host a x) (is_up hosts.all a events) (pair a b events) down (λ before. down_pair hosts events r.2 a b ours before)
+down_pair hosts (Up x ∷ events) r a b ours down =
+    let t : (same_host a x ≡ false) × (is_up hosts.all a events ≡ false) = not_up (same_host a x) (is_up hosts.all a events) down in
+    opened_if (same_host a x) Begin (pair a b events) (λ e. up_and_down (same_host a x) e t.0) (down_pair hosts events r.2 a b ours t.1)
+down_pair hosts (Idle ∷ events) r a b ours down = down_pair hosts events r.2 a b ours down
 
 -- a host that is ready is up
-pub ready_up : (hosts : List Host) (events : List Event) → IsRun hosts events → (a b : Host) → (pair a b events).phase ≡ Ready → is_up hosts a events ≡ true
-ready_up hosts events r a b ready = by (is_up hosts a events) refl where
-  by : (up : Bool) → is_up hosts a events ≡ up → is_up hosts a events ≡ true
+pub ready_up : (hosts : Network) (events : List Event) → IsRun hosts events → (a b : Host) → AreOurs hosts a b → (pair a b events).phase ≡ Ready → is_up hosts.all a events ≡ true
+ready_up hosts events r a b ours ready = by (is_up hosts.all a events) refl where
+  by : (up : Bool) → is_up hosts.all a events ≡ up → is_up hosts.all a events ≡ true
   by true e = e
-  by false e = let both : Closed ≡ Ready = sym (ap (λ (p : Pair). p.phase) (down_pair hosts events r a b e)) ∙ ready in absurd (cc)
+  by false e = let both : Closed ≡ Ready = sym (ap (λ (p : Pair). p.phase) (down_pair hosts events r a b ours e)) ∙ ready in absurd (cc)

@@ -21,6 +21,7 @@ use Rattle.reset_law.proofs.Runs.{carry, sound_run, alone_run, ready_up}
 use Rattle.reset_law.proofs.Fresh.{turned_about, still_ready, ready_taken}
 use Rattle.reset_law.proofs.Joint.{ready_phase, phase_ready, contradicts, reset_unready, NoPlain, nothing_waits, plain_fetched, plain_if, plain_alone, owes_run}
 use Rattle.reset_law.proofs.Words.{Tells, tells_as, tells_all, front_longer, tells_quiet, tells_heard, tells_said}
+use Rattle.reset_law.specs.Network.{AreOurs, Network}
 
 -- ---- how a stay begins
 
@@ -35,25 +36,25 @@ reply_from true p e = by p.phase e where
 reply_from false p e = inr e
 
 -- a host that becomes ready, with a peer that is: nothing waits either way
-became_quiet : (hosts : List Host) (e : Event) (events : List Event) → IsRun hosts (e ∷ events) → (v w : Host) → (pair v w (e ∷ events)).phase ≡ Ready → (pair v w events).phase ≢ Ready
+became_quiet : (hosts : Network) (e : Event) (events : List Event) → IsRun hosts (e ∷ events) → (v w : Host) → AreOurs hosts v w → (pair v w (e ∷ events)).phase ≡ Ready → (pair v w events).phase ≢ Ready
     → (pair w v (e ∷ events)).phase ≡ Ready → NoPlain (boxes v w (e ∷ events)) × NoPlain (boxes w v (e ∷ events))
-became_quiet hosts (Contact x y) events r v w here before there = absurd (before (still_ready (are v w x y) Call (place events) (pair v w events) (monitor v w events) tt here).0)
-became_quiet hosts (Out x y l m) events r v w here before there = absurd (before (still_ready (are v w x y) (Send l m) (place events) (pair v w events) (monitor v w events) tt here).0)
-became_quiet hosts (In x y l Reset) events r v w here before there = elim (ready_taken (are v w y x) Reset (place events) (pair v w events) (monitor v w events) here) [
-  | inl s ↦ absurd (reset_unready hosts events x y l r v w s.0 there)
+became_quiet hosts (Contact x y) events r v w ours here before there = absurd (before (still_ready (are v w x y) Call (place events) (pair v w events) (monitor v w events) tt here).0)
+became_quiet hosts (Out x y l m) events r v w ours here before there = absurd (before (still_ready (are v w x y) (Send l m) (place events) (pair v w events) (monitor v w events) tt here).0)
+became_quiet hosts (In x y l Reset) events r v w ours here before there = elim (ready_taken (are v w y x) Reset (place events) (pair v w events) (monitor v w events) here) [
+  | inl s ↦ absurd (reset_unready hosts events x y l r v w ours s.0 there)
   | inr t ↦ absurd (before t.0)
 ]
-became_quiet hosts (In x y l Reply) events r v w here before there = elim (ready_taken (are v w y x) Reply (place events) (pair v w events) (monitor v w events) here) [
+became_quiet hosts (In x y l Reply) events r v w ours here before there = elim (ready_taken (are v w y x) Reply (place events) (pair v w events) (monitor v w events) here) [
   | inl s ↦ elim (reply_from (are v w y x) (pair v w events) here) [
     | inl awaited ↦
-        (let up : is_up hosts v events ≡ true = ready_up hosts (In x y l Reply ∷ events) r v w here in
-        let sound : Sound (pair v w events) (monitor v w events) (boxes v w events) = sound_run hosts events r.2 v w up in
+        (let up : is_up hosts.all v events ≡ true = ready_up hosts (In x y l Reply ∷ events) r v w ours here in
+        let sound : Sound (pair v w events) (monitor v w events) (boxes v w events) = sound_run hosts events r.2 v w ours up in
         let S : Phase → Type 0 = λ ph. Shape ph (monitor v w events) (pair v w events).begun (pair v w events).out in
         let i : InHeard (monitor v w events) (pair v w events).begun (pair v w events).out = subst S awaited sound.shape in
         let own : NoPlain (boxes v w events) = λ k plain. i.no_plain k (sound.outstanding.boxed k ∙ plain) in
         let same : are w v x y ≡ true = turned_about w v x y s.0 in
         let waits : WaitsWith (boxes w v events l) Reply = carry (λ i j. WaitsWith (boxes i j events l) Reply) w v x y same r.0.1 in
-        let other : NoPlain (boxes w v events) = plain_alone (boxes w v events) l Reply (alone_run hosts events r.2 w v) waits refl in (
+        let other : NoPlain (boxes w v events) = plain_alone (boxes w v events) l Reply (alone_run hosts events r.2 w v (ours.1, ours.0)) waits refl in (
           plain_if (are v w x y) (Fetch l) (place events) (boxes v w events) (λ e. plain_fetched (boxes v w events) l own) own,
           plain_if (are w v x y) (Fetch l) (place events) (boxes w v events) (λ e. plain_fetched (boxes w v events) l other) other,
         ))
@@ -61,28 +62,28 @@ became_quiet hosts (In x y l Reply) events r v w here before there = elim (ready
   ]
   | inr t ↦ absurd (before t.0)
 ]
-became_quiet hosts (In x y l (Other text)) events r v w here before there = elim (ready_taken (are v w y x) (Other text) (place events) (pair v w events) (monitor v w events) here) [
+became_quiet hosts (In x y l (Other text)) events r v w ours here before there = elim (ready_taken (are v w y x) (Other text) (place events) (pair v w events) (monitor v w events) here) [
   | inl s ↦ (let both : false ≡ true = s.1 in absurd (cc))
   | inr t ↦ absurd (before t.0)
 ]
-became_quiet hosts (Told x y l k) events r v w here before there = absurd (before (still_ready (are v w x y) (Hear l k) (place events) (pair v w events) (monitor v w events) tt here).0)
-became_quiet hosts (Down x) events r v w here before there = absurd (before (still_ready (same_host v x) Begin (place events) (pair v w events) (monitor v w events) tt here).0)
-became_quiet hosts (Up x) events r v w here before there = absurd (before (still_ready (same_host v x) Begin (place events) (pair v w events) (monitor v w events) tt here).0)
-became_quiet hosts Idle events r v w here before there = absurd (before here)
+became_quiet hosts (Told x y l k) events r v w ours here before there = absurd (before (still_ready (are v w x y) (Hear l k) (place events) (pair v w events) (monitor v w events) tt here).0)
+became_quiet hosts (Down x) events r v w ours here before there = absurd (before (still_ready (same_host v x) Begin (place events) (pair v w events) (monitor v w events) tt here).0)
+became_quiet hosts (Up x) events r v w ours here before there = absurd (before (still_ready (same_host v x) Begin (place events) (pair v w events) (monitor v w events) tt here).0)
+became_quiet hosts Idle events r v w ours here before there = absurd (before here)
 
 pub unready_phase : (ph : Phase) → is_ready ph ≡ false → ph ≢ Ready
 unready_phase ph e same = contradicts (is_ready ph) (phase_ready ph same) e
 
-pub begin_quiet : (hosts : List Host) (e : Event) (events : List Event) → IsRun hosts (e ∷ events) → (a b : Host) → begins a b e events ≡ true → NoPlain (boxes a b (e ∷ events)) × NoPlain (boxes b a (e ∷ events))
-begin_quiet hosts e events r a b begun =
+pub begin_quiet : (hosts : Network) (e : Event) (events : List Event) → IsRun hosts (e ∷ events) → (a b : Host) → AreOurs hosts a b → begins a b e events ≡ true → NoPlain (boxes a b (e ∷ events)) × NoPlain (boxes b a (e ∷ events))
+begin_quiet hosts e events r a b ours begun =
     let t : (joint a b (e ∷ events) ≡ true) × (not (joint a b events) ≡ true) = and_true (joint a b (e ∷ events)) (not (joint a b events)) begun in
     let now : (ready a b (e ∷ events) ≡ true) × (ready b a (e ∷ events) ≡ true) = and_true (ready a b (e ∷ events)) (ready b a (e ∷ events)) t.0 in
     let first : (pair a b (e ∷ events)).phase ≡ Ready = ready_phase (pair a b (e ∷ events)).phase now.0 in
     let second : (pair b a (e ∷ events)).phase ≡ Ready = ready_phase (pair b a (e ∷ events)).phase now.1 in
     elim (and_cases (ready a b events) (ready b a events) (not_true (joint a b events) t.1)) [
-      | inl was ↦ became_quiet hosts e events r a b first (unready_phase (pair a b events).phase was) second
+      | inl was ↦ became_quiet hosts e events r a b ours first (unready_phase (pair a b events).phase was) second
       | inr was ↦
-          (let q : NoPlain (boxes b a (e ∷ events)) × NoPlain (boxes a b (e ∷ events)) = became_quiet hosts e events r b a second (unready_phase (pair b a events).phase was) first in
+          (let q : NoPlain (boxes b a (e ∷ events)) × NoPlain (boxes a b (e ∷ events)) = became_quiet hosts e events r b a (ours.1, ours.0) second (unready_phase (pair b a events).phase was) first in
           (q.1, q.0))
     ]
 
@@ -120,24 +121,24 @@ stays_ready (e ∷ events) a b s = by (begins a b e events) refl where
   by false old = (stays_parts (begins a b e events) (ready a b (e ∷ events)) (takes_reset a b e) (stays a b events) s old).0
 
 -- while two hosts are together neither takes an RST of the other
-no_reset : (hosts : List Host) (e : Event) (events : List Event) → IsRun hosts (e ∷ events) → (a b : Host) → (pair b a (e ∷ events)).phase ≡ Ready → takes_reset a b e ≡ false
-no_reset hosts (In x y l Reset) events r a b other = false_from_ne_true (are a b y x) (λ same. reset_unready hosts events x y l r a b same other)
-no_reset hosts (In x y l Reply) events r a b other = refl
-no_reset hosts (In x y l (Other text)) events r a b other = refl
-no_reset hosts (Contact x y) events r a b other = refl
-no_reset hosts e events r a b other = refl
+no_reset : (hosts : Network) (e : Event) (events : List Event) → IsRun hosts (e ∷ events) → (a b : Host) → AreOurs hosts a b → (pair b a (e ∷ events)).phase ≡ Ready → takes_reset a b e ≡ false
+no_reset hosts (In x y l Reset) events r a b ours other = false_from_ne_true (are a b y x) (λ same. reset_unready hosts events x y l r a b ours same other)
+no_reset hosts (In x y l Reply) events r a b ours other = refl
+no_reset hosts (In x y l (Other text)) events r a b ours other = refl
+no_reset hosts (Contact x y) events r a b ours other = refl
+no_reset hosts e events r a b ours other = refl
 
 -- so both stay
-pub joint_stays : (hosts : List Host) (events : List Event) → IsRun hosts events → (a b : Host) → joint a b events ≡ true → stays a b events ≡ true
-joint_stays hosts [] r a b together = absurd (cc)
-joint_stays hosts (e ∷ events) r a b together = by (begins a b e events) refl (λ before. joint_stays hosts events r.2 a b before) where
+pub joint_stays : (hosts : Network) (events : List Event) → IsRun hosts events → (a b : Host) → AreOurs hosts a b → joint a b events ≡ true → stays a b events ≡ true
+joint_stays hosts [] r a b ours together = absurd (cc)
+joint_stays hosts (e ∷ events) r a b ours together = by (begins a b e events) refl (λ before. joint_stays hosts events r.2 a b ours before) where
   by : (t : Bool) → begins a b e events ≡ t → (joint a b events ≡ true → stays a b events ≡ true) → stays a b (e ∷ events) ≡ true
   by true begun rest = or_left (begins a b e events) (ready a b (e ∷ events) && not (takes_reset a b e) && stays a b events) begun
   by false old rest =
       let now : (ready a b (e ∷ events) ≡ true) × (ready b a (e ∷ events) ≡ true) = and_true (ready a b (e ∷ events)) (ready b a (e ∷ events)) together in
       let before : stays a b events ≡ true = rest (were_joint (joint a b (e ∷ events)) (joint a b events) old together) in
       stays_on (begins a b e events) (ready a b (e ∷ events)) (takes_reset a b e) (stays a b events) now.0
-      (no_reset hosts e events r a b (ready_phase (pair b a (e ∷ events)).phase now.1)) before
+      (no_reset hosts e events r a b ours (ready_phase (pair b a (e ∷ events)).phase now.1)) before
 
 -- ---- what waits, after one event more
 
@@ -214,8 +215,9 @@ other_link l k away = by (l == k) refl where
 -- ---- one event more in a stay
 
 -- what is known before an event in which `b` stays with `a`, and whether they are together after it
-record Stay (hosts : List Host) (events : List Event) (a b : Host) (all' : Bool) : Type 0 where
+record Stay (hosts : Network) (events : List Event) (a b : Host) (all' : Bool) : Type 0 where
   run : IsRun hosts events
+  ours : AreOurs hosts a b
   stay : stays b a events ≡ true
   before : all' ≡ true → joint a b events ≡ true
 
@@ -227,14 +229,14 @@ abbrev HeardBefore : Host → Host → ℕ → List Event → Type 0
 HeardBefore a b l events = Tells (joint a b events) (heard_in_stay a b l events ++ waits_in (boxes a b events l)) (said_in_stay a b l events)
 
 -- where nothing is said and nothing heard
-quiet : (hosts : List Host) (e : Event) (events : List Event) (a b : Host) (l : ℕ) (all' : Bool) → Stay hosts events a b all' → heard_by a b l e ≡ [] → said_by a b l e ≡ []
+quiet : (hosts : Network) (e : Event) (events : List Event) (a b : Host) (l : ℕ) (all' : Bool) → Stay hosts events a b all' → heard_by a b l e ≡ [] → said_by a b l e ≡ []
     → (waits_in (boxes a b (e ∷ events) l) ≡ waits_in (boxes a b events l)) ⊎ ((waits_in (boxes a b (e ∷ events) l) ≡ []) × (all' ≡ true → waits_in (boxes a b events l) ≡ []))
     → HeardBefore a b l events → HeardNow a b l e events all'
 quiet hosts e events a b l all' s none silent waits h =
     tells_quiet (joint a b events) all' (stays a b events) (heard_in_stay a b l events) (waits_in (boxes a b events l)) (waits_in (boxes a b (e ∷ events) l)) (said_in_stay a b l events) (heard_by a b l e) (said_by a b l e)
     none silent s.before waits h
 
-out_step : (hosts : List Host) (x y : Host) (k : ℕ) (text : List Bool) (events : List Event) (a b : Host) (l : ℕ) (all' : Bool) → Stay hosts events a b all' → IsRun hosts (Out x y k (Other text) ∷ events)
+out_step : (hosts : Network) (x y : Host) (k : ℕ) (text : List Bool) (events : List Event) (a b : Host) (l : ℕ) (all' : Bool) → Stay hosts events a b all' → IsRun hosts (Out x y k (Other text) ∷ events)
     → HeardBefore a b l events → (t : Bool) → are a b x y ≡ t → HeardNow a b l (Out x y k (Other text)) events all'
 out_step hosts x y k text events a b l all' s r h false apart =
     quiet hosts (Out x y k (Other text)) events a b l all' s refl (not_ours (are a b x y) (l == k) (text ∷ []) apart)
@@ -243,11 +245,11 @@ out_step hosts x y k text events a b l all' s r h true same =
     let put : boxes a b (Out x y k (Other text) ∷ events) l ≡ at_link (boxes a b events) k (Waiting (place events) (Other text)) l =
     ap (λ (t : Bool). posted (place events) (when t (Put k (Other text))) (boxes a b events) l) same in
     let empty : boxes a b events k ≡ Empty = carry (λ v w. boxes v w events k ≡ Empty) a b x y same r.0.1 in
-    let may : MaySend (pair a b events) k (Other text) = carry (λ v w. MaySend (pair v w events) k (Other text)) a b x y same r.1 in
+    let may : MaySend (pair a b events) k (Other text) = carry (λ v w. AreOurs hosts v w → MaySend (pair v w events) k (Other text)) a b x y same r.1 s.ours in
     let own : ready a b events ≡ true = phase_ready (pair a b events).phase may.0 in
     let peer : ready b a events ≡ true = stays_ready events b a s.stay in
     let together : joint a b events ≡ true = rw (own, peer) refl in
-    let grows : stays a b events ≡ true = joint_stays hosts events s.run a b together in
+    let grows : stays a b events ≡ true = joint_stays hosts events s.run a b s.ours together in
     elim (at (boxes a b events) k (Waiting (place events) (Other text)) l) [
       | inl u ↦
           tells_said (joint a b events) all' (stays a b events) (heard_in_stay a b l events) (waits_in (boxes a b events l)) (waits_in (boxes a b (Out x y k (Other text) ∷ events) l)) (said_in_stay a b l events)
@@ -259,7 +261,7 @@ out_step hosts x y k text events a b l all' s r h true same =
           quiet hosts (Out x y k (Other text)) events a b l all' s refl (off_link (are a b x y) (l == k) (text ∷ []) (other_link l k u.0)) (inl (ap waits_in (put ∙ u.1))) h
     ]
 
-in_step : (hosts : List Host) (x y : Host) (k : ℕ) (text : List Bool) (events : List Event) (a b : Host) (l : ℕ) (all' : Bool) → Stay hosts events a b all' → IsRun hosts (In x y k (Other text) ∷ events)
+in_step : (hosts : Network) (x y : Host) (k : ℕ) (text : List Bool) (events : List Event) (a b : Host) (l : ℕ) (all' : Bool) → Stay hosts events a b all' → IsRun hosts (In x y k (Other text) ∷ events)
     → HeardBefore a b l events → (t : Bool) → are a b x y ≡ t → HeardNow a b l (In x y k (Other text)) events all'
 in_step hosts x y k text events a b l all' s r h false apart =
     quiet hosts (In x y k (Other text)) events a b l all' s (not_ours (are a b x y) (l == k) (text ∷ []) apart) refl
@@ -280,7 +282,7 @@ in_step hosts x y k text events a b l all' s r h true same =
     ]
 
 -- a message that is answered waits no more; while both stay together it didn't
-told_step : (hosts : List Host) (x y : Host) (k : ℕ) (kind : Answer) (events : List Event) (a b : Host) (l : ℕ) → Stay hosts events a b (joint a b (Told x y k kind ∷ events)) → IsRun hosts (Told x y k kind ∷ events)
+told_step : (hosts : Network) (x y : Host) (k : ℕ) (kind : Answer) (events : List Event) (a b : Host) (l : ℕ) → Stay hosts events a b (joint a b (Told x y k kind ∷ events)) → IsRun hosts (Told x y k kind ∷ events)
     → (t : Bool) → are a b x y ≡ t
     → (waits_in (boxes a b (Told x y k kind ∷ events) l) ≡ waits_in (boxes a b events l))
     ⊎ ((waits_in (boxes a b (Told x y k kind ∷ events) l) ≡ []) × (joint a b (Told x y k kind ∷ events) ≡ true → waits_in (boxes a b events l) ≡ []))
@@ -298,7 +300,7 @@ told_step hosts x y k kind events a b l s r true same =
                 let peer : (pair b a events).phase ≡ Ready = ready_phase (pair b a events).phase (stays_ready events b a s.stay) in
                 elim (told_owed (are a b x y) k kind (pair a b events) same phase) [
                   | inl rfnm ↦ (ap (λ (j : ℕ). waits_in (boxes a b events j)) u.0 ∙ rfnm_waits (boxes a b events k) (subst (λ (z : Answer). Fits z (boxes a b events k)) rfnm fits))
-                  | inr owed ↦ nothing_waits (boxes a b events l) (owes_run hosts events s.run a b owed peer l)
+                  | inr owed ↦ nothing_waits (boxes a b events l) (owes_run hosts events s.run a b s.ours owed peer l)
                 ]),
           )
       | inr u ↦ inl (ap waits_in (clear ∙ u.1))
@@ -308,7 +310,7 @@ up_step : (t : Bool) (here l : ℕ) (p : Pair) (bs : ℕ → Box) → (waits_in 
 up_step true here l p bs = inr (refl, λ e. absurd (cc))
 up_step false here l p bs = inl refl
 
-stay_step : (hosts : List Host) (e : Event) (events : List Event) (a b : Host) (l : ℕ) → Stay hosts events a b (joint a b (e ∷ events)) → IsRun hosts (e ∷ events) → takes_reset b a e ≡ false
+stay_step : (hosts : Network) (e : Event) (events : List Event) (a b : Host) (l : ℕ) → Stay hosts events a b (joint a b (e ∷ events)) → IsRun hosts (e ∷ events) → takes_reset b a e ≡ false
     → HeardBefore a b l events → HeardNow a b l e events (joint a b (e ∷ events))
 stay_step hosts (Contact x y) events a b l s r kept h = quiet hosts (Contact x y) events a b l (joint a b (Contact x y ∷ events)) s refl refl (inl refl) h
 stay_step hosts (Out x y k (Other text)) events a b l s r kept h = out_step hosts x y k text events a b l (joint a b (Out x y k (Other text) ∷ events)) s r h (are a b x y) refl
@@ -347,12 +349,12 @@ anew b xs e = rw e refl
 goes_on : (b : Bool) (xs : List (List Bool)) → b ≡ false → (if b then [] else xs) ≡ xs
 goes_on b xs e = rw e refl
 
-pub stay_run : (hosts : List Host) (events : List Event) → IsRun hosts events → (a b : Host) (l : ℕ) → stays b a events ≡ true → HeardBefore a b l events
-stay_run hosts [] r a b l s = absurd (cc)
-stay_run hosts (e ∷ events) r a b l s = by (begins a b e events) refl (λ before. stay_run hosts events r.2 a b l before) where
+pub stay_run : (hosts : Network) (events : List Event) → IsRun hosts events → (a b : Host) → AreOurs hosts a b → (l : ℕ) → stays b a events ≡ true → HeardBefore a b l events
+stay_run hosts [] r a b ours l s = absurd (cc)
+stay_run hosts (e ∷ events) r a b ours l s = by (begins a b e events) refl (λ before. stay_run hosts events r.2 a b ours l before) where
   by : (t : Bool) → begins a b e events ≡ t → (stays b a events ≡ true → HeardBefore a b l events) → HeardBefore a b l (e ∷ events)
   by true begun rest =
-      let none : waits_in (boxes a b (e ∷ events) l) ≡ [] = nothing_waits (boxes a b (e ∷ events) l) ((begin_quiet hosts e events r a b begun).0 l) in
+      let none : waits_in (boxes a b (e ∷ events) l) ≡ [] = nothing_waits (boxes a b (e ∷ events) l) ((begin_quiet hosts e events r a b ours begun).0 l) in
       let old : List (List Bool) = heard_in_stay a b l events ++ (if stays b a events then heard_by a b l e else []) in
       let spoken : List (List Bool) = said_in_stay a b l events ++ (if stays a b events then said_by a b l e else []) in
       tells_all (joint a b (e ∷ events)) (heard_in_stay a b l (e ∷ events) ++ waits_in (boxes a b (e ∷ events) l)) (said_in_stay a b l (e ∷ events))
@@ -366,10 +368,10 @@ stay_run hosts (e ∷ events) r a b l s = by (begins a b e events) refl (λ befo
       goes_on (begins a b e events) old same ∙ ap (λ (t : Bool). heard_in_stay a b l events ++ (if t then heard_by a b l e else [])) parts.2 in
       tells_as (joint a b (e ∷ events)) ((heard_in_stay a b l events ++ heard_by a b l e) ++ waits_in (boxes a b (e ∷ events) l)) (heard_in_stay a b l (e ∷ events) ++ waits_in (boxes a b (e ∷ events) l))
       spoken (said_in_stay a b l (e ∷ events)) (ap (λ (v : List (List Bool)). v ++ waits_in (boxes a b (e ∷ events) l)) more) (goes_on (begins a b e events) spoken same)
-      (stay_step hosts e events a b l (record { run = r.2; stay = parts.2; before = were_joint (joint a b (e ∷ events)) (joint a b events) same }) r parts.1 (rest parts.2))
+      (stay_step hosts e events a b l (record { run = r.2; ours = ours; stay = parts.2; before = were_joint (joint a b (e ∷ events)) (joint a b events) same }) r parts.1 (rest parts.2))
 
 -- what is heard was waiting
-heard_waiting : (hosts : List Host) (e : Event) (events : List Event) → IsRun hosts (e ∷ events) → (a b : Host) (l : ℕ) → (heard_by a b l e ≡ []) ⊎ (heard_by a b l e ≡ waits_in (boxes a b events l))
+heard_waiting : (hosts : Network) (e : Event) (events : List Event) → IsRun hosts (e ∷ events) → (a b : Host) (l : ℕ) → (heard_by a b l e ≡ []) ⊎ (heard_by a b l e ≡ waits_in (boxes a b events l))
 heard_waiting hosts (In x y k (Other text)) events r a b l = by (are a b x y) (l == k) refl refl where
   by : (t u : Bool) → are a b x y ≡ t → (l == k) ≡ u → (heard_by a b l (In x y k (Other text)) ≡ []) ⊎ (heard_by a b l (In x y k (Other text)) ≡ waits_in (boxes a b events l))
   by false u apart other = inl (not_ours (are a b x y) (l == k) (text ∷ []) apart)
@@ -384,9 +386,9 @@ heard_waiting hosts (Contact x y) events r a b l = inl refl
 heard_waiting hosts e events r a b l = inl refl
 
 -- whoever has left meanwhile
-pub heard_front : (hosts : List Host) (events : List Event) → IsRun hosts events → (a b : Host) (l : ℕ) → IsPrefix (heard_in_stay a b l events) (said_in_stay a b l events)
-heard_front hosts [] r a b l = ([], refl)
-heard_front hosts (e ∷ events) r a b l = by (begins a b e events) refl (heard_front hosts events r.2 a b l) where
+pub heard_front : (hosts : Network) (events : List Event) → IsRun hosts events → (a b : Host) → AreOurs hosts a b → (l : ℕ) → IsPrefix (heard_in_stay a b l events) (said_in_stay a b l events)
+heard_front hosts [] r a b ours l = ([], refl)
+heard_front hosts (e ∷ events) r a b ours l = by (begins a b e events) refl (heard_front hosts events r.2 a b ours l) where
   new : List (List Bool)
   new = if stays b a events then heard_by a b l e else []
 
@@ -397,7 +399,7 @@ heard_front hosts (e ∷ events) r a b l = by (begins a b e events) refl (heard_
   more false left h = subst (λ (v : List (List Bool)). IsPrefix v (said_in_stay a b l events)) (sym (append-nil (heard_in_stay a b l events))) h
   more true stay h = elim (heard_waiting hosts e events r a b l) [
     | inl none ↦ subst (λ (v : List (List Bool)). IsPrefix v (said_in_stay a b l events)) (sym (ap (λ (v : List (List Bool)). heard_in_stay a b l events ++ v) none ∙ append-nil (heard_in_stay a b l events))) h
-    | inr waits ↦ subst (λ (v : List (List Bool)). IsPrefix v (said_in_stay a b l events)) (sym (ap (λ (v : List (List Bool)). heard_in_stay a b l events ++ v) waits)) (stay_run hosts events r.2 a b l stay).front
+    | inr waits ↦ subst (λ (v : List (List Bool)). IsPrefix v (said_in_stay a b l events)) (sym (ap (λ (v : List (List Bool)). heard_in_stay a b l events ++ v) waits)) (stay_run hosts events r.2 a b ours l stay).front
   ]
 
   by : (t : Bool) → begins a b e events ≡ t → IsPrefix (heard_in_stay a b l events) (said_in_stay a b l events) → IsPrefix (heard_in_stay a b l (e ∷ events)) (said_in_stay a b l (e ∷ events))

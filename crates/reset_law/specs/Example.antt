@@ -1,14 +1,19 @@
 -- Two hosts that reset: words for worked examples.
 use Rattle.std.specs.Prelude.{true, List, [], ◌∷◌}
-use Rattle.interface.specs.Host.{Host}
+use Rattle.interface.specs.Host.{Host, same_host}
 use Rattle.interface.specs.declared.crossing.Answer.TheVariants as answer
 use Rattle.reset_law.specs.Events.{Reset, Reply, Other, Event, Contact, Out, In, Told}
+use Rattle.reset_law.specs.Network.{Network}
 
 abbrev pub one : Host
 one = record { imp = 1; host = 0 }
 
 abbrev pub two : Host
 two = record { imp = 2; host = 0 }
+
+-- of which the second is a stranger
+abbrev pub strange_two : Network
+strange_two = record { all = one ∷ two ∷ []; strange = same_host two }
 
 -- newest first: a contact of host `one`, its RST, the RFNM for it, the RRP, and a message
 abbrev pub reset : List Event

@@ -13,28 +13,29 @@ use Rattle.reset_law.specs.Monitor.{monitor}
 use Rattle.reset_law.specs.Pairs.{opening_pair, pair}
 use Rattle.reset_law.specs.Runs.{IsRun, WaitsAfterClean}
 use Rattle.reset_law.specs.Stays.{IsPrefix, begins, heard_in_stay, joint, ready, said_in_stay, stays, waits_in}
+use Rattle.reset_law.specs.Network.{AreOurs, Network}
 
 -- Whatever happens to two hosts, in whatever order: resets that cross, fail, come late or are asked for again.
 pub record CleanReset : Type 0 where
   -- a host that is through a reset takes of its peer only what went out after its last clean point for that peer
   pub clean :
-      (hosts : List Host) (events : List Event) (a b : Host) (link : ℕ) (text : List Bool) →
+      (hosts : Network) (events : List Event) (a b : Host) (link : ℕ) (text : List Bool) → AreOurs hosts a b →
       IsRun hosts (In a b link (Other text) ∷ events) → (pair b a events).phase ≡ Ready →
       WaitsAfterClean a b link text events
   -- RST and RRP are sent on link 0, and while one of them waits or has no answer nothing else is
   pub signals :
-      (hosts : List Host) (events : List Event) → IsRun hosts events → (a b : Host) (link : ℕ) →
+      (hosts : Network) (events : List Event) → IsRun hosts events → (a b : Host) → AreOurs hosts a b → (link : ℕ) →
       is_signal (kind_in (boxes a b events link)) ≡ true → link ≡ 0
   pub alone :
-      (hosts : List Host) (events : List Event) → IsRun hosts events → (a b : Host) (link : ℕ) →
+      (hosts : Network) (events : List Event) → IsRun hosts events → (a b : Host) → AreOurs hosts a b → (link : ℕ) →
       is_signal (kind_in (boxes a b events 0)) ≡ true → link ≢ 0 → boxes a b events link ≡ Empty
   -- a host that stopped has lost all its resets
   pub stopped :
-      (hosts : List Host) (events : List Event) → IsRun hosts events → (a b : Host) → is_up hosts a events ≡ false →
+      (hosts : Network) (events : List Event) → IsRun hosts events → (a b : Host) → AreOurs hosts a b → is_up hosts.all a events ≡ false →
       pair a b events ≡ opening_pair
   -- what a host that is up knows of a peer, in each phase
   pub sound :
-      (hosts : List Host) (events : List Event) → IsRun hosts events → (a b : Host) → is_up hosts a events ≡ true →
+      (hosts : Network) (events : List Event) → IsRun hosts events → (a b : Host) → AreOurs hosts a b → is_up hosts.all a events ≡ true →
       Sound (pair a b events) (monitor a b events) (boxes a b events)
 
 -- What two hosts hear of one another, link by link, while they stay together. A stay begins where both hosts are
@@ -42,24 +43,24 @@ pub record CleanReset : Type 0 where
 pub record Stays : Type 0 where
   -- what a host heard of its peer in its stay is a prefix of what the peer said in its own, whoever has left meanwhile
   pub front :
-      (hosts : List Host) (events : List Event) → IsRun hosts events → (a b : Host) (link : ℕ) →
+      (hosts : Network) (events : List Event) → IsRun hosts events → (a b : Host) → AreOurs hosts a b → (link : ℕ) →
       IsPrefix (heard_in_stay a b link events) (said_in_stay a b link events)
   -- while the host stays, so is what it heard and what waits for it
   pub waiting :
-      (hosts : List Host) (events : List Event) → IsRun hosts events → (a b : Host) (link : ℕ) →
+      (hosts : Network) (events : List Event) → IsRun hosts events → (a b : Host) → AreOurs hosts a b → (link : ℕ) →
       stays b a events ≡ true →
       IsPrefix (heard_in_stay a b link events ++ waits_in (boxes a b events link)) (said_in_stay a b link events)
   -- while both are through a reset nothing is lost
   pub whole :
-      (hosts : List Host) (events : List Event) → IsRun hosts events → (a b : Host) (link : ℕ) →
+      (hosts : Network) (events : List Event) → IsRun hosts events → (a b : Host) → AreOurs hosts a b → (link : ℕ) →
       joint a b events ≡ true →
       heard_in_stay a b link events ++ waits_in (boxes a b events link) ≡ said_in_stay a b link events
   -- then both stay, and where that began nothing of an older contact waited, either way
   pub together :
-      (hosts : List Host) (events : List Event) → IsRun hosts events → (a b : Host) → joint a b events ≡ true →
+      (hosts : Network) (events : List Event) → IsRun hosts events → (a b : Host) → AreOurs hosts a b → joint a b events ≡ true →
       stays a b events ≡ true
   pub beginning :
-      (hosts : List Host) (e : Event) (events : List Event) → IsRun hosts (e ∷ events) → (a b : Host) (link : ℕ) →
+      (hosts : Network) (e : Event) (events : List Event) → IsRun hosts (e ∷ events) → (a b : Host) → AreOurs hosts a b → (link : ℕ) →
       begins a b e events ≡ true → (waits_in (boxes a b (e ∷ events) link) ≡ []) ×
       (waits_in (boxes b a (e ∷ events) link) ≡ [])
 

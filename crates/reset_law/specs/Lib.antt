@@ -2,6 +2,7 @@ pub mod Events
 pub mod Boxes
 pub mod Pairs
 pub mod Monitor
+pub mod Network
 pub mod Runs
 pub mod Stays
 pub mod Invariant

@@ -3,10 +3,11 @@
 ghost use Rattle.std.specs.Prelude.{◌≡◌, true, [], ◌∷◌, Some};
 ghost use Rattle.reset_law.specs.Boxes.{boxes, Waiting};
 ghost use Rattle.reset_law.specs.Events.{Contact, Out, Down, Reset, Reply, Other};
-ghost use Rattle.reset_law.specs.Example.{one, two, reset, message, reset_beside_data, owing_reply};
+ghost use Rattle.reset_law.specs.Example.{one, two, strange_two, reset, message, reset_beside_data, owing_reply};
 ghost use Rattle.reset_law.specs.Monitor.{monitor};
 ghost use Rattle.reset_law.specs.Pairs.{pair, MaySend};
 ghost use Rattle.ncp_control.specs.declared.phase.Phase.TheVariants.{Ready};
+ghost use Rattle.reset_law.specs.Network.{all_ours};
 ghost use Rattle.reset_law.specs.Runs.{IsRun};
 ghost use Rattle.reset_law.specs.Stays.{ready, stays};
 ghost use Rattle.reset_law.specs.Laws.{CleanReset, Stays, WorkedResets, WorkedFailures, WorkedStays};
@@ -40,10 +41,16 @@ pub fn worked_resets()
 /// Lists of events that may be.
 pub fn worked_runs()
     // a reset and a message: so the laws don't speak of nothing
-    ensures whole { IsRun (one ∷ two ∷ []) message }
+    ensures whole { IsRun (all_ours (one ∷ two ∷ [])) message }
 
     // a message goes out also while its destination is down
-    ensures to_a_host_that_is_down { IsRun (one ∷ two ∷ []) (Out one two 0 Reset ∷ Contact one two ∷ Down two ∷ []) }
+    ensures to_a_host_that_is_down { IsRun (all_ours (one ∷ two ∷ [])) (Out one two 0 Reset ∷ Contact one two ∷ Down two ∷ []) }
+
+    // a stranger sends an RRP that nobody waits for, and asks while it is down; a host with a program doesn't, but to a stranger
+    // nothing is asked of what it sends
+    ensures stranger { IsRun strange_two (Out two one 0 Reply ∷ Contact two one ∷ []) × IsRun strange_two (Contact two one ∷ Down two ∷ []) }
+    ensures to_a_stranger { IsRun strange_two (Out one two 0 Reply ∷ []) }
+    ensures program { (IsRun strange_two (Contact one two ∷ Down one ∷ []) → ⊥) × (IsRun (all_ours (one ∷ two ∷ [])) (Out two one 0 Reply ∷ []) → ⊥) }
 {}
 
 /// What has to wait.

@@ -8,7 +8,7 @@ ghost use Rattle.script.specs.Input.{IsParted};
 use crate::word::cut;
 
 /// The most octets that an input may have.
-pub const MAX_INPUT: usize = 1_048_576;
+pub const MAX_INPUT: usize = 268_435_456;
 
 /// Returns the topology and the script of an input: what precedes its first marker, the line that is exactly
 /// `%`, and what follows that line. `None` where there is no marker.

@@ -8,9 +8,10 @@ use std::fmt::Display;
 use topology::{CarrierKind, ImpHosts, LineEnds, TopologyFault};
 
 /// What a user reads of each fault, and the status that comes with it.
-const FAULTS: [(ScriptFault, &str, u8); 6] = [
+const FAULTS: [(ScriptFault, &str, u8); 7] = [
     (ScriptFault::BadOptions, "arpasim: bad arguments", 1),
     (ScriptFault::CannotRead, "arpasim: cannot read", 1),
+    (ScriptFault::TooLong, "arpasim: input too long", 1),
     (ScriptFault::BadTopology, "arpasim: bad topology", 1),
     (ScriptFault::BadLine(12), "arpasim: bad script line 12", 2),
     (ScriptFault::OutOfMemory, "arpasim: stopped", 3),

@@ -198,7 +198,7 @@ fn of_an_endless_input_one_octet_too_many_is_read(rt: HostRuntime) {
             reader.into_inner().given,
             writer.into_inner().is_empty()
         ),
-        (Err(ScriptFault::BadTopology), 1_048_577, true)
+        (Err(ScriptFault::TooLong), 268_435_457, true)
     );
 }
 

@@ -105,13 +105,15 @@ module _ (origin : ℕ → ℕ) (own foreign : ℕ) where
       by true zero = control_carries x y k zero fit (sort_of m.flow.link.0 m.text) h j knows
       by false away = stays x y k (data_told_same origin own foreign s m stamp k mine away) (message_data origin own foreign s m stamp x mine away h) j knows
 
-    pub message_carries : (p : Host) (x y : End) (k : List Life) → (same_host p m.flow.source ≡ true → Fitting s m stamp x) → HasEnd origin own foreign (pair_with p s.peers) x
-        → HasEnd origin own foreign (pair_with p (accepted s (inbound.Message m) stamp).0.peers) y → Knows k x → Knows (all_known origin p own foreign (accepted s (inbound.Message m) stamp).1 k) y
-    message_carries p x y k fit h j knows = by (same_host p m.flow.source) refl where
-      by : (b : Bool) → same_host p m.flow.source ≡ b → Knows (all_known origin p own foreign (accepted s (inbound.Message m) stamp).1 k) y
-      by true e =
-          let is : p ≡ m.flow.source = same_host-true p m.flow.source e in
-          subst (λ (g : Host). Knows (all_known origin g own foreign (accepted s (inbound.Message m) stamp).1 k) y) (sym is)
-          (source_carries x y k (fit e) (subst (λ (g : Host). HasEnd origin own foreign (pair_with g s.peers) x) is h)
-          (subst (λ (g : Host). HasEnd origin own foreign (pair_with g (accepted s (inbound.Message m) stamp).0.peers) y) is j) knows)
-      by false e = carries_other p m.flow.source s (accepted s (inbound.Message m) stamp).0 (accepted s (inbound.Message m) stamp).1 e (message_about s m stamp) (message_leaves s m stamp p e) x y k h j knows
+  -- of each peer: only what it says itself has to have RST and RRP by themselves
+  pub message_carries : (s : NcpState) (m : HostMessage) (stamp : ℕ) → same_host s.own m.flow.destination ≡ true → (p : Host) → (same_host p m.flow.source ≡ true → IsApart m.flow.link.0 m.text (message_on m.flow.link.0 m.text))
+      → (x y : End) (k : List Life) → (same_host p m.flow.source ≡ true → Fitting s m stamp x) → HasEnd origin own foreign (pair_with p s.peers) x
+      → HasEnd origin own foreign (pair_with p (accepted s (inbound.Message m) stamp).0.peers) y → Knows k x → Knows (all_known origin p own foreign (accepted s (inbound.Message m) stamp).1 k) y
+  message_carries s m stamp mine p apart x y k fit h j knows = by (same_host p m.flow.source) refl where
+    by : (b : Bool) → same_host p m.flow.source ≡ b → Knows (all_known origin p own foreign (accepted s (inbound.Message m) stamp).1 k) y
+    by true e =
+        let is : p ≡ m.flow.source = same_host-true p m.flow.source e in
+        subst (λ (g : Host). Knows (all_known origin g own foreign (accepted s (inbound.Message m) stamp).1 k) y) (sym is)
+        (source_carries s m stamp mine (apart e) x y k (fit e) (subst (λ (g : Host). HasEnd origin own foreign (pair_with g s.peers) x) is h)
+        (subst (λ (g : Host). HasEnd origin own foreign (pair_with g (accepted s (inbound.Message m) stamp).0.peers) y) is j) knows)
+    by false e = carries_other p m.flow.source s (accepted s (inbound.Message m) stamp).0 (accepted s (inbound.Message m) stamp).1 e (message_about s m stamp) (message_leaves s m stamp p e) x y k h j knows

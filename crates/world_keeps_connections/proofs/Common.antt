@@ -10,7 +10,7 @@ pub use Rattle.interface.specs.declared.crossing.Answer.{Answer}
 pub use Rattle.interface.specs.declared.crossing.Crossing.{Crossing}
 pub use Rattle.interface.specs.declared.message.HostMessage.{HostMessage}
 pub use Rattle.ncp_control.specs.Numbers.{is_receive_socket, is_send_socket}
-pub use Rattle.net_sim.proofs.lemmas.{Coupled, coupled}
+pub use Rattle.net_sim.proofs.lemmas.{Coupled}
 pub use Rattle.net_sim.specs.Clean.{HaveAddresses, IsLawful}
 pub use Rattle.net_sim.specs.Reports.{IsBacked}
 pub use Rattle.net_sim.specs.Story.{Asked, Crossed, Moment}
@@ -28,6 +28,6 @@ pub use Rattle.sockets.specs.declared.request.Request.{Request}
 pub use Rattle.std.proofs.Common.{Bool, List, None, Option, Some, [], ap, arith, eq-eqb, false, if◌then◌else◌, refl, subst, sym, true, ℕ, ◌&&◌, ◌==◌, ◌∙◌, ◌∷◌, ◌≡◌}
 pub use Rattle.std.specs.List.{Contains}
 pub use Rattle.world_keeps_connections.specs.Users.{AreOpposite, known_in}
-pub use Rattle.world_keeps_pairing.proofs.lemmas.{AllTied, all_tied, served_in}
+pub use Rattle.world_keeps_pairing.proofs.lemmas.{AllTied, all_tied}
 pub use Rattle.world_keeps_pairing.specs.Free.{origin_in}
 pub use Rattle.world_keeps_pairing.specs.Lives.{is_between, life_of}

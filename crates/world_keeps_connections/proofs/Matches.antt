@@ -1,8 +1,11 @@
 -- Lives of the book that continue at both ends of the same sockets match.
-use Rattle.world_keeps_connections.proofs.Common.{◌≡◌, ℕ, true, false, ◌==◌, List, Option, Some, None, refl, ap, sym, subst, ◌∙◌, eq-eqb, Contains, Host, same_host, same_host-refl, is_send_socket, ArePartners, Seen, Crossing, HaveAddresses, IsLawful, WorldState, served_in, Match, own_request, receives, sends, Moment, IsTimeline, crossings_of, Coupled, coupled, origin_in, is_between, life_of, AreOpposite}
+use Rattle.world_keeps_connections.proofs.Common.{◌≡◌, ℕ, true, false, ◌==◌, List, Option, Some, None, refl, ap, sym, subst, ◌∙◌, eq-eqb, Contains, Host, same_host, same_host-refl, is_send_socket, ArePartners, Seen, Crossing, HaveAddresses, IsLawful, WorldState, Match, own_request, receives, sends, Moment, IsTimeline, crossings_of, Coupled, origin_in, is_between, life_of, AreOpposite}
 use Rattle.std.proofs.Common.{IsSome}
 use Rattle.interface.specs.Mailboxes as mail
-use Rattle.world_keeps_pairing.proofs.lemmas.{between_itself, book_lives, book_run, life_matches, partner_named}
+use Rattle.reset_law.specs.Network.{all_ours}
+use Rattle.net_sim.proofs.lemmas.AllOurs.{coupled, happened}
+use Rattle.world_keeps_pairing.proofs.lemmas.AllOurs.{life_matches, partner_named, served_in}
+use Rattle.world_keeps_pairing.proofs.lemmas.{between_itself, book_lives, book_run}
 use Rattle.promise.specs.Safe.{before, control_flow, last_out, named}
 use Rattle.net_sim.specs.Told.{kept_in}
 use Rattle.promise.specs.declared.life.Life as book
@@ -29,10 +32,10 @@ between x y o =
 pub live_match : (hosts : List Host) (moments : List Moment) → HaveAddresses hosts → mail.IsRun hosts (crossings_of moments) → IsTimeline hosts moments → (x y : book.Life) → Contains (kept_in moments).book.lives x → Contains (kept_in moments).book.lives y
     → x.ended ≡ false → y.ended ≡ false → AreOpposite x y → receives x ≡ true → sends y ≡ true → Match (crossings_of moments) x y
 live_match hosts moments addresses run time x y here there on also o receiving sending =
-    let k : Coupled hosts moments = coupled hosts addresses moments run time in
+    let k : Coupled (all_ours hosts) moments = coupled hosts addresses moments run time in
     let odd : is_send_socket x.foreign ≡ true = ap is_send_socket o.2 ∙ sending in
     let partners : ArePartners (life_of (origin_in (crossings_of moments) x.host x.peer) x) (life_of (origin_in (crossings_of moments) x.peer x.host) y) =
-    known_partners hosts moments addresses run time x.host x.peer (record { receive = x.socket; send = x.foreign }) receiving odd
+    known_partners (all_ours hosts) moments addresses run (happened hosts moments time) x.host x.peer (refl, refl) (record { receive = x.socket; send = x.foreign }) receiving odd
     (life_of (origin_in (crossings_of moments) x.host x.peer) x) (life_of (origin_in (crossings_of moments) x.peer x.host) y)
     (life_known (origin_in (crossings_of moments) x.host x.peer) x.host x.peer x.socket x.foreign hosts moments run time x here (between_itself x) on)
     (life_known (origin_in (crossings_of moments) x.peer x.host) x.peer x.host x.foreign x.socket hosts moments run time y there (between x y o) also) in

@@ -12,10 +12,12 @@ use Rattle.pairing_law.specs.Links.{receiver, sender, Sockets}
 use Rattle.pairing_law.specs.Partners.{IsIn}
 use Rattle.pairing_law.specs.Sides.{Life}
 use Rattle.host_keeps_pairing.specs.Known.{ArePartners, Knows}
+use Rattle.reset_law.specs.Network.{AreOurs, Network}
 use Rattle.promise.specs.Connections.{IsConnected, JoinedBook}
 use Rattle.promise.specs.Safe.{Match, receives, sends}
 use Rattle.promise.specs.declared.life.Life as book
 use Rattle.net_sim.specs.Clean.{HaveAddresses, IsLawful}
+use Rattle.net_sim.specs.Mixed.{Happened}
 use Rattle.net_sim.specs.Story.{Asked, Crossed, Moment}
 use Rattle.net_sim.specs.Timeline.{crossings_of, IsTimeline}
 use Rattle.net_sim.specs.Told.{kept_in}
@@ -27,26 +29,26 @@ use Rattle.world_keeps_pairing.specs.Steps.{steps}
 use Rattle.world_keeps_pairing.specs.WorkedLives.{closed_early}
 use Rattle.world_keeps_connections.specs.Users.{AreOpposite, known_in}
 
--- The users of two hosts, over any list of moments of a world: all that crosses between their programs, and what they
+-- The users of two hosts with programs, over any list of moments of a network: all that crosses between them, and what they
 -- ask for.
 pub record Users : Type 0 where
   -- what each knows of an end is so, by the steps of the two
   pub receiver :
-      (hosts : List Host) (moments : List Moment) → HaveAddresses hosts → mail.IsRun hosts (crossings_of moments) →
-      IsTimeline hosts moments → (a b : Host) → (s : Sockets) → is_receive_socket s.receive ≡ true →
+      (hosts : Network) (moments : List Moment) → HaveAddresses hosts.all → mail.IsRun hosts.all (crossings_of moments) →
+      Happened hosts moments → (a b : Host) → AreOurs hosts a b → (s : Sockets) → is_receive_socket s.receive ≡ true →
       is_send_socket s.send ≡ true →
       Knows (known_in (origin_in (crossings_of moments) a b) a b s.receive s.send moments)
       (receiver s (steps a b (law_events moments))).end
   pub sender :
-      (hosts : List Host) (moments : List Moment) → HaveAddresses hosts → mail.IsRun hosts (crossings_of moments) →
-      IsTimeline hosts moments → (a b : Host) → (s : Sockets) → is_receive_socket s.receive ≡ true →
+      (hosts : Network) (moments : List Moment) → HaveAddresses hosts.all → mail.IsRun hosts.all (crossings_of moments) →
+      Happened hosts moments → (a b : Host) → AreOurs hosts a b → (s : Sockets) → is_receive_socket s.receive ≡ true →
       is_send_socket s.send ≡ true →
       Knows (known_in (origin_in (crossings_of moments) b a) b a s.send s.receive moments)
       (sender s (steps a b (law_events moments))).end
   -- so where both know of an open end on the same sockets, each is the other's partner
   pub partners :
-      (hosts : List Host) (moments : List Moment) → HaveAddresses hosts → mail.IsRun hosts (crossings_of moments) →
-      IsTimeline hosts moments → (a b : Host) → (s : Sockets) → is_receive_socket s.receive ≡ true →
+      (hosts : Network) (moments : List Moment) → HaveAddresses hosts.all → mail.IsRun hosts.all (crossings_of moments) →
+      Happened hosts moments → (a b : Host) → AreOurs hosts a b → (s : Sockets) → is_receive_socket s.receive ≡ true →
       is_send_socket s.send ≡ true → (x y : Life) →
       IsIn x (known_in (origin_in (crossings_of moments) a b) a b s.receive s.send moments) →
       IsIn y (known_in (origin_in (crossings_of moments) b a) b a s.send s.receive moments) → ArePartners x y

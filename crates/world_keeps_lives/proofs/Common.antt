@@ -34,7 +34,8 @@ pub use Rattle.ncp_control.specs.declared.allocation.Allocation.{Allocation}
 pub use Rattle.ncp_control.specs.declared.command.Command.{Command}
 pub use Rattle.ncp_control.specs.declared.data_header.DataHeader.{DataHeader}
 pub use Rattle.ncp_control.specs.declared.phase.Phase.{Phase}
-pub use Rattle.net_sim.proofs.lemmas.{Coupled, coupled, data_away, places_same, story_agrees}
+pub use Rattle.net_sim.proofs.lemmas.{Coupled, data_away, places_same, story_agrees}
+pub use Rattle.net_sim.proofs.lemmas.AllOurs.{coupled}
 pub use Rattle.net_sim.specs.Book.{Kept, all_told, asked, book_told, carried, changed_when, crossed, handed_to, handed_told, life_ended, lives_asked, lives_at, lives_between, lives_crossed, lives_on, lives_told, lives_with, new_life, opening_kept, where_it}
 pub use Rattle.net_sim.specs.Clean.{HaveAddresses, IsLawful}
 pub use Rattle.net_sim.specs.Projection.{Agrees}
@@ -74,4 +75,5 @@ pub use Rattle.world_keeps_lives.specs.Drained.{ClosedFirst, ClosesFirst}
 pub use Rattle.world_keeps_lives.specs.Firsts.{AreApart, FirstBook, IsSentIn, begun, flow_on, texts_before}
 pub use Rattle.world_keeps_lives.specs.Lives.{AddsUp, AreRefusing, EachIn, EachOn, HasOpenEnd, IsBounded, IsFreeSocket, IsFresh, IsLifeOf, IsOwned, IsSafe, IsSteady, NoneOf, at_socket, has_opened, mine_on}
 pub use Rattle.world_keeps_lives.specs.WorkedFormed.{gave, sent_log, stray_log, took, two_log}
-pub use Rattle.world_keeps_pairing.proofs.lemmas.{book_lives, book_run, even_odd, programs_ranged, queued_commands, safe_partners, served_in}
+pub use Rattle.world_keeps_pairing.proofs.lemmas.{book_lives, book_run, even_odd, programs_ranged}
+pub use Rattle.world_keeps_pairing.proofs.lemmas.AllOurs.{queued_commands, safe_partners, served_in}

@@ -1,6 +1,7 @@
 -- A sending life whose CLS is queued before its partner's was taken has sent all that was handed over in it, also once
 -- it is over.
 use Rattle.world_keeps_lives.proofs.Common.{◌≡◌, ◌⊎◌, inl, inr, ℕ, zero, suc, ◌<◌, ◌==◌, ◌&&◌, not, Bool, false, if◌then◌else◌, List, [], ◌∷◌, ◌++◌, length, filter, find, slice_index_or, Option, Some, None, refl, ap, sym, subst, ◌∙◌, eq-eqb, arith, eqb-true, Contains, Seen, Host, same_host, not_false, same_host-true, is_receive_socket, is_send_socket, Command, Order, orders_of, has_cls, is_mine_on, is_open, Entry, both, not_is, NcpState, owner_of, pair_with, AreInOrder, on_open, send_fault, not_first, lives_at, HaveAddresses, IsLawful, going, AreHanded, IsPrefix, Name, SafePartners, own_request, sends, Asked, Crossed, Moment, places, program, IsTimeline, crossings_of, kept_in, WorldState, Life, Coupled, coupled, places_same, book_run, even_odd, queued_commands, safe_partners, served_in, ClosedFirst, ClosesFirst, AreRefusing, EachOn, HasOpenEnd, IsFreeSocket, IsLifeOf, IsOwned, NoneOf, mine_on}
+use Rattle.reset_law.specs.Network.{all_ours}
 use Rattle.std.proofs.Common.{true}
 use Rattle.std.proofs.lemmas.Option.{same_Some}
 use Rattle.interface.specs.Mailboxes as mail
@@ -9,7 +10,8 @@ use Rattle.host_pairs.specs.Parcels as parcel
 use Rattle.sockets.specs.Requests.{refusal}
 use Rattle.sockets.specs.declared.request.Request.TheVariants as request
 use Rattle.world_keeps_pairing.specs.Lives.{ArePaired}
-use Rattle.world_keeps_pairing.proofs.lemmas.{life_paired, mail_below}
+use Rattle.world_keeps_pairing.proofs.lemmas.{mail_below}
+use Rattle.world_keeps_pairing.proofs.lemmas.AllOurs.{life_paired}
 use Rattle.world_keeps_lives.specs.Drained.{AllDrained, AllSent}
 use Rattle.world_keeps_lives.proofs.Desks.{clash, open_parts, own_is}
 use Rattle.world_keeps_lives.proofs.Ends.{mine_one}
@@ -244,7 +246,7 @@ module _ (hosts : List Host) (addresses : HaveAddresses hosts) where
 
     paired : (x : Life) → Contains (kept_in ms).book.lives x → ArePaired x
     paired x there =
-        let c : Coupled hosts ms = coupled hosts addresses ms run time in
+        let c : Coupled (all_ours hosts) ms = coupled hosts addresses ms run time in
         life_paired hosts ms c.story c.run run (served_in hosts ms time) x there
 
     placed_first : (r : Life) → HasOpenEnd (program r.host ms) r → r.own_stamp < places ms
@@ -316,7 +318,7 @@ module _ (hosts : List Host) (addresses : HaveAddresses hosts) where
             live hosts ms addresses run time w.life
             (pair_there w.life w.text (kept_in ms).book.lives (kept_in ms).handed w.there) goes in
             absurd
-            (closing_refuses (program w.life.host ms) w.life open_end bits ((coupled hosts addresses ms run time).order w.life.host) (end_shut open_end)
+            (closing_refuses (program w.life.host ms) w.life open_end bits ((coupled hosts addresses ms run time).order w.life.host refl) (end_shut open_end)
             (subst (λ (g : Host). refusal (program g ms) (request.Send w.life.socket bits) ≡ None) (same_host-true h w.life.host q.0)
             (subst (λ (k : ℕ). refusal (program h ms) (request.Send k bits) ≡ None) (sym (eqb-true w.life.socket socket q.1)) may)))
 
@@ -327,7 +329,7 @@ module _ (hosts : List Host) (addresses : HaveAddresses hosts) where
 
       may : (y : Moment) → mail.IsRun hosts (crossings_of (y ∷ ms)) → IsTimeline hosts (y ∷ ms)
           → May (IsShut r.socket r.own_stamp) Nothing r.host r.peer (shut_rules r.socket r.own_stamp r.peer) y ms
-      may (Crossed (crossing.Out m)) on t = (out, (coupled hosts addresses (Crossed (crossing.Out m) ∷ ms) on t).story.0) where
+      may (Crossed (crossing.Out m)) on t = (out, (coupled hosts addresses (Crossed (crossing.Out m) ∷ ms) on t).story.0 refl) where
         out : MayOut (IsShut r.socket r.own_stamp) Nothing r.host r.peer (shut_rules r.socket r.own_stamp r.peer) m ms
         out g parcel.Reset from to next order is = tt
         out g parcel.Reply from to next order is = tt
@@ -387,7 +389,7 @@ module _ (hosts : List Host) (addresses : HaveAddresses hosts) where
         let w : Whole ms c.sender = subst (λ (ns : List Moment). Whole ns c.sender) (sym c.is)
         (later c.later c.earlier (subst (λ (ns : List Moment). mail.IsRun hosts (crossings_of ns)) c.is run)
         (subst (λ (ns : List Moment). IsTimeline hosts ns) c.is time) c.sender c.there c.first) in
-        let k : Coupled hosts ms = coupled hosts addresses ms run time in
+        let k : Coupled (all_ours hosts) ms = coupled hosts addresses ms run time in
         let partners : SafePartners (crossings_of ms) (kept_in ms).book.lives =
         safe_partners hosts ms k.story k.run run (served_in hosts ms time) in
         let same : (x ≡ w.life) × (t ≡ w.text) =

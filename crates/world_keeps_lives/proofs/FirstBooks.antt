@@ -1,5 +1,6 @@
 -- The messages of each life are the first on its link, over all moments.
 use Rattle.world_keeps_lives.proofs.Common.{◌≡◌, ◌⊎◌, ◌<◌, inl, inr, ℕ, ◌*◌, ◌==◌, Bool, true, false, if◌then◌else◌, List, [], ◌∷◌, ◌++◌, take, drop, length, Option, Some, None, is_some, refl, ap, sym, subst, ◌∙◌, eq-eqb, Contains, eqb-true, drop-append_seam, Seen, same_flow, Host, same_host, Flow, Crossing, HostMessage, same_flow-refl, same_flow-true, same_host-refl, data_bits, header_bits, is_receive_socket, Command, MayGo, data_of, is_link, is_open, is_receiving, receives_on, sends_on, PairState, Parcel, link_for, may_send_on, next_of, Entry, Notice, both, what_goes, find_passes, pair_with, message_for, next_in, Request, next_is, next_pair, all_told, carried, lives_at, where_it, IsLawful, data_by, data_in, text_of, receives, Asked, Crossed, IsNext, Moment, places, program, crossings_of, host_in, kept_by, kept_in, notices_by, WorldState, Life, coupled, places_same, book_lives, book_run, begun, HasOpenEnd}
+use Rattle.reset_law.specs.Network.{all_ours}
 use Rattle.std.proofs.lemmas.Option.{same_Some}
 use Rattle.interface.specs.declared.crossing.Crossing.TheVariants as crossing
 use Rattle.host_pairs.specs.Parcels as parcel
@@ -73,17 +74,17 @@ none_arrived : {A : Type 0} (s : ℕ) (a : List Bool) → [] ≡ notice.Arrived 
 none_arrived s a e = absurd (cc)
 
 module _ (hosts : List Host) (given : Together hosts) where
-  story_by : (y : Moment) (ms : List Moment) → Follows y ms → (m : HostMessage) → y ≡ Crossed (crossing.Out m) → IsNext (program m.flow.source ms) m
-  story_by y ms f m e = subst (λ (z : Moment). Follows z ms) e f
+  story_by : (y : Moment) (ms : List Moment) → Follows (all_ours hosts) y ms → (m : HostMessage) → y ≡ Crossed (crossing.Out m) → IsNext (program m.flow.source ms) m
+  story_by y ms f m e = subst (λ (z : Moment). Follows (all_ours hosts) z ms) e f refl
 
   module _ (ms : List Moment) (l : Lawful hosts ms) (g : Good ms) where
     -- ---- moments of no data
 
-    calm_of : (y : Moment) → Follows y ms → (p : Host) → Each (Tells (host_in y) p (crossings_of (y ∷ ms))) (notices_by y ms) → Calm (lives_in ms) (places ms) (crossings_of (y ∷ ms)) (lives_in ms) (lives_in (y ∷ ms))
+    calm_of : (y : Moment) → Follows (all_ours hosts) y ms → (p : Host) → Each (Tells (host_in y) p (crossings_of (y ∷ ms))) (notices_by y ms) → Calm (lives_in ms) (places ms) (crossings_of (y ∷ ms)) (lives_in ms) (lives_in (y ∷ ms))
     calm_of y follows p told =
         calm_moment (lives_in ms) (places ms) (crossings_of (y ∷ ms)) y ms p told (stamped hosts l.0 ms l.1 l.2 (lives_in ms) (all_due hosts given ms l) y (story_by y ms follows))
 
-    calm : (y : Moment) → Lawful hosts (y ∷ ms) → Follows y ms → (p : Host) → ((c : Crossing) → y ≡ Crossed c → IsControl c) → Each (Tells (host_in y) p (crossings_of (y ∷ ms))) (notices_by y ms) → Good (y ∷ ms)
+    calm : (y : Moment) → Lawful hosts (y ∷ ms) → Follows (all_ours hosts) y ms → (p : Host) → ((c : Crossing) → y ≡ Crossed c → IsControl c) → Each (Tells (host_in y) p (crossings_of (y ∷ ms))) (notices_by y ms) → Good (y ∷ ms)
     calm y late follows p control told =
         good_calm hosts given y ms l late (story_by y ms follows) g (calm_of y follows p told)
         (λ q there t goes o c is. quiet_text (receives q.life) (flow_of q.life q.link) c (ap (λ (n : ℕ). n == 0) (flow_link q.life q.link) ∙ t.other) (control c is)) (λ m is. control (crossing.Out m) is)
@@ -105,7 +106,7 @@ module _ (hosts : List Host) (given : Together hosts) where
 
       quiet_out : (z : Parcel) → link_for z ≡ 0 → next_in (program m.flow.source ms).peers ≡ Some (n.peer, z) → m ≡ message_for (program m.flow.source ms).own n.peer z
           → MayTell (Going a b log queue) (Tells a b log) b (going_rules a b log queue) (places ms) z (pair_with b (program a ms).peers) → Good (Crossed (crossing.Out m) ∷ ms)
-      quiet_out z zero next is may = calm (Crossed (crossing.Out m)) late n b control (offer_told hosts l.0 ms l.1 l.2 m n z next is may) where
+      quiet_out z zero next is may = calm (Crossed (crossing.Out m)) late (λ off. n) b control (offer_told hosts l.0 ms l.1 l.2 m n z next is may) where
         on : (m.flow.link.0 == 0) ≡ true
         on = eq-eqb m.flow.link.0 0 (ap (λ (x : HostMessage). x.flow.link.0) is ∙ zero)
 
@@ -185,7 +186,7 @@ module _ (hosts : List Host) (given : Together hosts) where
 
         bytes_out : Good (Crossed (crossing.Out m) ∷ ms)
         bytes_out =
-            good_data hosts given (Crossed (crossing.Out m)) ms l late (story_by (Crossed (crossing.Out m)) ms n) g (crossing.Out m) refl m.flow.source m.flow.destination e m.text (take (size * count) e.bits) among may.1.is_opened lives_are hit missed
+            good_data hosts given (Crossed (crossing.Out m)) ms l late (story_by (Crossed (crossing.Out m)) ms (λ off. n)) g (crossing.Out m) refl m.flow.source m.flow.destination e m.text (take (size * count) e.bits) among may.1.is_opened lives_are hit missed
             (λ k two x link host peer socket its. subst (λ (w : HostMessage). (receives x ≡ false) × (w.flow ≡ flow_of x link)) (same_out m k two) (on_flow x link host peer socket its))
 
       out_good : Good (Crossed (crossing.Out m) ∷ ms)
@@ -198,7 +199,7 @@ module _ (hosts : List Host) (given : Together hosts) where
 
     -- ---- a message comes in
 
-    module _ (m : HostMessage) (late : Lawful hosts (Crossed (crossing.In m) ∷ ms)) (follows : Follows (Crossed (crossing.In m)) ms) (off : (m.flow.link.0 == 0) ≡ false) where
+    module _ (m : HostMessage) (late : Lawful hosts (Crossed (crossing.In m) ∷ ms)) (follows : Follows (all_ours hosts) (Crossed (crossing.In m)) ms) (off : (m.flow.link.0 == 0) ≡ false) where
       -- it arrives where it is on the flow of an open end
       arrived : (p : Linked) → (there : Contains (lives_in ms) p.life) → (t : Tracked ms p) → (goes : p.life.ended ≡ false) → is_open (at_end hosts given ms l p there t goes).end ≡ true → receives p.life ≡ true → flow_of p.life p.link ≡ m.flow
           → notices_by (Crossed (crossing.In m)) ms ≡ notice.Arrived p.life.socket (drop 40 m.text) ∷ []
@@ -257,14 +258,14 @@ module _ (hosts : List Host) (given : Together hosts) where
                   let at : lives_at m.flow.destination t.end.own p.life ≡ true = rw (h, s, goes) refl in
                   no (lives_at m.flow.destination t.end.own p.life) at not_at
 
-    in_good : (m : HostMessage) → Lawful hosts (Crossed (crossing.In m) ∷ ms) → Follows (Crossed (crossing.In m)) ms → Good (Crossed (crossing.In m) ∷ ms)
+    in_good : (m : HostMessage) → Lawful hosts (Crossed (crossing.In m) ∷ ms) → Follows (all_ours hosts) (Crossed (crossing.In m)) ms → Good (Crossed (crossing.In m) ∷ ms)
     in_good m late follows = by (m.flow.link.0 == 0) refl where
       by : (z : Bool) → (m.flow.link.0 == 0) ≡ z → Good (Crossed (crossing.In m) ∷ ms)
       by true here = calm (Crossed (crossing.In m)) late follows m.flow.source (λ c two. subst (λ (d : Crossing). IsControl d) (let same : crossing.In m ≡ c = cc in same) here) (control_told hosts l.0 ms l.1 l.2 m here)
       by false off = taken_good m late follows off (message_takes (program m.flow.destination ms) m (places ms) off)
 
-    crossed_good : (c : Crossing) → Lawful hosts (Crossed c ∷ ms) → Follows (Crossed c) ms → Good (Crossed c ∷ ms)
-    crossed_good (crossing.Out m) late follows = out_good m late follows
+    crossed_good : (c : Crossing) → Lawful hosts (Crossed c ∷ ms) → Follows (all_ours hosts) (Crossed c) ms → Good (Crossed c ∷ ms)
+    crossed_good (crossing.Out m) late follows = out_good m late (follows refl)
     crossed_good (crossing.In m) late follows = in_good m late follows
     crossed_good (crossing.Answer kind f) late follows =
         calm (Crossed (crossing.Answer kind f)) late follows f.destination (λ c two. subst (λ (d : Crossing). IsControl d) (let same : crossing.Answer kind f ≡ c = cc in same) tt) (answer_told hosts l.0 ms l.1 l.2 kind f)

@@ -1,5 +1,6 @@
 -- The messages of each life are the first on its link, and each message that goes out is one of a life: from one moment to the next.
 use Rattle.world_keeps_lives.proofs.Common.{◌≡◌, ◌⊎◌, inl, inr, ℕ, suc, ◌+◌, ◌<◌, ◌≤◌, ◌==◌, ◌&&◌, max, not, Bool, true, false, List, [], ◌∷◌, ◌++◌, map, length, Some, refl, ap, sym, subst, ◌∙◌, arith, eq-eqb, Contains, max-le, eqb-true, map-append, Contains-append_left, Host, same_host, Crossing, HostMessage, same_host-refl, same_host-true, is_mine_on, is_open, Entry, both, carried, changed_when, lives_at, where_it, CrossedAt, coming, data_in, going, text_of, texts_for, AreTwo, Name, SafePartners, before, own_request, receives, Asked, Crossed, IsNext, Moment, places, program, crossings_of, Amount, Life, Coupled, coupled, places_same, queued_commands, safe_partners, served_in, begun, HasOpenEnd, mine_on}
+use Rattle.reset_law.specs.Network.{all_ours}
 use Rattle.std.proofs.Math.Nat.{le-max_left, le-max_right}
 use Rattle.std.proofs.lemmas.List.Elements.{Contains-append_right}
 use Rattle.interface.specs.declared.crossing.Crossing.TheVariants as crossing
@@ -61,7 +62,7 @@ module _ (hosts : List Host) (given : Together hosts) (y : Moment) (ms : List Mo
   all_known = each_two (λ p. Contains g.links p) (Tracked ms) Known g.links (λ p there t. (life_there p there, t)) (each_of g.links) g.tracked
 
   partners : SafePartners (crossings_of (y ∷ ms)) (lives_in (y ∷ ms))
-  partners = let c : Coupled hosts (y ∷ ms) = coupled hosts late.0 (y ∷ ms) late.1 late.2 in safe_partners hosts (y ∷ ms) c.story c.run late.1 (served_in hosts (y ∷ ms) late.2)
+  partners = let c : Coupled (all_ours hosts) (y ∷ ms) = coupled hosts late.0 (y ∷ ms) late.1 late.2 in safe_partners hosts (y ∷ ms) c.story c.run late.1 (served_in hosts (y ∷ ms) late.2)
 
   -- ---- a life's end
 

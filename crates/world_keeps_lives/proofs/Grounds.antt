@@ -1,5 +1,6 @@
 -- The requests of each end of a host's program, in the messages that crossed.
 use Rattle.world_keeps_lives.proofs.Common.{◌≡◌, inl, inr, ℕ, ◌<◌, Bool, true, false, if◌then◌else◌, zero, suc, List, [], ◌∷◌, map, take, drop, length, slice_index_or, Some, refl, ap, sym, subst, ◌∙◌, arith, Contains, eqb-true, take-append-drop, Contains-append_left, Host, same_host, Flow, Answer, Crossing, HostMessage, or_false, same_host-true, is_receive_socket, is_send_socket, Command, Legal, Order, orders_of, has_cls, is_ending, is_receiving, PairState, Parcel, asked_at, link_for, Entry, Notice, offer_read, AreCommands, IsReadBack, accepted, NcpState, opening_state, pair_with, AreInOrder, served, message_for, next_in, offered, Peer, next_pair, HaveAddresses, CrossedAt, HasCrossed, coming, going, request, control_flow, Asked, Crossed, IsNext, Moment, places, program, IsTimeline, crossings_of, coupled, places_same, even_odd, programs_ranged, served_in, queued_commands}
+use Rattle.reset_law.specs.Network.{all_ours}
 use Rattle.std.proofs.lemmas.Option.{same_Some}
 use Rattle.interface.specs.Mailboxes as mail
 use Rattle.interface.specs.declared.crossing.Crossing.TheVariants as crossing
@@ -11,7 +12,7 @@ use Rattle.host_pairs.specs.declared.notice.Notice.TheVariants as notice
 use Rattle.sockets.proofs.lemmas.{answer_leaves, message_leaves, offer_leaves}
 use Rattle.net_sim.proofs.lemmas.{flow_of, program_own}
 use Rattle.world_keeps_pairing.proofs.lemmas.{send_odd}
-use Rattle.world_keeps_pairing.proofs.lemmas.{queued_link}
+use Rattle.world_keeps_pairing.proofs.lemmas.AllOurs.{queued_link}
 use Rattle.world_keeps_lives.proofs.Facts.{no_place}
 use Rattle.world_keeps_lives.proofs.Walk.Rules.{Begins, Each, Goes, Hears, IsOther, MayTell, Quiet, Rules, each_of, each_weaker}
 use Rattle.world_keeps_lives.proofs.Walk.ByRules.{Done, Ends, MayTake, answer_keeps, message_keeps, offer_keeps, request_keeps}
@@ -322,7 +323,7 @@ module _ (hosts : List Host) (addresses : HaveAddresses hosts) where
     goes_of m g count crossed to next order is =
         let there : g.host ≡ b = sym (to ∙ ap (λ (x : HostMessage). x.flow.destination) is) in
         let same : pair_with b (program a moments).peers ≡ g.pair = subst (λ (y : Host). pair_with y (program a moments).peers ≡ g.pair) there (next_pair (program a moments).peers g (parcel.Commands count) order next) in
-        let back : IsReadBack g.pair (parcel.Commands count) = offer_read (program a moments) g (parcel.Commands count) (programs_ranged moments (served_in hosts moments time) a) next in
+        let back : IsReadBack g.pair (parcel.Commands count) = offer_read (program a moments) g (parcel.Commands count) (programs_ranged (all_ours hosts) moments (served_in hosts moments time) a refl) next in
         let reads : orders_of m.text ≡ map Legal (take count (pair_with b (program a moments).peers).queue) =
         ap (λ (x : HostMessage). orders_of x.text) is ∙ back ∙ ap (λ (q : PairState). map Legal (take count q.queue)) (sym same) in
         going_goes a b log m (places moments) count (pair_with b (program a moments).peers).queue
@@ -359,7 +360,7 @@ module _ (hosts : List Host) (addresses : HaveAddresses hosts) where
   grounds (Crossed c ∷ moments) run time a b = by c run time (each_weaker (Grounded a b (crossings_of moments)) (Grounded a b (c ∷ crossings_of moments)) (pair_with b (program a moments).peers).entries (still_grounded a b c (crossings_of moments)) (grounds moments run.1 time.1 a b)) where
     by : (c : Crossing) → mail.IsRun hosts (c ∷ crossings_of moments) → IsTimeline hosts (Crossed c ∷ moments) → Ends (Grounded a b (c ∷ crossings_of moments)) b (program a moments) → Ends (Grounded a b (c ∷ crossings_of moments)) b (program a (Crossed c ∷ moments))
     by (crossing.Out m) run time h =
-        out_grounds moments run.1 time.1 a b (crossing.Out m ∷ crossings_of moments) m (coupled hosts addresses (Crossed (crossing.Out m) ∷ moments) run time).story.0 (inl (refl, places_same moments)) h
+        out_grounds moments run.1 time.1 a b (crossing.Out m ∷ crossings_of moments) m ((coupled hosts addresses (Crossed (crossing.Out m) ∷ moments) run time).story.0 refl) (inl (refl, places_same moments)) h
     by (crossing.In m) run time h = in_grounds moments run.1 time.1 a b (crossing.In m ∷ crossings_of moments) m (inl (refl, places_same moments)) h
     by (crossing.Answer kind f) run time h =
         step_ends (Grounded a b (crossing.Answer kind f ∷ crossings_of moments)) (Tells a b (crossing.Answer kind f ∷ crossings_of moments)) a b (grounded_rules a b (crossing.Answer kind f ∷ crossings_of moments)) (grounded_begins a b (crossing.Answer kind f ∷ crossings_of moments)) (Crossed (crossing.Answer kind f)) moments (queued_commands hosts moments addresses run.1 time.1 a b) tt h

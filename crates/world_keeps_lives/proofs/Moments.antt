@@ -1,5 +1,6 @@
 -- One socket of a host, over all moments of a world.
 use Rattle.world_keeps_lives.proofs.Common.{◌≡◌, inl, inr, ℕ, ◌==◌, Bool, true, false, if◌then◌else◌, List, [], ◌∷◌, None, refl, sym, subst, Host, same_host, Crossing, same_host-refl, same_host-true, Notice, both, accepted, NcpState, opening_state, pair_with, served, offered, Request, Life, Kept, all_told, asked, crossed, lives_at, lives_on, opening_kept, HaveAddresses, Asked, Crossed, Moment, places, program, IsTimeline, crossings_of, kept_in, Coupled, coupled, programs_ranged, served_in, EachIn, IsLifeOf, NoneOf, at_socket, served_notices}
+use Rattle.reset_law.specs.Network.{all_ours}
 use Rattle.interface.specs.Mailboxes as mail
 use Rattle.interface.specs.declared.crossing.Crossing.TheVariants as crossing
 use Rattle.interface.specs.declared.crossing.Inbound.TheVariants as inbound
@@ -18,13 +19,13 @@ use Rattle.world_keeps_lives.proofs.Asks.{holds_same, request_holds}
 
 pub has_ends : (hosts : List Host) (moments : List Moment) → HaveAddresses hosts → mail.IsRun hosts (crossings_of moments) → IsTimeline hosts moments → (a p : Host) → HasEnds (origin_in (crossings_of moments) a p) (pair_with p (program a moments).peers)
 has_ends hosts moments addresses run time a p own foreign two = elim two [
-  | inl r ↦ (_, ((tied hosts moments addresses run time).tied a p).receiver (record { receive = own; send = foreign }) (r.0, r.1))
-  | inr s ↦ (_, ((tied hosts moments addresses run time).tied p a).sender (record { receive = foreign; send = own }) (s.1, s.0))
+  | inl r ↦ (_, ((tied hosts moments addresses run time).tied a p (refl, refl)).receiver (record { receive = own; send = foreign }) (r.0, r.1))
+  | inr s ↦ (_, ((tied hosts moments addresses run time).tied p a (refl, refl)).sender (record { receive = foreign; send = own }) (s.1, s.0))
 ] where
-  tied : (hosts : List Host) (moments : List Moment) → HaveAddresses hosts → mail.IsRun hosts (crossings_of moments) → IsTimeline hosts moments → AllTied (origin_in (crossings_of moments)) moments
+  tied : (hosts : List Host) (moments : List Moment) → HaveAddresses hosts → mail.IsRun hosts (crossings_of moments) → IsTimeline hosts moments → AllTied (all_ours hosts) (origin_in (crossings_of moments)) moments
   tied hosts moments addresses run time =
-      let c : Coupled hosts moments = coupled hosts addresses moments run time in
-      all_tied hosts (origin_in (crossings_of moments)) moments (are_origins 0 (crossings_of moments) [] moments refl) c.story c.run (served_in hosts moments time)
+      let c : Coupled (all_ours hosts) moments = coupled hosts addresses moments run time in
+      all_tied (all_ours hosts) (origin_in (crossings_of moments)) moments (are_origins 0 (crossings_of moments) [] moments refl) c.story c.run (served_in hosts moments time)
 
 -- a host that isn't up has a program that does nothing
 pub idle_if : (a h : Host) (up : Bool) (s new : NcpState) → up ≡ false → (same_host a h ≡ true → up ≡ true) → s ≡ opening_state a → (if same_host a h then new else s) ≡ opening_state a
@@ -103,8 +104,8 @@ module _ (a : Host) (k : ℕ) where
   held hosts addresses (Crossed (crossing.Out m) ∷ moments) run time =
       let old : Holds a k (program a moments) (kept_in moments) = held hosts addresses moments run.1 time.1 in
       acts m.flow.source (λ h. (offered (program h moments) (places moments)).1) (program a moments) (offered (program a moments) (places moments)).0 (kept_in moments) (λ h. crossed (crossing.Out m) (kept_in moments))
-      (λ e. offer_holds a k (program a moments) (places moments) (crossed (crossing.Out m) (kept_in moments)) ((coupled hosts addresses moments run.1 time.1).order a)
-      (λ p. (pair_range p (program a moments).peers (programs_ranged moments (served_in hosts moments time.1) a).pairs).commands)
+      (λ e. offer_holds a k (program a moments) (places moments) (crossed (crossing.Out m) (kept_in moments)) ((coupled hosts addresses moments run.1 time.1).order a refl)
+      (λ p. (pair_range p (program a moments).peers (programs_ranged (all_ours hosts) moments (served_in hosts moments time.1) a refl).pairs).commands)
       (λ p. (origin_in (crossings_of moments) a p, has_ends hosts moments addresses run.1 time.1 a p))
       (crossed_holds (program a moments) (crossing.Out m) (kept_in moments) (λ P i. i) old))
       (λ f P i. i) old
@@ -131,7 +132,7 @@ module _ (a : Host) (k : ℕ) where
   held hosts addresses (Asked h r ∷ moments) run time =
       let old : Holds a k (program a moments) (kept_in moments) = held hosts addresses moments run time.1 in
       acts h (λ g. served_notices (program g moments) r) (program a moments) (served (program a moments) r) (kept_in moments) (λ g. asked g r (kept_in moments))
-      (λ e. request_holds a k (program a moments) r (kept_in moments) ((coupled hosts addresses moments run time.1).order a)
+      (λ e. request_holds a k (program a moments) r (kept_in moments) ((coupled hosts addresses moments run time.1).order a refl)
       (subst (λ (g : Host). refusal (program g moments) r ≡ None) (sym (same_host-true a h e)) time.0.2) old)
       (λ f. asked_away h r (kept_in moments) (off f)) old where
         off : same_host a h ≡ false → same_host h a ≡ false

@@ -1,5 +1,6 @@
 -- The notices of data in a book are those of messages that crossed.
 use Rattle.world_keeps_lives.proofs.Common.{◌≡◌, inl, inr, ℕ, ◌+◌, ◌*◌, ◌==◌, Bool, true, false, if◌then◌else◌, List, [], ◌∷◌, ◌++◌, take, drop, length, Some, refl, ap, sym, subst, ◌∙◌, arith, eq-eqb, Contains, drop-append_seam, Seen, Host, Crossing, HostMessage, data_bits, header_bits, is_receive_socket, MayGo, data_of, is_link, is_open, is_receiving, receives_on, PairState, Parcel, may_send_on, next_of, Entry, Notice, both, what_goes, find_passes, pair, pair_with, Request, message_for, next_in, next_is, next_pair, Told, Kept, all_told, asked, book_told, crossed, HaveAddresses, IsLawful, HasCrossed, coming, data_by, going, request, AreTold, FormedNotices, HasLink, data_told, Agrees, Asked, Crossed, IsNext, IsStory, Moment, places, program, events_of, IsTimeline, crossings_of, host_in, kept_by, kept_in, notices_by, WorldState, coupled, data_away, places_same, story_agrees, book_run}
+use Rattle.reset_law.specs.Network.{all_ours}
 use Rattle.std.proofs.lemmas.Option.{same_Some}
 use Rattle.interface.specs.Mailboxes as mail
 use Rattle.interface.specs.declared.crossing.Crossing.TheVariants as crossing
@@ -177,7 +178,7 @@ module _ (hosts : List Host) (addresses : HaveAddresses hosts) where
           link = sym (ap (λ (x : HostMessage). x.flow.link.0) is)
 
           agrees : Agrees (pair_with m.flow.destination (program m.flow.source moments).peers) (pair m.flow.source m.flow.destination (events_of moments))
-          agrees = story_agrees moments m.flow.source m.flow.destination (coupled hosts addresses moments run time).story
+          agrees = story_agrees (all_ours hosts) moments m.flow.source m.flow.destination (refl, refl) (coupled hosts addresses moments run time).story
 
           off : (m.flow.link.0 == 0) ≡ false
           off = subst (λ (l : ℕ). (l == 0) ≡ false) link
@@ -243,8 +244,8 @@ module _ (hosts : List Host) (addresses : HaveAddresses hosts) where
       by true here = quiet_crossing (crossing.In m) moments m.flow.destination m.flow.source (crossing.In m ∷ crossings_of moments) tt (control_told hosts addresses moments run time m here) old
       by false off = taken_told m off (message_takes (program m.flow.destination moments) m (places moments) off)
 
-    crossed_told : (c : Crossing) → IsStory (Crossed c ∷ moments) → Told_in (Crossed c ∷ moments)
-    crossed_told (crossing.Out m) story = out_told m story.0
+    crossed_told : (c : Crossing) → IsStory (all_ours hosts) (Crossed c ∷ moments) → Told_in (Crossed c ∷ moments)
+    crossed_told (crossing.Out m) story = out_told m (story.0 refl)
     crossed_told (crossing.In m) story = in_told m
     crossed_told (crossing.Answer kind f) story = quiet_crossing (crossing.Answer kind f) moments f.source f.destination (crossing.Answer kind f ∷ crossings_of moments) tt (answer_told hosts addresses moments run time kind f) old
     crossed_told (crossing.Down g) story = quiet_crossing (crossing.Down g) moments g g (crossings_of moments) tt tt old

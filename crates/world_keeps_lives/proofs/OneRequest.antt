@@ -1,12 +1,13 @@
 -- A message of a host's program has one RTS of two sockets at most, where it goes out and where it comes in.
 use Rattle.world_keeps_lives.proofs.Common.{◌≡◌, inl, inr, ℕ, ◌<◌, ◌==◌, Bool, true, false, if◌then◌else◌, zero, suc, List, [], ◌∷◌, ◌++◌, map, take, drop, length, slice_index_or, Some, refl, ap, sym, subst, ◌∙◌, arith, eq-eqb, Contains, take-append-drop, Contains-append_left, same_flow, Host, same_host, Flow, Crossing, HostMessage, same_flow-true, Command, MayGo, Legal, Order, orders_of, PairState, Parcel, next_of, Entry, what_goes, offer_read, IsReadBack, pair_with, message_for, next_in, next_is, next_pair, HaveAddresses, Agrees, Asked, Crossed, IsNext, IsStory, Moment, events_of, program, IsTimeline, crossings_of, Coupled, coupled, data_away, story_agrees, CrossedAt, coming, going, pair, programs_ranged, served_in}
+use Rattle.reset_law.specs.Network.{all_ours}
 use Rattle.interface.specs.Mailboxes as mail
 use Rattle.interface.specs.declared.crossing.Crossing.TheVariants as crossing
 use Rattle.ncp_control.specs.declared.command.Command.TheVariants as command
 use Rattle.host_pairs.specs.Parcels as parcel
 use Rattle.host_pairs.specs.Parcels.{link_of}
 use Rattle.net_sim.proofs.lemmas.{cleared_waits, fetched_waits}
-use Rattle.world_keeps_pairing.proofs.lemmas.{queued_once}
+use Rattle.world_keeps_pairing.proofs.lemmas.AllOurs.{queued_once}
 use Rattle.world_keeps_lives.proofs.Facts.{no}
 use Rattle.world_keeps_lives.proofs.Walk.Rules.{Each, each_in}
 
@@ -33,7 +34,7 @@ none_of own foreign l c other there = each_in (λ (d : Command). d ≡ command.R
 -- ---- where it goes out
 
 module _ (hosts : List Host) (addresses : HaveAddresses hosts) where
-  module _ (moments : List Moment) (run : mail.IsRun hosts (crossings_of moments)) (time : IsTimeline hosts moments) (story : IsStory moments) (m : HostMessage) (n : IsNext (program m.flow.source moments) m) (zero_link : (m.flow.link.0 == 0) ≡ true) where
+  module _ (moments : List Moment) (run : mail.IsRun hosts (crossings_of moments)) (time : IsTimeline hosts moments) (story : IsStory (all_ours hosts) moments) (m : HostMessage) (n : IsNext (program m.flow.source moments) m) (zero_link : (m.flow.link.0 == 0) ≡ true) where
     same : pair_with n.peer.host (program m.flow.source moments).peers ≡ n.peer.pair
     same = next_pair (program m.flow.source moments).peers n.peer n.parcel n.order n.next
 
@@ -52,23 +53,23 @@ module _ (hosts : List Host) (addresses : HaveAddresses hosts) where
           (read_back (take count n.peer.pair.queue) (command.Rts own foreign j) (subst (λ (os : List Order). Contains os (Legal (command.Rts own foreign j))) (ap (λ (x : HostMessage). orders_of x.text) is ∙ back) there)))
     by (parcel.Bytes d size count) e back is next own foreign l k one other =
         let may : MayGo n.peer.pair (parcel.Bytes d size count) = what_goes n.peer.pair (parcel.Bytes d size count) next in
-        let agrees : Agrees n.peer.pair (pair m.flow.source n.peer.host (events_of moments)) = subst (λ (q : PairState). Agrees q (pair m.flow.source n.peer.host (events_of moments))) same (story_agrees moments m.flow.source n.peer.host story) in
+        let agrees : Agrees n.peer.pair (pair m.flow.source n.peer.host (events_of moments)) = subst (λ (q : PairState). Agrees q (pair m.flow.source n.peer.host (events_of moments))) same (story_agrees (all_ours hosts) moments m.flow.source n.peer.host (refl, refl) story) in
         let away : (link_of d.link == 0) ≡ false = data_away n.peer.pair d size count agrees.linked may.1.linked next in
         no (m.flow.link.0 == 0) zero_link (ap (λ (x : HostMessage). x.flow.link.0 == 0) is ∙ away)
 
     pub said_once : NamesOnce m.text
     said_once =
-        by n.parcel refl (offer_read (program m.flow.source moments) n.peer n.parcel (programs_ranged moments (served_in hosts moments time) m.flow.source) n.next) n.message
+        by n.parcel refl (offer_read (program m.flow.source moments) n.peer n.parcel (programs_ranged (all_ours hosts) moments (served_in hosts moments time) m.flow.source refl) n.next) n.message
         (next_is n.peer n.parcel (program m.flow.source moments).peers n.next)
 
   pub out_once : (moments : List Moment) → mail.IsRun hosts (crossings_of moments) → IsTimeline hosts moments → (m : HostMessage) (place : ℕ) → CrossedAt place (going m) (crossings_of moments) → (m.flow.link.0 == 0) ≡ true → NamesOnce m.text
   out_once [] run time m place i zero_link = absurd i
   out_once (Asked h r ∷ moments) run time m place i zero_link = out_once moments run time.1 m place i zero_link
   out_once (Crossed c ∷ moments) run time m place (inl i) zero_link =
-      let k : Coupled hosts (Crossed c ∷ moments) = coupled hosts addresses (Crossed c ∷ moments) run time in
+      let k : Coupled (all_ours hosts) (Crossed c ∷ moments) = coupled hosts addresses (Crossed c ∷ moments) run time in
       said_once moments run.1 time.1 k.story.1 m (next_by c k.story (sym i.0)) zero_link where
-        next_by : (c : Crossing) → IsStory (Crossed c ∷ moments) → c ≡ crossing.Out m → IsNext (program m.flow.source moments) m
-        next_by c story e = (subst (λ (d : Crossing). IsStory (Crossed d ∷ moments)) e story).0
+        next_by : (c : Crossing) → IsStory (all_ours hosts) (Crossed c ∷ moments) → c ≡ crossing.Out m → IsNext (program m.flow.source moments) m
+        next_by c story e = (subst (λ (d : Crossing). IsStory (all_ours hosts) (Crossed d ∷ moments)) e story).0 refl
   out_once (Crossed c ∷ moments) run time m place (inr i) zero_link = out_once moments run.1 time.1 m place i zero_link
 
 -- ---- where it comes in

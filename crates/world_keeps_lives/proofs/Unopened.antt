@@ -1,5 +1,6 @@
 -- No end opens of which a CLS was queued or taken: so no life begins then.
 use Rattle.world_keeps_lives.proofs.Common.{◌≡◌, ◌⊎◌, inl, inr, ℕ, Bool, List, ◌∷◌, None, refl, ap, sym, subst, ◌∙◌, Contains, Host, HostMessage, Command, Order, has_cls, is_ending, Parcel, Entry, Notice, pair_with, HaveAddresses, Asked, Crossed, IsNext, IsStory, Moment, places, program, IsTimeline, crossings_of, host_in, notices_by, queued_commands}
+use Rattle.reset_law.specs.Network.{all_ours}
 use Rattle.std.proofs.Common.{true, false}
 use Rattle.std.proofs.lemmas.Bool.{or_right}
 use Rattle.interface.specs.Mailboxes as mail
@@ -79,12 +80,12 @@ module _ (p : Host) (own foreign : ℕ) where
         (λ e there at is foreign_is. inl (shut e (subst (λ (x : Host). Contains (pair_with x (program h moments).peers).entries e) at there) is foreign_is))
         (each_of (pair_with g (program h moments).peers).entries)
 
-    pub unopened : (y : Moment) → IsStory (y ∷ moments) → AreShut (host_in y) → Each (IsNoOpening p own foreign) (notices_by y moments)
+    pub unopened : (y : Moment) → IsStory (all_ours hosts) (y ∷ moments) → AreShut (host_in y) → Each (IsNoOpening p own foreign) (notices_by y moments)
     unopened (Crossed (crossing.Out m)) story shut =
         (offer_keeps (Shut m.flow.destination ⊥) (IsNoOpening p own foreign) m.flow.destination (shut_rules m.flow.destination ⊥) (program m.flow.source moments) (places moments) n.peer n.parcel n.order n.next
         (sym (ap (λ (x : HostMessage). x.flow.destination) n.message)) (queued_commands hosts moments addresses run time m.flow.source m.flow.destination) (may n.parcel) (at_first m.flow.source m.flow.destination ⊥ shut)).told where
           n : IsNext (program m.flow.source moments) m
-          n = story.0
+          n = story.0 refl
 
           may : (z : Parcel) → MayTell (Shut m.flow.destination ⊥) (IsNoOpening p own foreign) m.flow.destination (shut_rules m.flow.destination ⊥) (places moments) z (pair_with m.flow.destination (program m.flow.source moments).peers)
           may (parcel.Commands count) = shut_goes m.flow.destination (places moments) _

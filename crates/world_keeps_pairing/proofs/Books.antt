@@ -1,5 +1,5 @@
 -- The lives of a book at two sockets: notices begin them, and nothing renames them.
-use Rattle.world_keeps_pairing.proofs.Common.{◌≡◌, ℕ, ◌==◌, Bool, true, false, ◌&&◌, if◌then◌else◌, List, [], ◌∷◌, ◌++◌, refl, ap, ◌∙◌, Host, same_host, Crossing, is_ready, NcpState, pair_with, Request, with_openings, Kept, Moment, Crossed, Asked, host_in, notices_by, with_life, with_lives}
+use Rattle.world_keeps_pairing.proofs.Common.{same_host-true, sym, ◌≡◌, ℕ, ◌==◌, Bool, true, false, ◌&&◌, if◌then◌else◌, List, [], ◌∷◌, ◌++◌, refl, ap, ◌∙◌, Host, same_host, Crossing, is_ready, NcpState, pair_with, Request, with_openings, Kept, Moment, Crossed, Asked, host_in, notices_by, with_life, with_lives}
 use Rattle.interface.specs.declared.crossing.Crossing.TheVariants as crossing
 use Rattle.host_pairs.specs.About.{AreAbout, IsAbout}
 use Rattle.host_pairs.specs.declared.notice.Notice.{Notice}
@@ -10,7 +10,9 @@ use Rattle.host_keeps_pairing.specs.Openings.{with_opening}
 use Rattle.pairing_law.specs.Sides.{Life}
 use Rattle.promise.specs.declared.life.Life as book
 use Rattle.net_sim.specs.Book.{all_told, changed_when, life_ended, carried, granted, returned, lives_asked, lives_at, lives_between, lives_crossed, lives_on, lives_told, lives_with, new_life, book_told, where_it}
-use Rattle.net_sim.specs.Told.{kept_by, kept_in}
+use Rattle.net_sim.specs.Told.{kept_by}
+use Rattle.net_sim.specs.Mixed.{crossed_only, mixed_kept}
+use Rattle.reset_law.specs.Network.{Network}
 
 if_same : (b : Bool) (told : List Life) → told ≡ (if b then told else told)
 if_same true told = refl
@@ -91,11 +93,27 @@ module _ (origin : ℕ → ℕ) (h p : Host) (own foreign : ℕ) where
   by_same (Asked g r) k = asked_same g r k.book.lives
 
   -- the lives at these two sockets after one moment more
-  pub kept_step : (x : Moment) (moments : List Moment) → Here (kept_in (x ∷ moments)).book.lives
-      ≡ (if same_host h (host_in x) then all_of_peer (notices_by x moments) (Here (kept_in moments).book.lives) else Here (kept_in moments).book.lives)
-  kept_step x moments =
-      told_lives (host_in x) (notices_by x moments) (kept_by x (kept_in moments))
-      ∙ ap (λ (ts : List Life). if same_host h (host_in x) then all_of_peer (notices_by x moments) ts else ts) (by_same x (kept_in moments))
+  pub kept_step : (hosts : Network) → hosts.strange h ≡ false → (x : Moment) (moments : List Moment) → Here (mixed_kept hosts.strange (x ∷ moments)).book.lives
+      ≡ (if same_host h (host_in x) then all_of_peer (notices_by x moments) (Here (mixed_kept hosts.strange moments).book.lives) else Here (mixed_kept hosts.strange moments).book.lives)
+  kept_step hosts off x moments = by (hosts.strange (host_in x)) refl where
+    κ : Kept
+    κ = mixed_kept hosts.strange moments
+
+    only : (y : Moment) → Here (crossed_only y (mixed_kept hosts.strange moments)).book.lives ≡ Here (mixed_kept hosts.strange moments).book.lives
+    only (Crossed c) = crossed_same c (mixed_kept hosts.strange moments).book.lives
+    only (Asked g r) = refl
+
+    away : (c : Bool) → same_host h (host_in x) ≡ c → hosts.strange (host_in x) ≡ true → c ≡ false
+    away true e on = absurd (let no : true ≡ false = sym on ∙ ap hosts.strange (sym (same_host-true h (host_in x) e)) ∙ off in cc)
+    away false e on = refl
+
+    by : (b : Bool) → hosts.strange (host_in x) ≡ b
+        → Here (if b then crossed_only x (mixed_kept hosts.strange moments) else all_told (host_in x) (notices_by x moments) (kept_by x (mixed_kept hosts.strange moments))).book.lives
+        ≡ (if same_host h (host_in x) then all_of_peer (notices_by x moments) (Here (mixed_kept hosts.strange moments).book.lives) else Here (mixed_kept hosts.strange moments).book.lives)
+    by true on = only x ∙ sym (ap (λ (c : Bool). if c then all_of_peer (notices_by x moments) (Here (mixed_kept hosts.strange moments).book.lives) else Here (mixed_kept hosts.strange moments).book.lives) (away (same_host h (host_in x)) refl on))
+    by false apart =
+        told_lives (host_in x) (notices_by x moments) (kept_by x (mixed_kept hosts.strange moments))
+        ∙ ap (λ (ts : List Life). if same_host h (host_in x) then all_of_peer (notices_by x moments) ts else ts) (by_same x (mixed_kept hosts.strange moments))
 
   -- ---- whom notices are about
 

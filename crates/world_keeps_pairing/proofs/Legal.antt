@@ -7,6 +7,7 @@ use Rattle.pairing_law.specs.Links.{AreOlder}
 use Rattle.pairing_law.proofs.lemmas.{Fresh, begins_fresh}
 use Rattle.world_keeps_pairing.proofs.Views.{View, view, lawful, same_view, after_said, sender_hears_if, words_join, onto_join, onto_if}
 use Rattle.world_keeps_pairing.proofs.Sides.{at_texts, before, receiver_before, sender_before, receiver_half, sender_half, nothing_there}
+use Rattle.reset_law.specs.Network.{AreOurs, Network}
 
 -- ---- prefixes
 
@@ -51,13 +52,13 @@ sender_may_if false ws xs h k = h
 -- ---- one event
 
 -- all that one has heard by an event is what the other said first
-heard_now : (who : Who) (hosts : List Host) (e : Event) (events : List Event) → IsRun hosts (e ∷ events) → (a b : Host) → stay.stays b a events ≡ true → (begin : Bool) → stay.begins a b e events ≡ begin
+heard_now : (who : Who) (hosts : Network) (e : Event) (events : List Event) → IsRun hosts (e ∷ events) → (a b : Host) → AreOurs hosts a b → stay.stays b a events ≡ true → (begin : Bool) → stay.begins a b e events ≡ begin
     → AreOlder (onto (words_of who (stay.heard_by a b 0 e)) (onto (words_of who (stay.heard_in_stay a b 0 events)) []))
     (onto_if (stay.stays a b events) (words_of who (stay.said_by a b 0 e)) (onto (words_of who (stay.said_in_stay a b 0 events)) []))
-heard_now who hosts e events r a b stays true f =
-    absurd (let f : Fresh a b e events = begins_fresh hosts e events r a b f in let no : true ≡ false = sym stays ∙ f.peer_left in cc)
-heard_now who hosts e events r a b stays false f =
-    let front : stay.IsPrefix (stay.heard_in_stay a b 0 (e ∷ events)) (stay.said_in_stay a b 0 (e ∷ events)) = heard_front hosts (e ∷ events) r a b 0 in
+heard_now who hosts e events r a b ours stays true f =
+    absurd (let f : Fresh a b e events = begins_fresh hosts e events r a b ours f in let no : true ≡ false = sym stays ∙ f.peer_left in cc)
+heard_now who hosts e events r a b ours stays false f =
+    let front : stay.IsPrefix (stay.heard_in_stay a b 0 (e ∷ events)) (stay.said_in_stay a b 0 (e ∷ events)) = heard_front hosts (e ∷ events) r a b ours 0 in
     let here : stay.heard_in_stay a b 0 (e ∷ events) ≡ stay.heard_in_stay a b 0 events ++ stay.heard_by a b 0 e = rw (f, stays) refl in
     let there : stay.said_in_stay a b 0 (e ∷ events) ≡ stay.said_in_stay a b 0 events ++ (if stay.stays a b events then stay.said_by a b 0 e else []) = rw f refl in
     subst (λ (l : List Word). AreOlder l (onto_if (stay.stays a b events) (words_of who (stay.said_by a b 0 e)) (onto (words_of who (stay.said_in_stay a b 0 events)) [])))
@@ -91,8 +92,8 @@ older_as : (ws xs ys zs vs : List Word) → xs ≡ ys → zs ≡ vs → AreOlder
 older_as ws xs ys zs vs e f h = rw (e, f) h
 
 -- where what both say is what they may say, so is all that they do
-pub legal : (hosts : List Host) (e : Event) (events : List Event) → IsRun hosts (e ∷ events) → (a b : Host) → AreSteps (spoken_by a b e (steps a b events)) → AreSteps (steps a b (e ∷ events))
-legal hosts e events r a b h =
+pub legal : (hosts : Network) (e : Event) (events : List Event) → IsRun hosts (e ∷ events) → (a b : Host) → AreOurs hosts a b → AreSteps (spoken_by a b e (steps a b events)) → AreSteps (steps a b (e ∷ events))
+legal hosts e events r a b ours h =
     let spoken : List Step = spoken_by a b e (steps a b events) in
     let to_sender : List Word = words_of Receiver (stay.heard_by a b 0 e) in
     let to_receiver : List Word = words_of Sender (stay.heard_by b a 0 e) in
@@ -103,18 +104,18 @@ legal hosts e events r a b h =
       ap (λ (v : View). v.sender_stays) is ∙ t,
       older_as to_sender (heard_words Sender spoken) (onto (words_of Receiver (stay.heard_in_stay a b 0 events)) []) (said_words Receiver spoken)
           (onto_if (stay.stays a b events) (words_of Receiver (stay.said_by a b 0 e)) (onto (words_of Receiver (stay.said_in_stay a b 0 events)) []))
-          (ap (λ (v : View). v.sender_heard) is) (ap (λ (v : View). v.receiver_said) is) (heard_now Receiver hosts e events r a b t (stay.begins a b e events) refl),
+          (ap (λ (v : View). v.sender_heard) is) (ap (λ (v : View). v.receiver_said) is) (heard_now Receiver hosts e events r a b ours t (stay.begins a b e events) refl),
     )) in
     let second : AreSteps (taken_by a b e events spoken) = receiver_may_if (stay.stays a b events) to_receiver half_heard first (λ t. (
       ap (λ (v : View). v.receiver_stays) next ∙ ap (λ (v : View). v.receiver_stays) is ∙ t,
       older_as to_receiver (heard_words Receiver half_heard) (onto (words_of Sender (stay.heard_in_stay b a 0 events)) []) (said_words Sender half_heard)
           (onto_if (stay.stays b a events) (words_of Sender (stay.said_by b a 0 e)) (onto (words_of Sender (stay.said_in_stay b a 0 events)) []))
           (ap (λ (v : View). v.receiver_heard) next ∙ ap (λ (v : View). v.receiver_heard) is) (ap (λ (v : View). v.sender_said) next ∙ ap (λ (v : View). v.sender_said) is)
-          (heard_now Sender hosts e events r b a t (stay.begins b a e events) refl),
+          (heard_now Sender hosts e events r b a (ours.1, ours.0) t (stay.begins b a e events) refl),
     )) in
     let under : List Step = steps_left (keeps a b e events) Receiver (steps_left (keeps b a e events) Sender (taken_by a b e events spoken)) in
     met_may (stay.begins a b e events) under (left_may (keeps a b e events) Receiver _ (left_may (keeps b a e events) Sender _ second))
-    (λ g s. (let f : Fresh a b e events = begins_fresh hosts e events r a b g in (
+    (λ g s. (let f : Fresh a b e events = begins_fresh hosts e events r a b ours g in (
       ap (λ (x : Side). x.end) (receiver_before s a b e events ∙ ap (before a b (at_texts s Receiver) (at_texts s Sender) e events) (receiver_half s a b events))
           ∙ nothing_there a b (at_texts s Receiver) (at_texts s Sender) refl e events f.silent f.left,
       ap (λ (x : Side). x.end) (sender_before s a b e events ∙ ap (before b a (at_texts s Sender) (at_texts s Receiver) e events) (sender_half s a b events))

@@ -35,5 +35,5 @@ pub mod LivesAmong
 pub mod LifeLists
 pub mod Went
 pub mod BookPartners
-pub mod Worlds
+pub mod AllOurs
 pub mod lemmas

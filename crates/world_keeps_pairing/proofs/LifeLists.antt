@@ -1,9 +1,13 @@
--- Lives of a book at two sockets, one by one: each is reported, and two of them at two places.
-use Rattle.world_keeps_pairing.proofs.Common.{◌≡◌, inl, inr, ℕ, zero, suc, ◌<◌, Bool, true, false, if◌then◌else◌, List, [], ◌∷◌, ◌++◌, length, refl, ap, sym, subst, ◌∙◌, eq-eqb, arith, Contains, Host, same_host-refl, AreAmong, IsIn, NoneOwns, OwnOnce, PartnerOnce, AreTwo, is_between, life_of, with_life, with_lives}
+-- Lives of a book, one by one: those at two sockets are reported, and two of them at two places; and those between hosts with programs.
+use Rattle.world_keeps_pairing.proofs.Common.{◌≡◌, inl, inr, ℕ, zero, suc, ◌<◌, not, ◌&&◌, drop, append_assoc, Bool, true, false, if◌then◌else◌, List, [], ◌∷◌, ◌++◌, length, refl, ap, sym, subst, ◌∙◌, eq-eqb, arith, Contains, Host, same_host-refl, AreAmong, IsIn, NoneOwns, OwnOnce, PartnerOnce, AreTwo, is_between, life_of, with_life, with_lives}
 use Rattle.std.proofs.Common.{◌≢◌, get_or}
 use Rattle.pairing_law.specs.Partners.{NoneTook}
 use Rattle.pairing_law.specs.Sides.{Life}
 use Rattle.promise.specs.declared.life.Life as book
+use Rattle.std.proofs.lemmas.List.Elements.{Contains-append_cases, Contains-push_cases}
+use Rattle.interface.proofs.lemmas.{contains_head, contains_none, contains_tail}
+use Rattle.reset_law.specs.Network.{AreOurs, Network}
+use Rattle.net_sim.specs.Among.{is_among, lives_among}
 
 -- ---- lives of the law
 
@@ -129,3 +133,69 @@ module _ (origin : ℕ → ℕ) (h p : Host) (own foreign : ℕ) where
         let upper : IsOnce key (life_of origin y ∷ with_lives origin h p own foreign two.1 (life_of origin x ∷ older)) =
         once_under two.2 (life_of origin y ∷ with_lives origin h p own foreign two.1 (life_of origin x ∷ older)) (subst (λ (l : List Life). IsOnce key l) told once) in
         (none_under (key (life_of origin y)) two.1 (life_of origin x ∷ older) upper.0).0 same
+
+-- ---- the lives that are between hosts with programs, in the order of the book
+
+abbrev head_or : book.Life → List book.Life → book.Life
+head_or x [] = x
+head_or x (y ∷ lives) = y
+
+-- a life among others of these, and what follows it in the book
+record Split (hosts : Network) (lives rest : List book.Life) (x : book.Life) : Type 0 where
+  front : List book.Life
+  back : List book.Life
+  is : lives ≡ front ++ x ∷ back
+  later : lives_among hosts.strange back ≡ rest
+
+module _ (hosts : Network) where
+  first_stays : (x : book.Life) (lives : List book.Life) → is_among hosts.strange x ≡ true → lives_among hosts.strange (x ∷ lives) ≡ x ∷ lives_among hosts.strange lives
+  first_stays x lives e = rw e refl
+
+  first_goes : (x : book.Life) (lives : List book.Life) → is_among hosts.strange x ≡ false → lives_among hosts.strange (x ∷ lives) ≡ lives_among hosts.strange lives
+  first_goes x lives e = rw e refl
+
+  ours_if : (x : book.Life) → is_among hosts.strange x ≡ true → AreOurs hosts x.host x.peer
+  ours_if x e = by (hosts.strange x.host) (hosts.strange x.peer) refl refl e where
+    by : (b c : Bool) → hosts.strange x.host ≡ b → hosts.strange x.peer ≡ c → (not b && not c) ≡ true → AreOurs hosts x.host x.peer
+    by true c e f both = absurd (cc)
+    by false true e f both = absurd (cc)
+    by false false e f both = (e, f)
+
+  -- each of them is in the book
+  pub in_book : (lives : List book.Life) (x : book.Life) → Contains (lives_among hosts.strange lives) x → Contains lives x × AreOurs hosts x.host x.peer
+  in_book [] x there = absurd (contains_none x there)
+  in_book (y ∷ lives) x there = by (is_among hosts.strange y) refl (λ i. in_book lives x i) where
+    by : (b : Bool) → is_among hosts.strange y ≡ b → (Contains (lives_among hosts.strange lives) x → Contains lives x × AreOurs hosts x.host x.peer) → Contains (y ∷ lives) x × AreOurs hosts x.host x.peer
+    by true e older =
+        elim (Contains-append_cases (y ∷ []) (lives_among hosts.strange lives) x (subst (λ (l : List book.Life). Contains l x) (first_stays y lives e) there)) [
+          | inl first ↦ elim (Contains-push_cases [] y x first) [
+            | inl none ↦ absurd (contains_none x none)
+            | inr is ↦ (subst (λ (v : book.Life). Contains (y ∷ lives) v) is (contains_head y lives), ours_if x (subst (λ (v : book.Life). is_among hosts.strange v ≡ true) is e))
+          ]
+          | inr later ↦ (let i : Contains lives x × AreOurs hosts x.host x.peer = older later in (contains_tail y lives x i.0, i.1))
+        ]
+    by false e older =
+        let i : Contains lives x × AreOurs hosts x.host x.peer = older (subst (λ (l : List book.Life). Contains l x) (first_goes y lives e) there) in
+        (contains_tail y lives x i.0, i.1)
+
+  split : (lives front rest : List book.Life) (x : book.Life) → lives_among hosts.strange lives ≡ front ++ x ∷ rest → Split hosts lives rest x
+  split [] [] rest x is = absurd (cc)
+  split [] (y ∷ front) rest x is = absurd (cc)
+  split (z ∷ lives) front rest x is = by (is_among hosts.strange z) refl (λ newer e. split lives newer rest x e) where
+    more : Split hosts lives rest x → Split hosts (z ∷ lives) rest x
+    more s = record { front = z ∷ s.front; back = s.back; is = ap (λ (l : List book.Life). z ∷ l) s.is; later = s.later }
+
+    at : (newer : List book.Life) → z ∷ lives_among hosts.strange lives ≡ newer ++ x ∷ rest → ((older : List book.Life) → lives_among hosts.strange lives ≡ older ++ x ∷ rest → Split hosts lives rest x) → Split hosts (z ∷ lives) rest x
+    at [] e older = record { front = []; back = lives; is = ap (λ (v : book.Life). v ∷ lives) (ap (head_or x) e); later = ap (drop 1) e }
+    at (y ∷ newer) e older = more (older newer (ap (drop 1) e))
+
+    by : (b : Bool) → is_among hosts.strange z ≡ b → ((older : List book.Life) → lives_among hosts.strange lives ≡ older ++ x ∷ rest → Split hosts lives rest x) → Split hosts (z ∷ lives) rest x
+    by true e older = at front (sym (first_stays z lives e) ∙ is) older
+    by false e older = more (older front (sym (first_goes z lives e) ∙ is))
+
+  -- and two of them are two of the book
+  pub two_in_book : (lives : List book.Life) (x y : book.Life) → AreTwo (lives_among hosts.strange lives) x y → AreTwo lives x y
+  two_in_book lives x y two =
+      let s : Split hosts lives (two.1 ++ y ∷ two.2) x = split lives two.0 (two.1 ++ y ∷ two.2) x (two.3 ∙ append_assoc two.0 (x ∷ two.1) (y ∷ two.2)) in
+      let t : Split hosts s.back two.2 y = split s.back two.1 two.2 y s.later in
+      (s.front, t.front, t.back, s.is ∙ ap (λ (l : List book.Life). s.front ++ x ∷ l) t.is ∙ sym (append_assoc s.front (x ∷ t.front) (y ∷ t.back)))

@@ -21,6 +21,8 @@ use Rattle.host_pairs.proofs.lemmas.{both}
 use Rattle.host_keeps_pairing.specs.Ends.{at}
 use Rattle.world_keeps_pairing.proofs.LinkTurns.{each_split, own_at, stands_alone}
 use Rattle.world_keeps_pairing.proofs.Local.{Each, ReceivesBy, all_claims, claim_first, claim_of}
+use Rattle.reset_law.specs.Network.{AreOurs, Network}
+use Rattle.net_sim.specs.Mixed.{Happened}
 
 -- a message of others, or for others
 said_off : (a b x y : Host) (l : ℕ) (m : Message) → are a b x y ≡ false → stay.said_by a b 0 (Out x y l m) ≡ []
@@ -34,20 +36,20 @@ heard_off_in a b x y l Reply e = refl
 heard_off_in a b x y l (Other text) e = rw e refl
 
 -- all pairs of hosts
-pub record AllTied (origin : Host → Host → ℕ → ℕ) (moments : List Moment) : Type 0 where
-  pub tied : (a b : Host) → Tied origin a b moments
-  pub linked : (a b : Host) → Linked a b moments
+pub record AllTied (hosts : Network) (origin : Host → Host → ℕ → ℕ) (moments : List Moment) : Type 0 where
+  pub tied : (a b : Host) → AreOurs hosts a b → Tied origin a b moments
+  pub linked : (a b : Host) → AreOurs hosts a b → Linked a b moments
 
-module _ (origin : Host → Host → ℕ → ℕ) (hosts : List Host) (ranged_at : (moments : List Moment) → AreServed moments → (h : Host) → IsRanged (program h moments)) where
+module _ (hosts : Network) (origin : Host → Host → ℕ → ℕ) where
   -- ---- what goes out
 
-  out_names : (a b : Host) (m : HostMessage) (moments : List Moment) → IsStory (Crossed (crossing.Out m) ∷ moments) → ((h : Host) → IsRanged (program h moments)) → AllTied origin moments → (c d : Bool) → same_host a m.flow.source ≡ c → same_host b m.flow.destination ≡ d
+  out_names : (a b : Host) (m : HostMessage) (moments : List Moment) → AreOurs hosts a b → IsStory hosts (Crossed (crossing.Out m) ∷ moments) → ((h : Host) → hosts.strange h ≡ false → IsRanged (program h moments)) → AllTied hosts origin moments → (c d : Bool) → same_host a m.flow.source ≡ c → same_host b m.flow.destination ≡ d
       → NamesFreeAt a b (Crossed (crossing.Out m)) moments
-  out_names a b m moments story ranged t true true e f = (out_here origin a b m moments story ranged (t.tied a b) (t.tied b a) (t.linked a b) e f).0
-  out_names a b m moments story ranged t true false e f =
+  out_names a b m moments ours story ranged t true true e f = (out_here origin hosts a b m moments ours story ranged (t.tied a b ours) (t.tied b a (ours.1, ours.0)) (t.linked a b ours) e f).0
+  out_names a b m moments ours story ranged t true false e f =
       subst (λ (ts : List (List Bool)). NameFree (words_of Receiver ts) (all_said Sender (words_of Sender (stay.said_by b a 0 (placed_event (event_of (crossing.Out m)) (events_of moments)))) (steps a b (law_events moments))))
       (sym (said_off a b m.flow.source m.flow.destination m.flow.link.0 (with_place (place (events_of moments)) (message_on m.flow.link.0 m.text)) (and_right (same_host a m.flow.source) (same_host b m.flow.destination) f))) tt
-  out_names a b m moments story ranged t false d e f =
+  out_names a b m moments ours story ranged t false d e f =
       subst (λ (ts : List (List Bool)). NameFree (words_of Receiver ts) (all_said Sender (words_of Sender (stay.said_by b a 0 (placed_event (event_of (crossing.Out m)) (events_of moments)))) (steps a b (law_events moments))))
       (sym (said_off a b m.flow.source m.flow.destination m.flow.link.0 (with_place (place (events_of moments)) (message_on m.flow.link.0 m.text)) (ap (λ (x : Bool). x && same_host b m.flow.destination) e))) tt
 
@@ -57,13 +59,13 @@ module _ (origin : Host → Host → ℕ → ℕ) (hosts : List Host) (ranged_at
       as_before a b (placed_event (event_of (crossing.Out m)) (events_of moments)) (law_events moments) (pair_with b (program a (Crossed (crossing.Out m) ∷ moments)).peers)
       (said_off a b m.flow.source m.flow.destination m.flow.link.0 (with_place (place (events_of moments)) (message_on m.flow.link.0 m.text)) off) refl k
 
-  out_linked : (a b : Host) (m : HostMessage) (moments : List Moment) → IsStory (Crossed (crossing.Out m) ∷ moments) → ((h : Host) → IsRanged (program h moments)) → AllTied origin moments → (c d : Bool) → same_host a m.flow.source ≡ c → same_host b m.flow.destination ≡ d
+  out_linked : (a b : Host) (m : HostMessage) (moments : List Moment) → AreOurs hosts a b → IsStory hosts (Crossed (crossing.Out m) ∷ moments) → ((h : Host) → hosts.strange h ≡ false → IsRanged (program h moments)) → AllTied hosts origin moments → (c d : Bool) → same_host a m.flow.source ≡ c → same_host b m.flow.destination ≡ d
       → Linked a b (Crossed (crossing.Out m) ∷ moments)
-  out_linked a b m moments story ranged t true true e f =
+  out_linked a b m moments ours story ranged t true true e f =
       let vs : List Word = words_of Sender (stay.said_by b a 0 (placed_event (event_of (crossing.Out m)) (events_of moments))) in
       let ws : List Word = words_of Receiver (stay.said_by a b 0 (placed_event (event_of (crossing.Out m)) (events_of moments))) in
       let k : LinksOf (said_claims (all_said Receiver (words_of Receiver (stay.said_by a b 0 (placed_event (event_of (crossing.Out m)) (events_of moments)))) (all_said Sender (words_of Sender (stay.said_by b a 0 (placed_event (event_of (crossing.Out m)) (events_of moments)))) (steps a b (law_events moments)))))
-      (heard_claims (steps b a (law_events moments))) (pair_with b (offered (program a moments) (places moments)).0.peers) = (out_here origin a b m moments story ranged (t.tied a b) (t.tied b a) (t.linked a b) e f).1 in
+      (heard_claims (steps b a (law_events moments))) (pair_with b (offered (program a moments) (places moments)).0.peers) = (out_here origin hosts a b m moments ours story ranged (t.tied a b ours) (t.tied b a (ours.1, ours.0)) (t.linked a b ours) e f).1 in
       let said : said_claims (steps a b (law_events (Crossed (crossing.Out m) ∷ moments))) ≡ said_claims (all_said Receiver ws (all_said Sender vs (steps a b (law_events moments)))) =
       said_next a b (placed_event (event_of (crossing.Out m)) (events_of moments)) (law_events moments)
       ∙ sym (said_upon ws (all_said Sender vs (steps a b (law_events moments))) (steps a b (law_events moments)) (sender_said vs (steps a b (law_events moments)))) in
@@ -72,15 +74,15 @@ module _ (origin : Host → Host → ℕ → ℕ) (hosts : List Host) (ranged_at
       subst (λ (cs : List Claim). LinksOf cs (heard_claims (steps b a (law_events (Crossed (crossing.Out m) ∷ moments)))) (pair_with b (program a (Crossed (crossing.Out m) ∷ moments)).peers)) (sym said)
       (subst (λ (cs : List Claim). LinksOf (said_claims (all_said Receiver ws (all_said Sender vs (steps a b (law_events moments))))) cs (pair_with b (program a (Crossed (crossing.Out m) ∷ moments)).peers)) (sym heard)
       (subst (λ (x : Bool). LinksOf (said_claims (all_said Receiver ws (all_said Sender vs (steps a b (law_events moments))))) (heard_claims (steps b a (law_events moments))) (pair_with b (if x then (offered (program a moments) (places moments)).0 else program a moments).peers)) (sym e) k))
-  out_linked a b m moments story ranged t true false e f =
-      let n : IsNext (program a moments) m = subst (λ (y : Host). IsNext (program y moments) m) (sym (same_host-true a m.flow.source e)) story.0 in
+  out_linked a b m moments ours story ranged t true false e f =
+      let n : IsNext (program a moments) m = subst (λ (y : Host). IsNext (program y moments) m) (sym (same_host-true a m.flow.source e)) (story.0 (subst (λ (y : Host). hosts.strange y ≡ false) (same_host-true a m.flow.source e) ours.0)) in
       let away : same_host b n.peer.host ≡ false = ap (λ (y : HostMessage). same_host b y.flow.destination) (sym n.message) ∙ f in
       out_quiet a b m moments (and_right (same_host a m.flow.source) (same_host b m.flow.destination) f)
       (if_links _ _ b (same_host a m.flow.source) (offered (program a moments) (places moments)).0 (program a moments)
-      (λ x. subst (λ (p : PairState). LinksOf (said_claims (steps a b (law_events moments))) (heard_claims (steps b a (law_events moments))) p) (sym (offer_leaves (program a moments) (places moments) n.peer n.parcel b n.next away)) (t.linked a b)) (t.linked a b))
-  out_linked a b m moments story ranged t false d e f =
+      (λ x. subst (λ (p : PairState). LinksOf (said_claims (steps a b (law_events moments))) (heard_claims (steps b a (law_events moments))) p) (sym (offer_leaves (program a moments) (places moments) n.peer n.parcel b n.next away)) (t.linked a b ours)) (t.linked a b ours))
+  out_linked a b m moments ours story ranged t false d e f =
       out_quiet a b m moments (ap (λ (x : Bool). x && same_host b m.flow.destination) e)
-      (subst (λ (x : Bool). LinksOf (said_claims (steps a b (law_events moments))) (heard_claims (steps b a (law_events moments))) (pair_with b (if x then (offered (program a moments) (places moments)).0 else program a moments).peers)) (sym e) (t.linked a b))
+      (subst (λ (x : Bool). LinksOf (said_claims (steps a b (law_events moments))) (heard_claims (steps b a (law_events moments))) (pair_with b (if x then (offered (program a moments) (places moments)).0 else program a moments).peers)) (sym e) (t.linked a b ours))
 
   -- ---- what comes in
 
@@ -90,51 +92,54 @@ module _ (origin : Host → Host → ℕ → ℕ) (hosts : List Host) (ranged_at
       as_before a b (placed_event (event_of (crossing.In m)) (events_of moments)) (law_events moments) (pair_with b (program a (Crossed (crossing.In m) ∷ moments)).peers) refl
       (heard_off_in a b m.flow.source m.flow.destination m.flow.link.0 (with_box (boxes m.flow.source m.flow.destination (events_of moments) m.flow.link.0) (message_on m.flow.link.0 m.text)) off) k
 
-  in_links : (a b : Host) (m : HostMessage) (moments : List Moment) → IsStory (Crossed (crossing.In m) ∷ moments) → IsRun hosts (events_of (Crossed (crossing.In m) ∷ moments)) → ((h : Host) → IsRanged (program h moments)) → IsOrigin origin (Crossed (crossing.In m)) moments → AllTied origin moments
+  in_links : (a b : Host) (m : HostMessage) (moments : List Moment) → AreOurs hosts a b → IsStory hosts (Crossed (crossing.In m) ∷ moments) → IsRun hosts (events_of (Crossed (crossing.In m) ∷ moments)) → ((h : Host) → hosts.strange h ≡ false → IsRanged (program h moments)) → IsOrigin origin (Crossed (crossing.In m)) moments → AllTied hosts origin moments
       → (c d : Bool) → same_host a m.flow.destination ≡ c → same_host b m.flow.source ≡ d → Linked a b (Crossed (crossing.In m) ∷ moments)
-  in_links a b m moments story run ranged from t true true e f =
+  in_links a b m moments ours story run ranged from t true true e f =
       subst (λ (y : Host). Linked y b (Crossed (crossing.In m) ∷ moments)) (sym (same_host-true a m.flow.destination e))
       (subst (λ (y : Host). Linked m.flow.destination y (Crossed (crossing.In m) ∷ moments)) (sym (same_host-true b m.flow.source f))
-      (in_linked origin hosts m moments story run ranged from (t.tied m.flow.source m.flow.destination) (t.linked m.flow.destination m.flow.source)))
-  in_links a b m moments story run ranged from t true false e f =
+      (in_linked origin hosts m moments (subst (λ (y : Host). hosts.strange y ≡ false) (same_host-true b m.flow.source f) ours.1, subst (λ (y : Host). hosts.strange y ≡ false) (same_host-true a m.flow.destination e) ours.0) story run ranged from
+      (t.tied m.flow.source m.flow.destination (subst (λ (y : Host). hosts.strange y ≡ false) (same_host-true b m.flow.source f) ours.1, subst (λ (y : Host). hosts.strange y ≡ false) (same_host-true a m.flow.destination e) ours.0))
+      (t.linked m.flow.destination m.flow.source (subst (λ (y : Host). hosts.strange y ≡ false) (same_host-true a m.flow.destination e) ours.0, subst (λ (y : Host). hosts.strange y ≡ false) (same_host-true b m.flow.source f) ours.1))))
+  in_links a b m moments ours story run ranged from t true false e f =
       in_quiet a b m moments (ap (λ (x : Bool). x && same_host a m.flow.destination) f)
       (if_links _ _ b (same_host a m.flow.destination) (accepted (program a moments) (inbound.Message m) (places moments)).0 (program a moments)
-      (λ x. subst (λ (p : PairState). LinksOf (said_claims (steps a b (law_events moments))) (heard_claims (steps b a (law_events moments))) p) (sym (message_leaves (program a moments) m (places moments) b f)) (t.linked a b)) (t.linked a b))
-  in_links a b m moments story run ranged from t false d e f =
+      (λ x. subst (λ (p : PairState). LinksOf (said_claims (steps a b (law_events moments))) (heard_claims (steps b a (law_events moments))) p) (sym (message_leaves (program a moments) m (places moments) b f)) (t.linked a b ours)) (t.linked a b ours))
+  in_links a b m moments ours story run ranged from t false d e f =
       in_quiet a b m moments (and_right (same_host b m.flow.source) (same_host a m.flow.destination) e)
-      (subst (λ (x : Bool). LinksOf (said_claims (steps a b (law_events moments))) (heard_claims (steps b a (law_events moments))) (pair_with b (if x then (accepted (program a moments) (inbound.Message m) (places moments)).0 else program a moments).peers)) (sym e) (t.linked a b))
+      (subst (λ (x : Bool). LinksOf (said_claims (steps a b (law_events moments))) (heard_claims (steps b a (law_events moments))) (pair_with b (if x then (accepted (program a moments) (inbound.Message m) (places moments)).0 else program a moments).peers)) (sym e) (t.linked a b ours))
 
   -- ---- each moment
 
-  names : (a b : Host) (x : Moment) (moments : List Moment) → IsStory (x ∷ moments) → ((h : Host) → IsRanged (program h moments)) → AllTied origin moments → NamesFreeAt a b x moments
-  names a b (Crossed (crossing.Out m)) moments story ranged t = out_names a b m moments story ranged t (same_host a m.flow.source) (same_host b m.flow.destination) refl refl
-  names a b (Crossed c) moments story ranged t = tt
-  names a b (Asked g r) moments story ranged t =
+  names : (a b : Host) (x : Moment) (moments : List Moment) → AreOurs hosts a b → IsStory hosts (x ∷ moments) → ((h : Host) → hosts.strange h ≡ false → IsRanged (program h moments)) → AllTied hosts origin moments → NamesFreeAt a b x moments
+  names a b (Crossed (crossing.Out m)) moments ours story ranged t = out_names a b m moments ours story ranged t (same_host a m.flow.source) (same_host b m.flow.destination) refl refl
+  names a b (Crossed c) moments ours story ranged t = tt
+  names a b (Asked g r) moments ours story ranged t =
       by_request (λ e. NameFree (words_of Receiver (stay.said_by a b 0 (placed_event e (events_of moments)))) (all_said Sender (words_of Sender (stay.said_by b a 0 (placed_event e (events_of moments)))) (steps a b (law_events moments)))) g r (λ peer. tt) tt
 
-  pub takes : (x : Moment) (moments : List Moment) → IsStory (x ∷ moments) → IsRun hosts (events_of (x ∷ moments)) → ((h : Host) → IsRanged (program h moments)) → IsOrigin origin x moments → AllTied origin moments → TakesFreeAt x moments
-  takes (Crossed (crossing.In m)) moments story run ranged from t = in_free origin hosts m moments story run ranged from (t.tied m.flow.source m.flow.destination) (t.linked m.flow.destination m.flow.source)
+  pub takes : (x : Moment) (moments : List Moment) → IsStory hosts (x ∷ moments) → IsRun hosts (events_of (x ∷ moments)) → ((h : Host) → hosts.strange h ≡ false → IsRanged (program h moments)) → IsOrigin origin x moments → AllTied hosts origin moments → TakesFreeAt hosts x moments
+  takes (Crossed (crossing.In m)) moments story run ranged from t =
+      λ our. in_free origin hosts m moments our story run ranged from (t.tied m.flow.source m.flow.destination our) (t.linked m.flow.destination m.flow.source (our.1, our.0)) our
   takes (Crossed c) moments story run ranged from t = tt
   takes (Asked g r) moments story run ranged from t = tt
 
-  links : (a b : Host) (x : Moment) (moments : List Moment) → IsStory (x ∷ moments) → IsRun hosts (events_of (x ∷ moments)) → AreServed (x ∷ moments) → ((h : Host) → IsRanged (program h moments)) → IsOrigin origin x moments → AllTied origin moments → Linked a b (x ∷ moments)
-  links a b (Crossed (crossing.Out m)) moments story run served ranged from t = out_linked a b m moments story ranged t (same_host a m.flow.source) (same_host b m.flow.destination) refl refl
-  links a b (Crossed (crossing.In m)) moments story run served ranged from t = in_links a b m moments story run ranged from t (same_host a m.flow.destination) (same_host b m.flow.source) refl refl
-  links a b (Crossed (crossing.Answer kind f)) moments story run served ranged from t = told_links a b kind f moments (t.linked a b)
-  links a b (Crossed (crossing.Down g)) moments story run served ranged from t = down_links a b g moments (t.linked a b)
-  links a b (Crossed (crossing.Up g)) moments story run served ranged from t = up_links a b g moments (t.linked a b)
-  links a b (Asked g r) moments story run served ranged from t =
-      asked_links a b g r moments (λ e. subst (λ (y : Host). refusal (program y moments) r ≡ None) (sym (same_host-true a g e)) served.0) (t.linked a b)
+  links : (a b : Host) (x : Moment) (moments : List Moment) → AreOurs hosts a b → IsStory hosts (x ∷ moments) → IsRun hosts (events_of (x ∷ moments)) → AreServed hosts (x ∷ moments) → ((h : Host) → hosts.strange h ≡ false → IsRanged (program h moments)) → IsOrigin origin x moments → AllTied hosts origin moments → Linked a b (x ∷ moments)
+  links a b (Crossed (crossing.Out m)) moments ours story run served ranged from t = out_linked a b m moments ours story ranged t (same_host a m.flow.source) (same_host b m.flow.destination) refl refl
+  links a b (Crossed (crossing.In m)) moments ours story run served ranged from t = in_links a b m moments ours story run ranged from t (same_host a m.flow.destination) (same_host b m.flow.source) refl refl
+  links a b (Crossed (crossing.Answer kind f)) moments ours story run served ranged from t = told_links a b kind f moments (t.linked a b ours)
+  links a b (Crossed (crossing.Down g)) moments ours story run served ranged from t = down_links a b g moments (t.linked a b ours)
+  links a b (Crossed (crossing.Up g)) moments ours story run served ranged from t = up_links a b g moments (t.linked a b ours)
+  links a b (Asked g r) moments ours story run served ranged from t =
+      asked_links a b g r moments (λ e. subst (λ (y : Host). refusal (program y moments) r ≡ None) (sym (same_host-true a g e)) (served.0 (subst (λ (y : Host). hosts.strange y ≡ false) (same_host-true a g e) ours.0)).0) (t.linked a b ours)
 
-pub all_tied : (hosts : List Host) (origin : Host → Host → ℕ → ℕ) (moments : List Moment) → AreOrigins origin moments → IsStory moments → IsRun hosts (events_of moments) → AreServed moments → AllTied origin moments
-all_tied hosts origin [] from story run served = record { tied = λ a b. tied_opening origin a b; linked = λ a b. record { sends = tt; names = tt; own = tt; single = λ l. tt } }
+pub all_tied : (hosts : Network) (origin : Host → Host → ℕ → ℕ) (moments : List Moment) → AreOrigins origin moments → IsStory hosts moments → IsRun hosts (events_of moments) → AreServed hosts moments → AllTied hosts origin moments
+all_tied hosts origin [] from story run served = record { tied = λ a b ours. tied_opening origin a b; linked = λ a b ours. record { sends = tt; names = tt; own = tt; single = λ l. tt } }
 all_tied hosts origin (x ∷ moments) from story run served =
-    let below : AreServed moments = served_below x moments served in
-    let t : AllTied origin moments = all_tied hosts origin moments from.1 story.1 run.2 below in
-    let ranged : (h : Host) → IsRanged (program h moments) = programs_ranged moments below in
+    let below : AreServed hosts moments = served_below hosts x moments served in
+    let t : AllTied hosts origin moments = all_tied hosts origin moments from.1 story.1 run.2 below in
+    let ranged : (h : Host) → hosts.strange h ≡ false → IsRanged (program h moments) = programs_ranged hosts moments below in
     record {
-      tied = λ a b. tied_turn hosts origin a b x moments story run served ranged from.0 (names origin hosts programs_ranged a b x moments story ranged t) (takes origin hosts programs_ranged x moments story run ranged from.0 t) (t.tied a b);
-      linked = λ a b. links origin hosts programs_ranged a b x moments story run served ranged from.0 t;
+      tied = λ a b ours. tied_turn hosts origin a b x moments ours story run served ranged from.0 (names hosts origin a b x moments ours story ranged t) (takes hosts origin x moments story run ranged from.0 t) (t.tied a b ours);
+      linked = λ a b ours. links hosts origin a b x moments ours story run served ranged from.0 t;
     }
 
 -- ---- requests are counted
@@ -252,24 +257,24 @@ once_by origin own foreign q x h = by (at own foreign q.entries) (marks 0 own fo
 
 -- ---- the queue of a host's program
 
-module _ (hosts : List Host) (moments : List Moment) (addresses : HaveAddresses hosts) (run : mail.IsRun hosts (crossings_of moments)) (time : IsTimeline hosts moments) where
-  served : AreServed moments
+module _ (hosts : Network) (moments : List Moment) (addresses : HaveAddresses hosts.all) (run : mail.IsRun hosts.all (crossings_of moments)) (time : Happened hosts moments) where
+  served : AreServed hosts moments
   served = served_in hosts moments time
 
-  tied : AllTied (origin_in (crossings_of moments)) moments
+  tied : AllTied hosts (origin_in (crossings_of moments)) moments
   tied =
       let c : Coupled hosts moments = coupled hosts addresses moments run time in
       all_tied hosts (origin_in (crossings_of moments)) moments (are_origins 0 (crossings_of moments) [] moments refl) c.story c.run served
 
-  pub queued_commands : (a b : Host) → AreCommands (pair_with b (program a moments).peers).queue
-  queued_commands a b = (pair_range b (program a moments).peers (programs_ranged moments served a).pairs).commands
+  pub queued_commands : (a b : Host) → AreOurs hosts a b → AreCommands (pair_with b (program a moments).peers).queue
+  queued_commands a b ours = (pair_range b (program a moments).peers (programs_ranged hosts moments served a ours.0).pairs).commands
 
   -- for two sockets there is one request at most that waits, so two of them name one link
-  pub queued_once : (a b : Host) (own foreign l k : ℕ) → Contains (pair_with b (program a moments).peers).queue (command.Rts own foreign l) → Contains (pair_with b (program a moments).peers).queue (command.Rts own foreign k) → l ≡ k
-  queued_once a b own foreign l k one other =
-      let is : IsCommand (command.Rts own foreign l) = command_at (pair_with b (program a moments).peers).queue (command.Rts own foreign l) one.0 one.1 one.2 (queued_commands a b) in
+  pub queued_once : (a b : Host) → AreOurs hosts a b → (own foreign l k : ℕ) → Contains (pair_with b (program a moments).peers).queue (command.Rts own foreign l) → Contains (pair_with b (program a moments).peers).queue (command.Rts own foreign k) → l ≡ k
+  queued_once a b ours own foreign l k one other =
+      let is : IsCommand (command.Rts own foreign l) = command_at (pair_with b (program a moments).peers).queue (command.Rts own foreign l) one.0 one.1 one.2 (queued_commands a b ours) in
       let once : asks (marks 0 own foreign (pair_with b (program a moments).peers).queue) ≤ 1 =
-      once_by (origin_in (crossings_of moments) a b) own foreign (pair_with b (program a moments).peers) _ ((tied.tied a b).receiver (record { receive = own; send = foreign }) (is.1, is.3)) in
+      once_by (origin_in (crossings_of moments) a b) own foreign (pair_with b (program a moments).peers) _ ((tied.tied a b ours).receiver (record { receive = own; send = foreign }) (is.1, is.3)) in
       let first : last_link (record { receive = own; send = foreign }) (all_claims (pair_with b (program a moments).peers).queue []) ≡ Some l =
       last_queued own foreign is.1 is.3 l (pair_with b (program a moments).peers).queue [] one.0 one.1 one.2 once in
       let second : last_link (record { receive = own; send = foreign }) (all_claims (pair_with b (program a moments).peers).queue []) ≡ Some k =
@@ -277,15 +282,15 @@ module _ (hosts : List Host) (moments : List Moment) (addresses : HaveAddresses 
       let both : Some l ≡ Some k = sym first ∙ second in
       cc
 
-  pub queued_link : (a b : Host) (l : ℕ) (e : Entry) → Contains (pair_with b (program a moments).peers).queue (command.Rts e.own e.foreign l) → Contains (pair_with b (program a moments).peers).entries e → e.mine ≡ true → e.link ≡ Some l
-  queued_link a b l e waits there mine =
-      let is : IsCommand (command.Rts e.own e.foreign l) = command_at (pair_with b (program a moments).peers).queue (command.Rts e.own e.foreign l) waits.0 waits.1 waits.2 (queued_commands a b) in
+  pub queued_link : (a b : Host) → AreOurs hosts a b → (l : ℕ) (e : Entry) → Contains (pair_with b (program a moments).peers).queue (command.Rts e.own e.foreign l) → Contains (pair_with b (program a moments).peers).entries e → e.mine ≡ true → e.link ≡ Some l
+  queued_link a b ours l e waits there mine =
+      let is : IsCommand (command.Rts e.own e.foreign l) = command_at (pair_with b (program a moments).peers).queue (command.Rts e.own e.foreign l) waits.0 waits.1 waits.2 (queued_commands a b ours) in
       let i : Among (pair_with b (program a moments).peers).entries e = among_at (pair_with b (program a moments).peers).entries e there.0 there.1 there.2 in
       let once : asks (marks 0 e.own e.foreign (pair_with b (program a moments).peers).queue) ≤ 1 =
-      few (origin_in (crossings_of moments) a b) (pair_with b (program a moments).peers) e _ ((tied.tied a b).receiver (record { receive = e.own; send = e.foreign }) (is.1, is.3)) i in
+      few (origin_in (crossings_of moments) a b) (pair_with b (program a moments).peers) e _ ((tied.tied a b ours).receiver (record { receive = e.own; send = e.foreign }) (is.1, is.3)) i in
       let last : last_link (record { receive = e.own; send = e.foreign }) (all_claims (pair_with b (program a moments).peers).queue (said_claims (steps a b (law_events moments)))) ≡ Some l =
       last_queued e.own e.foreign is.1 is.3 l (pair_with b (program a moments).peers).queue (said_claims (steps a b (law_events moments))) waits.0 waits.1 waits.2 once in
       let names : ReceivesBy (all_claims (pair_with b (program a moments).peers).queue (said_claims (steps a b (law_events moments)))) e =
       each_split (ReceivesBy (all_claims (pair_with b (program a moments).peers).queue (said_claims (steps a b (law_events moments))))) i.front e i.rest
-      (subst (λ (xs : List Entry). Each (ReceivesBy (all_claims (pair_with b (program a moments).peers).queue (said_claims (steps a b (law_events moments))))) xs) i.is (tied.linked a b).names) in
+      (subst (λ (xs : List Entry). Each (ReceivesBy (all_claims (pair_with b (program a moments).peers).queue (said_claims (steps a b (law_events moments))))) xs) i.is (tied.linked a b ours).names) in
       link_known l e.link (names is.1 mine l last)

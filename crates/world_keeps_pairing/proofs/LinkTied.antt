@@ -28,6 +28,7 @@ use Rattle.world_keeps_pairing.proofs.Moments.{Side_of, place_is}
 use Rattle.world_keeps_pairing.proofs.Moves.{sender_speaks}
 use Rattle.world_keeps_pairing.proofs.Sides.{receiver_half, receiver_waits, sender_half}
 use Rattle.world_keeps_pairing.proofs.Views.{View, same_view, sender_says}
+use Rattle.reset_law.specs.Network.{AreOurs, Network}
 
 -- ---- all that was said is of a receiving socket and a sending one
 
@@ -45,7 +46,7 @@ offered_pair s stamp g x is = rw is (put g.host (pair_after x g.pair (parcel_gon
 
 -- ---- what goes out to a peer
 
-module _ (origin : Host → Host → ℕ → ℕ) (a b : Host) (m : HostMessage) (moments : List Moment) (story : IsStory (Crossed (crossing.Out m) ∷ moments)) (ranged : (h : Host) → IsRanged (program h moments)) (t : Tied origin a b moments) (u : Tied origin b a moments)
+module _ (origin : Host → Host → ℕ → ℕ) (hosts : Network) (a b : Host) (m : HostMessage) (moments : List Moment) (ours : AreOurs hosts a b) (story : IsStory hosts (Crossed (crossing.Out m) ∷ moments)) (ranged : (h : Host) → hosts.strange h ≡ false → IsRanged (program h moments)) (t : Tied origin a b moments) (u : Tied origin b a moments)
     (h : Linked a b moments) where
   abbrev e : Event
   e = placed_event (event_of (crossing.Out m)) (events_of moments)
@@ -63,7 +64,7 @@ module _ (origin : Host → Host → ℕ → ℕ) (a b : Host) (m : HostMessage)
   base_steps =
       sender_speaks vs (steps a b (law_events moments)) (texts_pairs Sender (stay.said_by b a 0 e)) t.steps
       (λ s q. subst (λ (y : Side). MayAllGo (words.at s vs) y.end y.next) (sym (sender_half s a b (law_events moments)))
-      (may_turn s q Sender b a (origin b a) (Crossed (crossing.Out m)) moments story (ranged b) (t.sender_next s q) (t.sender s q)))
+      (may_turn s q Sender b a (origin b a) hosts (ours.1, ours.0) (Crossed (crossing.Out m)) moments story (ranged b ours.1) (t.sender_next s q) (t.sender s q)))
 
   base_receiver : (s : Sockets) → receiver s xs ≡ receiver s (steps a b (law_events moments))
   base_receiver s = receiver_waits s vs (steps a b (law_events moments))
@@ -72,7 +73,7 @@ module _ (origin : Host → Host → ℕ → ℕ) (a b : Host) (m : HostMessage)
   out_here from to =
       let is_a : a ≡ m.flow.source = same_host-true a m.flow.source from in
       let is_b : b ≡ m.flow.destination = same_host-true b m.flow.destination to in
-      let n : IsNext (program a moments) m = subst (λ (y : Host). IsNext (program y moments) m) (sym is_a) story.0 in
+      let n : IsNext (program a moments) m = subst (λ (y : Host). IsNext (program y moments) m) (sym is_a) (story.0 (subst (λ (y : Host). hosts.strange y ≡ false) is_a ours.0)) in
       let s : NcpState = program a moments in
       let to_peer : b ≡ n.peer.host = is_b ∙ ap (λ (y : HostMessage). y.flow.destination) n.message in
       let link : m.flow.link.0 ≡ link_for n.parcel = ap (λ (y : HostMessage). y.flow.link.0) n.message in
@@ -87,9 +88,9 @@ module _ (origin : Host → Host → ℕ → ℕ) (a b : Host) (m : HostMessage)
       ∙ ap (λ (k : ℕ). read_words Receiver k m.flow.link.0 m.text) (place_is moments)
       ∙ ap (λ (k : ℕ). read_words Receiver (places moments) k m.text) link
       ∙ ap (λ (k : List Bool). read_words Receiver (places moments) (link_for n.parcel) k) text in
-      let agrees : Agrees n.peer.pair (pair a b (events_of moments)) = subst (λ (p : PairState). Agrees p (pair a b (events_of moments))) q_is (story_agrees moments a b story.1) in
+      let agrees : Agrees n.peer.pair (pair a b (events_of moments)) = subst (λ (p : PairState). Agrees p (pair a b (events_of moments))) q_is (story_agrees hosts moments a b ours story.1) in
       let pairs : AllPairs (said_words Receiver xs) = subst AllPairs (sym (ap (λ (v : View). v.receiver_said) (sender_says vs (steps a b (law_events moments))))) (said_are a b (law_events moments)) in
-      let range : ranges.IsPair n.peer.pair = subst (λ (p : PairState). ranges.IsPair p) q_is (pair_range b (program a moments).peers (ranged a).pairs) in
+      let range : ranges.IsPair n.peer.pair = subst (λ (p : PairState). ranges.IsPair p) q_is (pair_range b (program a moments).peers (ranged a ours.0).pairs) in
       let receives : (s : Sockets) → IsPair s → (pl : ℕ) → Stand true (origin a b) pl (at s.receive s.send n.peer.pair.entries) (marks pl s.receive s.send n.peer.pair.queue) (receiver s xs).end =
       λ s k pl. subst (λ (x : Side). Stand true (origin a b) pl (at s.receive s.send n.peer.pair.entries) (marks pl s.receive s.send n.peer.pair.queue) x.end) (sym (base_receiver s ∙ receiver_half s a b (law_events moments)))
       (subst (λ (p : PairState). Stand true (origin a b) pl (at s.receive s.send p.entries) (marks pl s.receive s.send p.queue) (Side_of s k Receiver a b (origin a b) moments).end) q_is ((t.receiver s k).ends pl)) in
@@ -101,7 +102,7 @@ module _ (origin : Host → Host → ℕ → ℕ) (a b : Host) (m : HostMessage)
       let may : (s : Sockets) → IsPair s → MayAllGo (words.at s (read_words Receiver (places moments) (link_for n.parcel) (text_for n.peer.pair n.parcel))) (receiver s xs).end (receiver s xs).next =
       λ s k. subst (λ (l : List Word). MayAllGo (words.at s l) (receiver s xs).end (receiver s xs).next) words_are
       (subst (λ (y : Side). MayAllGo (words.at s ws) y.end y.next) (sym (base_receiver s ∙ receiver_half s a b (law_events moments)))
-      (may_turn s k Receiver a b (origin a b) (Crossed (crossing.Out m)) moments story (ranged a) (t.receiver_next s k) (t.receiver s k))) in
+      (may_turn s k Receiver a b (origin a b) hosts ours (Crossed (crossing.Out m)) moments story (ranged a ours.0) (t.receiver_next s k) (t.receiver s k))) in
       let links : LinksOf (said_claims xs) (heard_claims (steps b a (law_events moments))) n.peer.pair =
       subst (λ (cs : List Claim). LinksOf cs (heard_claims (steps b a (law_events moments))) n.peer.pair) (sym (sender_said vs (steps a b (law_events moments))))
       (subst (λ (p : PairState). LinksOf (said_claims (steps a b (law_events moments))) (heard_claims (steps b a (law_events moments))) p) q_is h) in
@@ -109,7 +110,7 @@ module _ (origin : Host → Host → ℕ → ℕ) (a b : Host) (m : HostMessage)
       × LinksOf (said_claims (all_said Receiver (read_words Receiver (places moments) (link_for n.parcel) (text_for n.peer.pair n.parcel)) xs)) (heard_claims (steps b a (law_events moments)))
       (pair_after n.parcel n.peer.pair (parcel_gone n.peer.host (places moments) n.peer.pair.busy n.parcel (desk_of n.peer.pair (program a moments).listening))) =
       parcel_links (origin a b) n.peer.host (places moments) (heard_claims (steps b a (law_events moments))) (program a moments).listening n.peer.pair n.parcel (pair a b (events_of moments)) xs agrees (next_is n.peer n.parcel (program a moments).peers n.next)
-      (offer_read (program a moments) n.peer n.parcel (ranged a) n.next) range.commands base_steps pairs receives sends may links in
+      (offer_read (program a moments) n.peer n.parcel (ranged a ours.0) n.next) range.commands base_steps pairs receives sends may links in
       let after : pair_with b (offered (program a moments) (places moments)).0.peers ≡ pair_after n.parcel n.peer.pair (parcel_gone n.peer.host (places moments) n.peer.pair.busy n.parcel (desk_of n.peer.pair (program a moments).listening)) =
       ap (λ (y : Host). pair_with y (offered (program a moments) (places moments)).0.peers) to_peer ∙ offered_pair (program a moments) (places moments) n.peer n.parcel n.next in
       subst (λ (l : List Word). NameFree l xs × LinksOf (said_claims (all_said Receiver l xs)) (heard_claims (steps b a (law_events moments))) (pair_with b (offered (program a moments) (places moments)).0.peers)) (sym words_are)
@@ -131,7 +132,7 @@ data_links said taken link text t h = by (phases.is_ready t.pair.phase) where
   by false = h
 
 -- host `a` takes the message of `b`; the names are those of the message
-module _ (origin : Host → Host → ℕ → ℕ) (hosts : List Host) (m : HostMessage) (moments : List Moment) (story : IsStory (Crossed (crossing.In m) ∷ moments)) (run : IsRun hosts (events_of (Crossed (crossing.In m) ∷ moments))) (ranged : (h : Host) → IsRanged (program h moments))
+module _ (origin : Host → Host → ℕ → ℕ) (hosts : Network) (m : HostMessage) (moments : List Moment) (ours : AreOurs hosts m.flow.source m.flow.destination) (story : IsStory hosts (Crossed (crossing.In m) ∷ moments)) (run : IsRun hosts (events_of (Crossed (crossing.In m) ∷ moments))) (ranged : (h : Host) → hosts.strange h ≡ false → IsRanged (program h moments))
     (from : IsOrigin origin (Crossed (crossing.In m)) moments) (u : Tied origin m.flow.source m.flow.destination moments) (h : Linked m.flow.destination m.flow.source moments) where
   abbrev s0 : Sockets
   s0 = record { receive = 0; send = 1 }
@@ -146,10 +147,10 @@ module _ (origin : Host → Host → ℕ → ℕ) (hosts : List Host) (m : HostM
   turn = turn_of (program m.flow.destination moments) m.flow.source
 
   peer_steps : AreSteps (steps m.flow.source m.flow.destination (law_events (Crossed (crossing.In m) ∷ moments)))
-  peer_steps = steps_turn hosts origin m.flow.source m.flow.destination (Crossed (crossing.In m)) moments story run ranged tt u
+  peer_steps = steps_turn hosts origin m.flow.source m.flow.destination (Crossed (crossing.In m)) moments ours story run ranged tt u
 
   -- a text on link 0, where the host is through a reset
-  text_links : (pl : ℕ) → boxed s0 (refl, refl) Sender (origin m.flow.destination m.flow.source) hosts m moments story run ≡ Other (tagged pl m.text) → (m.flow.link.0 == 0) ≡ true → origin m.flow.destination m.flow.source (places moments) ≡ pl → AreJoint (orders_of m.text)
+  text_links : (pl : ℕ) → boxed s0 (refl, refl) Sender (origin m.flow.destination m.flow.source) hosts m moments ours story run ≡ Other (tagged pl m.text) → (m.flow.link.0 == 0) ≡ true → origin m.flow.destination m.flow.source (places moments) ≡ pl → AreJoint (orders_of m.text)
       → phases.is_ready (pair_with m.flow.source (program m.flow.destination moments).peers).phase ≡ true → stay.stays m.flow.destination m.flow.source (law_events moments) ≡ true
       → AreFree m.flow.source (places moments) (orders_of m.text) turn
       × Links (all_claims (orders_taken m.flow.source (places moments) (orders_of m.text) turn).pair.queue said0) (heard_claims (all_heard Sender (words_by Receiver (origin m.flow.destination m.flow.source (places moments)) (orders_of m.text)) ys)) (orders_taken m.flow.source (places moments) (orders_of m.text) turn).pair.entries
@@ -177,7 +178,7 @@ module _ (origin : Host → Host → ℕ → ℕ) (hosts : List Host) (m : HostM
   abbrev q1 : PairState
   q1 = (message_taken m.flow.source (places moments) m.flow.link.0 m.text turn).pair
 
-  in_done : (n : Message) → boxed s0 (refl, refl) Sender (origin m.flow.destination m.flow.source) hosts m moments story run ≡ n → LinksOf said0 (Heard n) q1 → Linked m.flow.destination m.flow.source (Crossed (crossing.In m) ∷ moments)
+  in_done : (n : Message) → boxed s0 (refl, refl) Sender (origin m.flow.destination m.flow.source) hosts m moments ours story run ≡ n → LinksOf said0 (Heard n) q1 → Linked m.flow.destination m.flow.source (Crossed (crossing.In m) ∷ moments)
   in_done n e k =
       let own : same_host (program m.flow.destination moments).own m.flow.destination ≡ true = ap (λ (y : Host). same_host y m.flow.destination) (program_own m.flow.destination moments) ∙ same_host-refl m.flow.destination in
       let pair_is : pair_with m.flow.source (program m.flow.destination (Crossed (crossing.In m) ∷ moments)).peers ≡ q1 =
@@ -201,17 +202,17 @@ module _ (origin : Host → Host → ℕ → ℕ) (hosts : List Host) (m : HostM
   on_zero z e = ap (λ (b : Bool). (if b then orders_taken m.flow.source (places moments) (orders_of m.text) turn else if_ready (data_taken m.flow.link.0 m.text) turn).pair) (sym e)
 
   place0 : (n : ℕ) × (boxes m.flow.source m.flow.destination (events_of moments) m.flow.link.0 ≡ Waiting n (message_on m.flow.link.0 m.text))
-  place0 = place_in s0 (refl, refl) Sender (origin m.flow.destination m.flow.source) hosts m moments story run
+  place0 = place_in s0 (refl, refl) Sender (origin m.flow.destination m.flow.source) hosts m moments ours story run
 
-  boxed0 : (n : Message) → message_on m.flow.link.0 m.text ≡ n → boxed s0 (refl, refl) Sender (origin m.flow.destination m.flow.source) hosts m moments story run ≡ with_place place0.0 n
+  boxed0 : (n : Message) → message_on m.flow.link.0 m.text ≡ n → boxed s0 (refl, refl) Sender (origin m.flow.destination m.flow.source) hosts m moments ours story run ≡ with_place place0.0 n
   unfolding place0
-  boxed0 n e = boxed_is s0 (refl, refl) Sender (origin m.flow.destination m.flow.source) hosts m moments story run n e
+  boxed0 n e = boxed_is s0 (refl, refl) Sender (origin m.flow.destination m.flow.source) hosts m moments ours story run n e
 
   stays0 : (b : Bool) → message_on m.flow.link.0 m.text ≡ Other m.text → phases.is_ready (pair_with m.flow.source (program m.flow.destination moments).peers).phase ≡ b → stay.stays m.flow.destination m.flow.source (law_events moments) ≡ b
-  stays0 b is r = stays_as s0 (refl, refl) Sender (origin m.flow.destination m.flow.source) hosts m moments story run place0.0 (boxed0 (Other m.text) is) b r
+  stays0 b is r = stays_as s0 (refl, refl) Sender (origin m.flow.destination m.flow.source) hosts m moments ours story run place0.0 (boxed0 (Other m.text) is) b r
 
   joint0 : (m.flow.link.0 == 0) ≡ true → message_on m.flow.link.0 m.text ≡ Other m.text → AreJoint (orders_of m.text)
-  joint0 zero is = plain_joint (orders_of m.text) (subst (λ (n : Message). IsApart m.flow.link.0 m.text n) is story.0 zero)
+  joint0 zero is = plain_joint (orders_of m.text) (subst (λ (n : Message). IsApart m.flow.link.0 m.text n) is (story.0 ours) zero)
 
   at_zero : (m.flow.link.0 == 0) ≡ true → Sort m.flow.link.0 m.text → Linked m.flow.destination m.flow.source (Crossed (crossing.In m) ∷ moments)
   at_zero zero (AnRst z orders is) =
@@ -260,5 +261,5 @@ module _ (origin : Host → Host → ℕ → ℕ) (hosts : List Host) (m : HostM
   free_at zero ready (AnRrp z orders is) = subst (λ (os : List Order). AreFree m.flow.source (places moments) os turn) (sym orders) (tt, tt)
   free_at zero ready (AText is) = (text_links place0.0 (boxed0 (Other m.text) is) zero (from place0.0 place0.1 zero) (joint0 zero is) ready (stays0 true is ready)).0
 
-  pub in_free : TakesFreeAt (Crossed (crossing.In m)) moments
-  in_free = λ ready zero. free_at zero ready (sort_of m.flow.link.0 m.text)
+  pub in_free : TakesFreeAt hosts (Crossed (crossing.In m)) moments
+  in_free = λ our ready zero. free_at zero ready (sort_of m.flow.link.0 m.text)

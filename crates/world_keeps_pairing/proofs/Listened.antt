@@ -6,7 +6,7 @@ use Rattle.ncp_control.specs.Phases as program_phases
 use Rattle.pairing_law.specs.Sides.{Life}
 use Rattle.reset_law.specs.Runs.{IsRun}
 use Rattle.reset_law.specs.Stays as stay
-use Rattle.net_sim.specs.Told.{kept_in}
+use Rattle.net_sim.specs.Mixed.{mixed_kept}
 use Rattle.world_keeps_pairing.proofs.Books.{about_peer, all_of_peer}
 use Rattle.world_keeps_pairing.proofs.Marks.{IsPair, foreign_of, own_of}
 use Rattle.world_keeps_pairing.proofs.Messages.{Hears, IsFrom, are_same, boxed, boxed_is, heard_off, joint_now, own_is, place_in, stays_as}
@@ -15,8 +15,9 @@ use Rattle.world_keeps_pairing.proofs.Opened.{Among, by_lives, hears_lives, hear
 use Rattle.world_keeps_pairing.proofs.Programs.{AnRrp, AnRst, AText, Sort, sort_of}
 use Rattle.world_keeps_pairing.proofs.Sides.{all_hears, at_texts, hears_if}
 use Rattle.world_keeps_pairing.proofs.Turns.{heard_is, other}
+use Rattle.reset_law.specs.Network.{AreOurs, Network}
 
-module _ (s : Sockets) (is_pair : IsPair s) (who : Who) (origin : ℕ → ℕ) (hosts : List Host) (m : HostMessage) (moments : List Moment) (story : IsStory (Crossed (crossing.In m) ∷ moments)) (run : IsRun hosts (events_of (Crossed (crossing.In m) ∷ moments))) where
+module _ (s : Sockets) (is_pair : IsPair s) (who : Who) (origin : ℕ → ℕ) (hosts : Network) (m : HostMessage) (moments : List Moment) (ours : AreOurs hosts m.flow.source m.flow.destination) (story : IsStory hosts (Crossed (crossing.In m) ∷ moments)) (run : IsRun hosts (events_of (Crossed (crossing.In m) ∷ moments))) where
   abbrev h : Host
   h = m.flow.destination
 
@@ -27,7 +28,7 @@ module _ (s : Sockets) (is_pair : IsPair s) (who : Who) (origin : ℕ → ℕ) (
   x0 = Side_of s is_pair who m.flow.destination m.flow.source origin moments
 
   abbrev T : List Life
-  T = with_lives origin m.flow.destination m.flow.source (own_of who s) (foreign_of who s) (kept_in moments).book.lives []
+  T = with_lives origin m.flow.destination m.flow.source (own_of who s) (foreign_of who s) (mixed_kept hosts.strange moments).book.lives []
 
   abbrev Lives : Message → List Life
   Lives n = (hears_if (stay.stays m.flow.destination m.flow.source (law_events moments)) (at_texts s (other who) (stay.heard_by m.flow.source m.flow.destination 0 (In m.flow.source m.flow.destination m.flow.link.0 n))) x0).lives
@@ -36,9 +37,9 @@ module _ (s : Sockets) (is_pair : IsPair s) (who : Who) (origin : ℕ → ℕ) (
   abbrev Tells : List Life → Type 0
   Tells more = AreAmong (with_openings origin (own_of who s) (foreign_of who s) (accepted (program m.flow.destination moments) (inbound.Message m) (places moments)).1 T) more
 
-  told_in : (n : Message) → boxed s is_pair who origin hosts m moments story run ≡ n → (more : List Life) → Lives n ≡ more → Tells more → Among s is_pair who m.flow.destination m.flow.source origin (Crossed (crossing.In m) ∷ moments)
+  told_in : (n : Message) → boxed s is_pair who origin hosts m moments ours story run ≡ n → (more : List Life) → Lives n ≡ more → Tells more → Among s is_pair who m.flow.destination m.flow.source origin hosts (Crossed (crossing.In m) ∷ moments)
   told_in n e more is k =
-      by_lives s is_pair who m.flow.destination m.flow.source origin (Crossed (crossing.In m)) moments more (subst (λ (y : Message). Lives y ≡ more) (sym e) is)
+      by_lives s is_pair who m.flow.destination m.flow.source origin hosts (ours.1, ours.0) (Crossed (crossing.In m)) moments more (subst (λ (y : Message). Lives y ≡ more) (sym e) is)
       (subst (λ (b : Bool). AreAmong (if b then all_of_peer origin m.flow.destination m.flow.source (own_of who s) (foreign_of who s) (accepted (program m.flow.destination moments) (inbound.Message m) (places moments)).1 T else T) more)
       (sym (same_host-refl m.flow.destination))
       (subst (λ (l : List Life). AreAmong l more)
@@ -46,9 +47,9 @@ module _ (s : Sockets) (is_pair : IsPair s) (who : Who) (origin : ℕ → ℕ) (
       (message_about (program m.flow.destination moments) m (places moments)) (same_host-refl m.flow.source))) k))
 
   -- where it reports none
-  told_none : (n : Message) → boxed s is_pair who origin hosts m moments story run ≡ n → Lives n ≡ x0.lives
+  told_none : (n : Message) → boxed s is_pair who origin hosts m moments ours story run ≡ n → Lives n ≡ x0.lives
       → with_openings origin (own_of who s) (foreign_of who s) (accepted (program m.flow.destination moments) (inbound.Message m) (places moments)).1 T ≡ T
-      → Among s is_pair who m.flow.destination m.flow.source origin moments → Among s is_pair who m.flow.destination m.flow.source origin (Crossed (crossing.In m) ∷ moments)
+      → Among s is_pair who m.flow.destination m.flow.source origin hosts moments → Among s is_pair who m.flow.destination m.flow.source origin hosts (Crossed (crossing.In m) ∷ moments)
   told_none n e is none k = told_in n e x0.lives is (subst (λ (l : List Life). AreAmong l x0.lives) (sym none) k)
 
   -- a text on link 0
@@ -64,72 +65,73 @@ module _ (s : Sockets) (is_pair : IsPair s) (who : Who) (origin : ℕ → ℕ) (
   text_lives place false zero stays fit =
       ap (λ (t : Bool). (hears_if t (at_texts s (other who) (if are m.flow.source m.flow.destination m.flow.source m.flow.destination && 0 == m.flow.link.0 then tagged place m.text ∷ [] else [])) x0).lives) stays
 
-  control_among : Hears s is_pair who origin hosts m moments story run → IsFrom s is_pair who origin hosts m moments story run → (m.flow.link.0 == 0) ≡ true → Sort m.flow.link.0 m.text
-      → Tie s is_pair who m.flow.destination m.flow.source origin moments → Among s is_pair who m.flow.destination m.flow.source origin moments → Among s is_pair who m.flow.destination m.flow.source origin (Crossed (crossing.In m) ∷ moments)
+  control_among : Hears s is_pair who origin hosts m moments ours story run → IsFrom s is_pair who origin hosts m moments ours story run → (m.flow.link.0 == 0) ≡ true → Sort m.flow.link.0 m.text
+      → Tie s is_pair who m.flow.destination m.flow.source origin moments → Among s is_pair who m.flow.destination m.flow.source origin hosts moments → Among s is_pair who m.flow.destination m.flow.source origin hosts (Crossed (crossing.In m) ∷ moments)
   control_among hears from zero (AnRst z orders is) t k =
-      told_none Reset (boxed_is s is_pair who origin hosts m moments story run Reset is) (hears_no_lives (stay.stays m.flow.destination m.flow.source (law_events moments)) x0)
-      (rst_other origin (own_of who s) (foreign_of who s) (program m.flow.destination moments) m (places moments) (own_is s is_pair who origin hosts m moments story run) zero orders T) k
+      told_none Reset (boxed_is s is_pair who origin hosts m moments ours story run Reset is) (hears_no_lives (stay.stays m.flow.destination m.flow.source (law_events moments)) x0)
+      (rst_other origin (own_of who s) (foreign_of who s) (program m.flow.destination moments) m (places moments) (own_is s is_pair who origin hosts m moments ours story run) zero orders T) k
   control_among hears from zero (AnRrp z orders is) t k =
-      told_none Reply (boxed_is s is_pair who origin hosts m moments story run Reply is) (hears_no_lives (stay.stays m.flow.destination m.flow.source (law_events moments)) x0)
-      (rrp_other origin (own_of who s) (foreign_of who s) (program m.flow.destination moments) m (places moments) (own_is s is_pair who origin hosts m moments story run) zero orders T) k
+      told_none Reply (boxed_is s is_pair who origin hosts m moments ours story run Reply is) (hears_no_lives (stay.stays m.flow.destination m.flow.source (law_events moments)) x0)
+      (rrp_other origin (own_of who s) (foreign_of who s) (program m.flow.destination moments) m (places moments) (own_is s is_pair who origin hosts m moments ours story run) zero orders T) k
   control_among hears from zero (AText is) t k = by (program_phases.is_ready (pair_with m.flow.source (program m.flow.destination moments).peers).phase) refl where
     place : ℕ
-    place = (place_in s is_pair who origin hosts m moments story run).0
+    place = (place_in s is_pair who origin hosts m moments ours story run).0
 
-    text : boxed s is_pair who origin hosts m moments story run ≡ Other (tagged (place_in s is_pair who origin hosts m moments story run).0 m.text)
-    text = boxed_is s is_pair who origin hosts m moments story run (Other m.text) is
+    text : boxed s is_pair who origin hosts m moments ours story run ≡ Other (tagged (place_in s is_pair who origin hosts m moments ours story run).0 m.text)
+    text = boxed_is s is_pair who origin hosts m moments ours story run (Other m.text) is
 
-    there : origin (places moments) ≡ (place_in s is_pair who origin hosts m moments story run).0
-    there = from (place_in s is_pair who origin hosts m moments story run).0 (place_in s is_pair who origin hosts m moments story run).1 zero
+    there : origin (places moments) ≡ (place_in s is_pair who origin hosts m moments ours story run).0
+    there = from (place_in s is_pair who origin hosts m moments ours story run).0 (place_in s is_pair who origin hosts m moments ours story run).1 zero
 
     joint : AreJoint (orders_of m.text)
-    joint = joint_now s is_pair who origin hosts m moments story run zero is
+    joint = joint_now s is_pair who origin hosts m moments ours story run zero is
 
-    by : (b : Bool) → program_phases.is_ready (pair_with m.flow.source (program m.flow.destination moments).peers).phase ≡ b → Among s is_pair who m.flow.destination m.flow.source origin (Crossed (crossing.In m) ∷ moments)
+    by : (b : Bool) → program_phases.is_ready (pair_with m.flow.source (program m.flow.destination moments).peers).phase ≡ b → Among s is_pair who m.flow.destination m.flow.source origin hosts (Crossed (crossing.In m) ∷ moments)
     by true ready =
         let fit : AllFit (marks_in (origin (places moments)) (foreign_of who s) (own_of who s) (orders_of m.text)) x0.end = (hears ready zero joint).1 in
-        told_in (Other (tagged (place_in s is_pair who origin hosts m moments story run).0 m.text)) text
+        told_in (Other (tagged (place_in s is_pair who origin hosts m moments ours story run).0 m.text)) text
         (all_lives_taken (marks_in (origin (places moments)) (foreign_of who s) (own_of who s) (orders_of m.text)) x0.end x0.lives)
-        (text_lives (place_in s is_pair who origin hosts m moments story run).0 true zero (stays_as s is_pair who origin hosts m moments story run (place_in s is_pair who origin hosts m moments story run).0 text true ready)
+        (text_lives (place_in s is_pair who origin hosts m moments ours story run).0 true zero (stays_as s is_pair who origin hosts m moments ours story run (place_in s is_pair who origin hosts m moments ours story run).0 text true ready)
         (λ e. subst (λ (n : ℕ). AllFit (marks_in n (foreign_of who s) (own_of who s) (orders_of m.text)) x0.end) there fit)
         ∙ ap (λ (n : ℕ). all_lives_taken (marks_in n (foreign_of who s) (own_of who s) (orders_of m.text)) x0.end x0.lives) (sym there))
-        (message_tells origin (own_of who s) (foreign_of who s) (program m.flow.destination moments) m (places moments) x0.end T x0.lives (own_is s is_pair who origin hosts m moments story run) zero ready joint
+        (message_tells origin (own_of who s) (foreign_of who s) (program m.flow.destination moments) m (places moments) x0.end T x0.lives (own_is s is_pair who origin hosts m moments ours story run) zero ready joint
         (hears ready zero joint).0 fit t k)
     by false idle =
-        told_none (Other (tagged (place_in s is_pair who origin hosts m moments story run).0 m.text)) text
-        (text_lives (place_in s is_pair who origin hosts m moments story run).0 false zero (stays_as s is_pair who origin hosts m moments story run (place_in s is_pair who origin hosts m moments story run).0 text false idle)
+        told_none (Other (tagged (place_in s is_pair who origin hosts m moments ours story run).0 m.text)) text
+        (text_lives (place_in s is_pair who origin hosts m moments ours story run).0 false zero (stays_as s is_pair who origin hosts m moments ours story run (place_in s is_pair who origin hosts m moments ours story run).0 text false idle)
         (λ e. absurd (let no : false ≡ true = e in cc)))
-        (idle_other origin (own_of who s) (foreign_of who s) (program m.flow.destination moments) m (places moments) (own_is s is_pair who origin hosts m moments story run) zero idle joint T) k
+        (idle_other origin (own_of who s) (foreign_of who s) (program m.flow.destination moments) m (places moments) (own_is s is_pair who origin hosts m moments ours story run) zero idle joint T) k
 
-  in_here : Hears s is_pair who origin hosts m moments story run → IsFrom s is_pair who origin hosts m moments story run → Tie s is_pair who m.flow.destination m.flow.source origin moments
-      → Among s is_pair who m.flow.destination m.flow.source origin moments → Among s is_pair who m.flow.destination m.flow.source origin (Crossed (crossing.In m) ∷ moments)
+  in_here : Hears s is_pair who origin hosts m moments ours story run → IsFrom s is_pair who origin hosts m moments ours story run → Tie s is_pair who m.flow.destination m.flow.source origin moments
+      → Among s is_pair who m.flow.destination m.flow.source origin hosts moments → Among s is_pair who m.flow.destination m.flow.source origin hosts (Crossed (crossing.In m) ∷ moments)
   in_here hears from t k = by (m.flow.link.0 == 0) refl where
-    by : (z : Bool) → (m.flow.link.0 == 0) ≡ z → Among s is_pair who m.flow.destination m.flow.source origin (Crossed (crossing.In m) ∷ moments)
+    by : (z : Bool) → (m.flow.link.0 == 0) ≡ z → Among s is_pair who m.flow.destination m.flow.source origin hosts (Crossed (crossing.In m) ∷ moments)
     by true zero = control_among hears from zero (sort_of m.flow.link.0 m.text) t k
     by false away =
         let is : message_on m.flow.link.0 m.text ≡ Other m.text = rw away refl in
-        let place : ℕ = (place_in s is_pair who origin hosts m moments story run).0 in
+        let place : ℕ = (place_in s is_pair who origin hosts m moments ours story run).0 in
         let heard : stay.heard_by m.flow.source m.flow.destination 0 (In m.flow.source m.flow.destination m.flow.link.0 (Other (tagged place m.text))) ≡ [] =
         heard_off (are m.flow.source m.flow.destination m.flow.source m.flow.destination) (0 == m.flow.link.0) (tagged place m.text ∷ []) (eqb-sym 0 m.flow.link.0 ∙ away) in
-        told_in (Other (tagged (place_in s is_pair who origin hosts m moments story run).0 m.text)) (boxed_is s is_pair who origin hosts m moments story run (Other m.text) is) x0.lives
+        told_in (Other (tagged (place_in s is_pair who origin hosts m moments ours story run).0 m.text)) (boxed_is s is_pair who origin hosts m moments ours story run (Other m.text) is) x0.lives
         (ap (λ (ts : List (List Bool)). (hears_if (stay.stays m.flow.destination m.flow.source (law_events moments)) (at_texts s (other who) ts) x0).lives) heard ∙ hears_no_lives (stay.stays m.flow.destination m.flow.source (law_events moments)) x0)
-        (data_told origin (own_of who s) (foreign_of who s) (program m.flow.destination moments) m (places moments) T x0.lives (own_is s is_pair who origin hosts m moments story run) away k)
+        (data_told origin (own_of who s) (foreign_of who s) (program m.flow.destination moments) m (places moments) T x0.lives (own_is s is_pair who origin hosts m moments ours story run) away k)
 
 -- any message that is taken
-pub in_among : (s : Sockets) (is_pair : IsPair s) (who : Who) (h p : Host) (origin : ℕ → ℕ) (hosts : List Host) (m : HostMessage) (moments : List Moment) (story : IsStory (Crossed (crossing.In m) ∷ moments)) (run : IsRun hosts (events_of (Crossed (crossing.In m) ∷ moments)))
-    → (same_host h m.flow.destination ≡ true → same_host p m.flow.source ≡ true → Hears s is_pair who origin hosts m moments story run × IsFrom s is_pair who origin hosts m moments story run)
-    → Tie s is_pair who h p origin moments → Among s is_pair who h p origin moments → Among s is_pair who h p origin (Crossed (crossing.In m) ∷ moments)
-in_among s is_pair who h p origin hosts m moments story run k t among = by (same_host h m.flow.destination) (same_host p m.flow.source) refl refl where
-  by : (b c : Bool) → same_host h m.flow.destination ≡ b → same_host p m.flow.source ≡ c → Among s is_pair who h p origin (Crossed (crossing.In m) ∷ moments)
+pub in_among : (s : Sockets) (is_pair : IsPair s) (who : Who) (h p : Host) (origin : ℕ → ℕ) (hosts : Network) (m : HostMessage) (moments : List Moment) (ours : AreOurs hosts h p) (story : IsStory hosts (Crossed (crossing.In m) ∷ moments)) (run : IsRun hosts (events_of (Crossed (crossing.In m) ∷ moments)))
+    → ((our : AreOurs hosts m.flow.source m.flow.destination) → same_host h m.flow.destination ≡ true → same_host p m.flow.source ≡ true → Hears s is_pair who origin hosts m moments our story run × IsFrom s is_pair who origin hosts m moments our story run)
+    → Tie s is_pair who h p origin moments → Among s is_pair who h p origin hosts moments → Among s is_pair who h p origin hosts (Crossed (crossing.In m) ∷ moments)
+in_among s is_pair who h p origin hosts m moments ours story run k t among = by (same_host h m.flow.destination) (same_host p m.flow.source) refl refl where
+  by : (b c : Bool) → same_host h m.flow.destination ≡ b → same_host p m.flow.source ≡ c → Among s is_pair who h p origin hosts (Crossed (crossing.In m) ∷ moments)
   by true true e f =
       let is_h : h ≡ m.flow.destination = same_host-true h m.flow.destination e in
       let is_p : p ≡ m.flow.source = same_host-true p m.flow.source f in
+      let our : AreOurs hosts m.flow.source m.flow.destination = (subst (λ (y : Host). hosts.strange y ≡ false) is_p ours.1, subst (λ (y : Host). hosts.strange y ≡ false) is_h ours.0) in
       let tie : Tie s is_pair who m.flow.destination m.flow.source origin moments =
       subst (λ (y : Host). Tie s is_pair who m.flow.destination y origin moments) is_p (subst (λ (y : Host). Tie s is_pair who y p origin moments) is_h t) in
-      let there : Among s is_pair who m.flow.destination m.flow.source origin moments =
-      subst (λ (y : Host). Among s is_pair who m.flow.destination y origin moments) is_p (subst (λ (y : Host). Among s is_pair who y p origin moments) is_h among) in
-      subst (λ (y : Host). Among s is_pair who y p origin (Crossed (crossing.In m) ∷ moments)) (sym is_h)
-      (subst (λ (y : Host). Among s is_pair who m.flow.destination y origin (Crossed (crossing.In m) ∷ moments)) (sym is_p)
-      (in_here s is_pair who origin hosts m moments story run (k e f).0 (k e f).1 tie there))
-  by false c e f = in_away_among s is_pair who h p origin m moments (inl e) among
-  by true false e f = in_away_among s is_pair who h p origin m moments (inr f) among
+      let there : Among s is_pair who m.flow.destination m.flow.source origin hosts moments =
+      subst (λ (y : Host). Among s is_pair who m.flow.destination y origin hosts moments) is_p (subst (λ (y : Host). Among s is_pair who y p origin hosts moments) is_h among) in
+      subst (λ (y : Host). Among s is_pair who y p origin hosts (Crossed (crossing.In m) ∷ moments)) (sym is_h)
+      (subst (λ (y : Host). Among s is_pair who m.flow.destination y origin hosts (Crossed (crossing.In m) ∷ moments)) (sym is_p)
+      (in_here s is_pair who origin hosts m moments our story run (k our e f).0 (k our e f).1 tie there))
+  by false c e f = in_away_among s is_pair who h p origin hosts ours m moments (inl e) among
+  by true false e f = in_away_among s is_pair who h p origin hosts ours m moments (inr f) among

@@ -16,6 +16,7 @@ use Rattle.world_keeps_pairing.proofs.Moves.{hears_end}
 use Rattle.world_keeps_pairing.proofs.Programs.{AnRrp, AnRst, AText, Has, Sort, after_text, in_has, plain_joint, sort_of}
 use Rattle.world_keeps_pairing.proofs.Turns.{IsQuiet, heard_is, other, ready_is, tie_by, tie_quiet, tie_reset}
 use Rattle.world_keeps_pairing.proofs.Moments.{Side_of, Tie, in_away, waiting}
+use Rattle.reset_law.specs.Network.{AreOurs, Network}
 
 pub are_same : (x y : Host) → are x y x y ≡ true
 are_same x y = ap (λ (b : Bool). b && same_host y y) (same_host-refl x) ∙ same_host-refl y
@@ -24,7 +25,7 @@ pub heard_off : (b z : Bool) (T : List (List Bool)) → z ≡ false → (if b &&
 heard_off true z T e = rw e refl
 heard_off false z T e = refl
 
-module _ (s : Sockets) (is_pair : IsPair s) (who : Who) (origin : ℕ → ℕ) (hosts : List Host) (m : HostMessage) (moments : List Moment) (story : IsStory (Crossed (crossing.In m) ∷ moments)) (run : IsRun hosts (events_of (Crossed (crossing.In m) ∷ moments))) where
+module _ (s : Sockets) (is_pair : IsPair s) (who : Who) (origin : ℕ → ℕ) (hosts : Network) (m : HostMessage) (moments : List Moment) (ours : AreOurs hosts m.flow.source m.flow.destination) (story : IsStory hosts (Crossed (crossing.In m) ∷ moments)) (run : IsRun hosts (events_of (Crossed (crossing.In m) ∷ moments))) where
   abbrev h : Host
   h = m.flow.destination
 
@@ -68,7 +69,7 @@ module _ (s : Sockets) (is_pair : IsPair s) (who : Who) (origin : ℕ → ℕ) (
   boxed_is n e = ap (λ (b : Box). with_box b (message_on m.flow.link.0 m.text)) place_in.1 ∙ ap (with_place place_in.0) e
 
   ready_now : (n : Message) → boxed ≡ n → IsReady n
-  ready_now n e = subst (λ (y : Message). IsReady y) e (ready_is m.flow.destination m.flow.source (Crossed (crossing.In m) ∷ moments) story)
+  ready_now n e = subst (λ (y : Message). IsReady y) e (ready_is hosts m.flow.destination m.flow.source (Crossed (crossing.In m) ∷ moments) (ours.1, ours.0) story)
 
   as_boxed : (n : Message) → boxed ≡ n → After n → Tie s is_pair who m.flow.destination m.flow.source origin (Crossed (crossing.In m) ∷ moments)
   as_boxed n e k = subst (λ (y : Message). After y) (sym e) k
@@ -96,10 +97,10 @@ module _ (s : Sockets) (is_pair : IsPair s) (who : Who) (origin : ℕ → ℕ) (
   -- where the host is through a reset it stays, and where it isn't it doesn't
   pub stays_as : (place : ℕ) → boxed ≡ Other (tagged place m.text) → (b : Bool) → program_phases.is_ready (pair_with m.flow.source (program m.flow.destination moments).peers).phase ≡ b
       → stay.stays m.flow.destination m.flow.source old ≡ b
-  stays_as place e b r = by b (ready_is m.flow.destination m.flow.source moments story.1 ∙ r) where
+  stays_as place e b r = by b (ready_is hosts m.flow.destination m.flow.source moments (ours.1, ours.0) story.1 ∙ r) where
     by : (b : Bool) → stay.ready m.flow.destination m.flow.source old ≡ b → stay.stays m.flow.destination m.flow.source old ≡ b
     by true ready =
-        takes_in_stay hosts old m.flow.source m.flow.destination m.flow.link.0 (tagged place m.text)
+        takes_in_stay hosts old m.flow.source m.flow.destination m.flow.link.0 (tagged place m.text) ours
         (subst (λ (n : Message). IsRun hosts (In m.flow.source m.flow.destination m.flow.link.0 n ∷ old)) e (placed_run hosts (events_of (Crossed (crossing.In m) ∷ moments)) run))
         (ready_phase (pair m.flow.destination m.flow.source old).phase ready)
     by false ready = none (stay.stays m.flow.destination m.flow.source old) refl where
@@ -120,7 +121,7 @@ module _ (s : Sockets) (is_pair : IsPair s) (who : Who) (origin : ℕ → ℕ) (
   own_is = ap (λ (y : Host). same_host y m.flow.destination) (program_own m.flow.destination moments) ∙ same_host-refl m.flow.destination
 
   pub joint_now : (m.flow.link.0 == 0) ≡ true → message_on m.flow.link.0 m.text ≡ Other m.text → AreJoint (orders_of m.text)
-  joint_now zero is = plain_joint (orders_of m.text) (subst (λ (n : Message). IsApart m.flow.link.0 m.text n) is story.0 zero)
+  joint_now zero is = plain_joint (orders_of m.text) (subst (λ (n : Message). IsApart m.flow.link.0 m.text n) is (story.0 ours) zero)
 
   by_sort : Hears → IsFrom → (m.flow.link.0 == 0) ≡ true → Sort m.flow.link.0 m.text
       → Has origin (own_of who s) (foreign_of who s) m.flow.source acc
@@ -164,7 +165,7 @@ module _ (s : Sockets) (is_pair : IsPair s) (who : Who) (origin : ℕ → ℕ) (
   in_matched hears from t = by (m.flow.link.0 == 0) refl where
     taken : (z : Bool) → (m.flow.link.0 == 0) ≡ z → Has origin (own_of who s) (foreign_of who s) m.flow.source acc
         (if z then after_text origin (own_of who s) (foreign_of who s) (origin (places moments)) (program_phases.is_ready (pair_with m.flow.source (program m.flow.destination moments).peers).phase) (message_on m.flow.link.0 m.text) (orders_of m.text) x0.end else x0.end)
-    taken z e = in_has origin (own_of who s) (foreign_of who s) (program m.flow.destination moments) m (places moments) x0.end own_is story.0 hears t z e
+    taken z e = in_has origin (own_of who s) (foreign_of who s) (program m.flow.destination moments) m (places moments) x0.end own_is (story.0 ours) hears t z e
 
     by : (z : Bool) → (m.flow.link.0 == 0) ≡ z → Tie s is_pair who m.flow.destination m.flow.source origin (Crossed (crossing.In m) ∷ moments)
     by true zero = by_sort hears from zero (sort_of m.flow.link.0 m.text) (taken true zero)
@@ -175,18 +176,19 @@ module _ (s : Sockets) (is_pair : IsPair s) (who : Who) (origin : ℕ → ℕ) (
         (has_now x0.end (taken false away))
 
 -- any message that is taken
-pub in_turn : (s : Sockets) (is_pair : IsPair s) (who : Who) (h p : Host) (origin : ℕ → ℕ) (hosts : List Host) (m : HostMessage) (moments : List Moment) (story : IsStory (Crossed (crossing.In m) ∷ moments)) (run : IsRun hosts (events_of (Crossed (crossing.In m) ∷ moments)))
-    → (same_host h m.flow.destination ≡ true → same_host p m.flow.source ≡ true → Hears s is_pair who origin hosts m moments story run × IsFrom s is_pair who origin hosts m moments story run)
+pub in_turn : (s : Sockets) (is_pair : IsPair s) (who : Who) (h p : Host) (origin : ℕ → ℕ) (hosts : Network) (m : HostMessage) (moments : List Moment) (ours : AreOurs hosts h p) (story : IsStory hosts (Crossed (crossing.In m) ∷ moments)) (run : IsRun hosts (events_of (Crossed (crossing.In m) ∷ moments)))
+    → ((our : AreOurs hosts m.flow.source m.flow.destination) → same_host h m.flow.destination ≡ true → same_host p m.flow.source ≡ true → Hears s is_pair who origin hosts m moments our story run × IsFrom s is_pair who origin hosts m moments our story run)
     → Tie s is_pair who h p origin moments → Tie s is_pair who h p origin (Crossed (crossing.In m) ∷ moments)
-in_turn s is_pair who h p origin hosts m moments story run k t = by (same_host h m.flow.destination) (same_host p m.flow.source) refl refl where
+in_turn s is_pair who h p origin hosts m moments ours story run k t = by (same_host h m.flow.destination) (same_host p m.flow.source) refl refl where
   by : (b c : Bool) → same_host h m.flow.destination ≡ b → same_host p m.flow.source ≡ c → Tie s is_pair who h p origin (Crossed (crossing.In m) ∷ moments)
   by true true e f =
       let is_h : h ≡ m.flow.destination = same_host-true h m.flow.destination e in
       let is_p : p ≡ m.flow.source = same_host-true p m.flow.source f in
+      let our : AreOurs hosts m.flow.source m.flow.destination = (subst (λ (y : Host). hosts.strange y ≡ false) is_p ours.1, subst (λ (y : Host). hosts.strange y ≡ false) is_h ours.0) in
       let there : Tie s is_pair who m.flow.destination m.flow.source origin moments =
       subst (λ (y : Host). Tie s is_pair who m.flow.destination y origin moments) is_p (subst (λ (y : Host). Tie s is_pair who y p origin moments) is_h t) in
       subst (λ (y : Host). Tie s is_pair who y p origin (Crossed (crossing.In m) ∷ moments)) (sym is_h)
       (subst (λ (y : Host). Tie s is_pair who m.flow.destination y origin (Crossed (crossing.In m) ∷ moments)) (sym is_p)
-      (in_matched s is_pair who origin hosts m moments story run (k e f).0 (k e f).1 there))
-  by false c e f = in_away s is_pair who h p origin m moments story (inl e) t
-  by true false e f = in_away s is_pair who h p origin m moments story (inr f) t
+      (in_matched s is_pair who origin hosts m moments our story run (k our e f).0 (k our e f).1 there))
+  by false c e f = in_away s is_pair who h p origin hosts ours m moments story (inl e) t
+  by true false e f = in_away s is_pair who h p origin hosts ours m moments story (inr f) t

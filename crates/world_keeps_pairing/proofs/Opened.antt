@@ -4,7 +4,7 @@ use Rattle.interface.specs.declared.crossing.Crossing.TheVariants as crossing
 use Rattle.interface.specs.declared.crossing.Inbound.TheVariants as inbound
 use Rattle.pairing_law.specs.Sides.{Life, lives_taken}
 use Rattle.reset_law.specs.Stays as stay
-use Rattle.net_sim.specs.Told.{kept_in}
+use Rattle.net_sim.specs.Mixed.{mixed_kept}
 use Rattle.world_keeps_pairing.proofs.Books.{about_none, about_other, about_peer, all_of_peer, asked_none, kept_step}
 use Rattle.world_keeps_pairing.proofs.LinkRun.{heard_off_in}
 use Rattle.world_keeps_pairing.proofs.Marks.{IsPair, foreign_of, own_of}
@@ -12,6 +12,7 @@ use Rattle.world_keeps_pairing.proofs.Moments.{Side_of, Tie, place_is, said_out,
 use Rattle.world_keeps_pairing.proofs.Programs.{Has, goes_marks, read_marks}
 use Rattle.world_keeps_pairing.proofs.Sides.{all_hears, all_says, at_texts, before, hears_if, left_if, met_if}
 use Rattle.world_keeps_pairing.proofs.Turns.{other, said_is, when_all}
+use Rattle.reset_law.specs.Network.{AreOurs, Network}
 
 -- ---- lives of a side
 
@@ -39,18 +40,18 @@ met_lives : (begin : Bool) (x : Side) → (met_if begin x).lives ≡ x.lives
 met_lives true x = refl
 met_lives false x = refl
 
-module _ (s : Sockets) (is_pair : IsPair s) (who : Who) (h p : Host) (origin : ℕ → ℕ) where
+module _ (s : Sockets) (is_pair : IsPair s) (who : Who) (h p : Host) (origin : ℕ → ℕ) (hosts : Network) where
   -- the lives of the book at these two sockets
   abbrev pub Lives_of : List Moment → List Life
-  Lives_of moments = with_lives origin h p (own_of who s) (foreign_of who s) (kept_in moments).book.lives []
+  Lives_of moments = with_lives origin h p (own_of who s) (foreign_of who s) (mixed_kept hosts.strange moments).book.lives []
 
   -- they are some of those that the law says
   abbrev pub Among : List Moment → Type 0
-  Among moments = AreAmong (with_lives origin h p (own_of who s) (foreign_of who s) (kept_in moments).book.lives []) (Side_of s is_pair who h p origin moments).lives
+  Among moments = AreAmong (with_lives origin h p (own_of who s) (foreign_of who s) (mixed_kept hosts.strange moments).book.lives []) (Side_of s is_pair who h p origin moments).lives
 
   -- what is reported by a moment, added to older ones
   abbrev pub Now : Moment → List Moment → List Life
-  Now x moments = all_of_peer origin h p (own_of who s) (foreign_of who s) (notices_by x moments) (with_lives origin h p (own_of who s) (foreign_of who s) (kept_in moments).book.lives [])
+  Now x moments = all_of_peer origin h p (own_of who s) (foreign_of who s) (notices_by x moments) (with_lives origin h p (own_of who s) (foreign_of who s) (mixed_kept hosts.strange moments).book.lives [])
 
   -- what the law says by an event
   abbrev pub After : Event → List Moment → List Life
@@ -62,120 +63,121 @@ module _ (s : Sockets) (is_pair : IsPair s) (who : Who) (h p : Host) (origin : �
       let y : Side = hears_if (stay.stays h p (law_events moments)) (at_texts s (other who) (stay.heard_by p h 0 e)) (all_says (at_texts s who (stay.said_by h p 0 e)) (Side_of s is_pair who h p origin moments)) in
       met_lives (stay.begins h p e (law_events moments)) (left_if (keeps h p e (law_events moments)) y) ∙ left_lives (keeps h p e (law_events moments)) y
 
-  pub by_lives : (x : Moment) (moments : List Moment) (more : List Life) → After (placed_event (event_in x) (events_of moments)) moments ≡ more
-      → AreAmong (if same_host h (host_in x) then Now x moments else Lives_of moments) more → Among (x ∷ moments)
-  by_lives x moments more is k =
-      subst (λ (l : List Life). AreAmong (with_lives origin h p (own_of who s) (foreign_of who s) (kept_in (x ∷ moments)).book.lives []) l) (sym (side_lives (placed_event (event_in x) (events_of moments)) moments ∙ is))
-      (subst (λ (l : List Life). AreAmong l more) (sym (kept_step origin h p (own_of who s) (foreign_of who s) x moments)) k)
+  module _ (ours : AreOurs hosts h p) where
+    pub by_lives : (x : Moment) (moments : List Moment) (more : List Life) → After (placed_event (event_in x) (events_of moments)) moments ≡ more
+        → AreAmong (if same_host h (host_in x) then Now x moments else Lives_of moments) more → Among (x ∷ moments)
+    by_lives x moments more is k =
+        subst (λ (l : List Life). AreAmong (with_lives origin h p (own_of who s) (foreign_of who s) (mixed_kept hosts.strange (x ∷ moments)).book.lives []) l) (sym (side_lives (placed_event (event_in x) (events_of moments)) moments ∙ is))
+        (subst (λ (l : List Life). AreAmong l more) (sym (kept_step origin h p (own_of who s) (foreign_of who s) hosts ours.0 x moments)) k)
 
-  -- ---- moments by which nothing is said or heard
+    -- ---- moments by which nothing is said or heard
 
-  quiet_lives : (e : Event) (moments : List Moment) → stay.said_by h p 0 e ≡ [] → stay.heard_by p h 0 e ≡ [] → After e moments ≡ (Side_of s is_pair who h p origin moments).lives
-  quiet_lives e moments said heard =
-      let b : Bool = stay.stays h p (law_events moments) in
-      let x : Side = Side_of s is_pair who h p origin moments in
-      ap (λ (ts : List (List Bool)). (hears_if b (at_texts s (other who) (stay.heard_by p h 0 e)) (all_says (at_texts s who ts) x)).lives) said
-      ∙ ap (λ (ts : List (List Bool)). (hears_if b (at_texts s (other who) ts) x).lives) heard
-      ∙ hears_no_lives b x
+    quiet_lives : (e : Event) (moments : List Moment) → stay.said_by h p 0 e ≡ [] → stay.heard_by p h 0 e ≡ [] → After e moments ≡ (Side_of s is_pair who h p origin moments).lives
+    quiet_lives e moments said heard =
+        let b : Bool = stay.stays h p (law_events moments) in
+        let x : Side = Side_of s is_pair who h p origin moments in
+        ap (λ (ts : List (List Bool)). (hears_if b (at_texts s (other who) (stay.heard_by p h 0 e)) (all_says (at_texts s who ts) x)).lives) said
+        ∙ ap (λ (ts : List (List Bool)). (hears_if b (at_texts s (other who) ts) x).lives) heard
+        ∙ hears_no_lives b x
 
-  same_if : (b : Bool) (now old lives : List Life) → (b ≡ true → now ≡ old) → AreAmong old lives → AreAmong (if b then now else old) lives
-  same_if true now old lives same k = subst (λ (l : List Life). AreAmong l lives) (sym (same refl)) k
-  same_if false now old lives same k = k
+    same_if : (b : Bool) (now old lives : List Life) → (b ≡ true → now ≡ old) → AreAmong old lives → AreAmong (if b then now else old) lives
+    same_if true now old lives same k = subst (λ (l : List Life). AreAmong l lives) (sym (same refl)) k
+    same_if false now old lives same k = k
 
-  quiet_among : (x : Moment) (moments : List Moment) → stay.said_by h p 0 (placed_event (event_in x) (events_of moments)) ≡ [] → stay.heard_by p h 0 (placed_event (event_in x) (events_of moments)) ≡ []
-      → (same_host h (host_in x) ≡ true → Now x moments ≡ Lives_of moments) → Among moments → Among (x ∷ moments)
-  quiet_among x moments said heard same k =
-      by_lives x moments (Side_of s is_pair who h p origin moments).lives (quiet_lives (placed_event (event_in x) (events_of moments)) moments said heard)
-      (same_if (same_host h (host_in x)) (Now x moments) (Lives_of moments) (Side_of s is_pair who h p origin moments).lives same k)
+    quiet_among : (x : Moment) (moments : List Moment) → stay.said_by h p 0 (placed_event (event_in x) (events_of moments)) ≡ [] → stay.heard_by p h 0 (placed_event (event_in x) (events_of moments)) ≡ []
+        → (same_host h (host_in x) ≡ true → Now x moments ≡ Lives_of moments) → Among moments → Among (x ∷ moments)
+    quiet_among x moments said heard same k =
+        by_lives x moments (Side_of s is_pair who h p origin moments).lives (quiet_lives (placed_event (event_in x) (events_of moments)) moments said heard)
+        (same_if (same_host h (host_in x)) (Now x moments) (Lives_of moments) (Side_of s is_pair who h p origin moments).lives same k)
 
-  pub down_among : (g : Host) (moments : List Moment) → Among moments → Among (Crossed (crossing.Down g) ∷ moments)
-  down_among g moments k = quiet_among (Crossed (crossing.Down g)) moments refl refl (λ e. refl) k
+    pub down_among : (g : Host) (moments : List Moment) → Among moments → Among (Crossed (crossing.Down g) ∷ moments)
+    down_among g moments k = quiet_among (Crossed (crossing.Down g)) moments refl refl (λ e. refl) k
 
-  pub up_among : (g : Host) (moments : List Moment) → Among moments → Among (Crossed (crossing.Up g) ∷ moments)
-  up_among g moments k = quiet_among (Crossed (crossing.Up g)) moments refl refl (λ e. refl) k
+    pub up_among : (g : Host) (moments : List Moment) → Among moments → Among (Crossed (crossing.Up g) ∷ moments)
+    up_among g moments k = quiet_among (Crossed (crossing.Up g)) moments refl refl (λ e. refl) k
 
-  pub answer_among : (kind : Answer) (f : Flow) (moments : List Moment) → Among moments → Among (Crossed (crossing.Answer kind f) ∷ moments)
-  answer_among kind f moments k =
-      quiet_among (Crossed (crossing.Answer kind f)) moments refl refl
-      (λ e. about_none origin h p (own_of who s) (foreign_of who s) f.destination (accepted (program f.source moments) (inbound.Answer kind f) (places moments)).1 (Lives_of moments)
-      (answer_about (program f.source moments) kind f (places moments)) (answer_other origin (own_of who s) (foreign_of who s) (program f.source moments) kind f (places moments) (Lives_of moments))) k
+    pub answer_among : (kind : Answer) (f : Flow) (moments : List Moment) → Among moments → Among (Crossed (crossing.Answer kind f) ∷ moments)
+    answer_among kind f moments k =
+        quiet_among (Crossed (crossing.Answer kind f)) moments refl refl
+        (λ e. about_none origin h p (own_of who s) (foreign_of who s) f.destination (accepted (program f.source moments) (inbound.Answer kind f) (places moments)).1 (Lives_of moments)
+        (answer_about (program f.source moments) kind f (places moments)) (answer_other origin (own_of who s) (foreign_of who s) (program f.source moments) kind f (places moments) (Lives_of moments))) k
 
-  pub asked_among : (g : Host) (r : Request) (moments : List Moment) → Among moments → Among (Asked g r ∷ moments)
-  asked_among g r moments k =
-      quiet_among (Asked g r) moments
-      (by_request (λ e. stay.said_by h p 0 (placed_event e (events_of moments)) ≡ []) g r (λ peer. refl) refl)
-      (by_request (λ e. stay.heard_by p h 0 (placed_event e (events_of moments)) ≡ []) g r (λ peer. refl) refl)
-      (λ e. asked_none origin h p (own_of who s) (foreign_of who s) (program g moments) r (Lives_of moments)) k
+    pub asked_among : (g : Host) (r : Request) (moments : List Moment) → Among moments → Among (Asked g r ∷ moments)
+    asked_among g r moments k =
+        quiet_among (Asked g r) moments
+        (by_request (λ e. stay.said_by h p 0 (placed_event e (events_of moments)) ≡ []) g r (λ peer. refl) refl)
+        (by_request (λ e. stay.heard_by p h 0 (placed_event e (events_of moments)) ≡ []) g r (λ peer. refl) refl)
+        (λ e. asked_none origin h p (own_of who s) (foreign_of who s) (program g moments) r (Lives_of moments)) k
 
-  -- ---- what goes out
+    -- ---- what goes out
 
-  out_lives : (m : HostMessage) (moments : List Moment) → After (placed_event (event_of (crossing.Out m)) (events_of moments)) moments
-      ≡ all_lives_gone (said_out s is_pair who h p origin m moments) (Side_of s is_pair who h p origin moments).end (Side_of s is_pair who h p origin moments).lives
-  out_lives m moments =
-      let e : Event = placed_event (event_of (crossing.Out m)) (events_of moments) in
-      let x : Side = Side_of s is_pair who h p origin moments in
-      hears_no_lives (stay.stays h p (law_events moments)) (all_says (at_texts s who (stay.said_by h p 0 (placed_event (event_of (crossing.Out m)) (events_of moments)))) (Side_of s is_pair who h p origin moments))
-      ∙ says_lives (at_texts s who (stay.said_by h p 0 (placed_event (event_of (crossing.Out m)) (events_of moments)))) (Side_of s is_pair who h p origin moments)
-      ∙ ap (λ (ms : List Mark). all_lives_gone ms (Side_of s is_pair who h p origin moments).end (Side_of s is_pair who h p origin moments).lives)
-      (said_is s is_pair who h p m.flow.source m.flow.destination m.flow.link.0 (place (events_of moments)) m.text)
+    out_lives : (m : HostMessage) (moments : List Moment) → After (placed_event (event_of (crossing.Out m)) (events_of moments)) moments
+        ≡ all_lives_gone (said_out s is_pair who h p origin m moments) (Side_of s is_pair who h p origin moments).end (Side_of s is_pair who h p origin moments).lives
+    out_lives m moments =
+        let e : Event = placed_event (event_of (crossing.Out m)) (events_of moments) in
+        let x : Side = Side_of s is_pair who h p origin moments in
+        hears_no_lives (stay.stays h p (law_events moments)) (all_says (at_texts s who (stay.said_by h p 0 (placed_event (event_of (crossing.Out m)) (events_of moments)))) (Side_of s is_pair who h p origin moments))
+        ∙ says_lives (at_texts s who (stay.said_by h p 0 (placed_event (event_of (crossing.Out m)) (events_of moments)))) (Side_of s is_pair who h p origin moments)
+        ∙ ap (λ (ms : List Mark). all_lives_gone ms (Side_of s is_pair who h p origin moments).end (Side_of s is_pair who h p origin moments).lives)
+        (said_is s is_pair who h p m.flow.source m.flow.destination m.flow.link.0 (place (events_of moments)) m.text)
 
-  out_told : (m : HostMessage) (moments : List Moment) → IsStory moments → IsNext (program h moments) m → IsRanged (program h moments) → Tie s is_pair who h p origin moments → Among moments → same_host p m.flow.destination ≡ true
-      → AreAmong (all_of_peer origin h p (own_of who s) (foreign_of who s) (offered (program h moments) (places moments)).1 (Lives_of moments))
-      (all_lives_gone (read_marks (places moments) (own_of who s) (foreign_of who s) m.flow.link.0 m.text) (Side_of s is_pair who h p origin moments).end (Side_of s is_pair who h p origin moments).lives)
-  out_told m moments story n ranged t k same =
-      let to : same_host p n.peer.host ≡ true = ap (λ (y : HostMessage). same_host p y.flow.destination) (sym n.message) ∙ same in
-      let there : Has origin (own_of who s) (foreign_of who s) n.peer.host (program h moments) (Side_of s is_pair who h p origin moments).end =
-      subst (λ (y : Host). Has origin (own_of who s) (foreign_of who s) y (program h moments) (Side_of s is_pair who h p origin moments).end) (same_host-true p n.peer.host to) t in
-      let tells : AreAmong (with_openings origin (own_of who s) (foreign_of who s) (offered (program h moments) (places moments)).1 (Lives_of moments))
-      (all_lives_gone (marks (places moments) (own_of who s) (foreign_of who s) (commands_of n.peer.pair n.parcel)) (Side_of s is_pair who h p origin moments).end (Side_of s is_pair who h p origin moments).lives) =
-      offer_tells origin (own_of who s) (foreign_of who s) (program h moments) (places moments) n.peer n.parcel (Side_of s is_pair who h p origin moments).end (Lives_of moments) (Side_of s is_pair who h p origin moments).lives n.order n.next there k in
-      subst (λ (y : HostMessage). AreAmong (all_of_peer origin h p (own_of who s) (foreign_of who s) (offered (program h moments) (places moments)).1 (Lives_of moments))
-      (all_lives_gone (read_marks (places moments) (own_of who s) (foreign_of who s) y.flow.link.0 y.text) (Side_of s is_pair who h p origin moments).end (Side_of s is_pair who h p origin moments).lives)) (sym n.message)
-      (subst (λ (ms : List Mark). AreAmong (all_of_peer origin h p (own_of who s) (foreign_of who s) (offered (program h moments) (places moments)).1 (Lives_of moments))
-      (all_lives_gone ms (Side_of s is_pair who h p origin moments).end (Side_of s is_pair who h p origin moments).lives))
-      (goes_marks origin (own_of who s) (foreign_of who s) (program h moments) (places moments) n.peer n.parcel (pair h n.peer.host (events_of moments)) n.order n.next ranged (story_agrees moments h n.peer.host story))
-      (subst (λ (l : List Life). AreAmong l (all_lives_gone (marks (places moments) (own_of who s) (foreign_of who s) (commands_of n.peer.pair n.parcel)) (Side_of s is_pair who h p origin moments).end (Side_of s is_pair who h p origin moments).lives))
-      (sym (about_peer origin h p (own_of who s) (foreign_of who s) n.peer.host (offered (program h moments) (places moments)).1 (Lives_of moments) (offer_about (program h moments) (places moments) n.peer n.parcel n.next) to)) tells))
+    out_told : (m : HostMessage) (moments : List Moment) → IsStory hosts moments → IsNext (program h moments) m → IsRanged (program h moments) → Tie s is_pair who h p origin moments → Among moments → same_host p m.flow.destination ≡ true
+        → AreAmong (all_of_peer origin h p (own_of who s) (foreign_of who s) (offered (program h moments) (places moments)).1 (Lives_of moments))
+        (all_lives_gone (read_marks (places moments) (own_of who s) (foreign_of who s) m.flow.link.0 m.text) (Side_of s is_pair who h p origin moments).end (Side_of s is_pair who h p origin moments).lives)
+    out_told m moments story n ranged t k same =
+        let to : same_host p n.peer.host ≡ true = ap (λ (y : HostMessage). same_host p y.flow.destination) (sym n.message) ∙ same in
+        let there : Has origin (own_of who s) (foreign_of who s) n.peer.host (program h moments) (Side_of s is_pair who h p origin moments).end =
+        subst (λ (y : Host). Has origin (own_of who s) (foreign_of who s) y (program h moments) (Side_of s is_pair who h p origin moments).end) (same_host-true p n.peer.host to) t in
+        let tells : AreAmong (with_openings origin (own_of who s) (foreign_of who s) (offered (program h moments) (places moments)).1 (Lives_of moments))
+        (all_lives_gone (marks (places moments) (own_of who s) (foreign_of who s) (commands_of n.peer.pair n.parcel)) (Side_of s is_pair who h p origin moments).end (Side_of s is_pair who h p origin moments).lives) =
+        offer_tells origin (own_of who s) (foreign_of who s) (program h moments) (places moments) n.peer n.parcel (Side_of s is_pair who h p origin moments).end (Lives_of moments) (Side_of s is_pair who h p origin moments).lives n.order n.next there k in
+        subst (λ (y : HostMessage). AreAmong (all_of_peer origin h p (own_of who s) (foreign_of who s) (offered (program h moments) (places moments)).1 (Lives_of moments))
+        (all_lives_gone (read_marks (places moments) (own_of who s) (foreign_of who s) y.flow.link.0 y.text) (Side_of s is_pair who h p origin moments).end (Side_of s is_pair who h p origin moments).lives)) (sym n.message)
+        (subst (λ (ms : List Mark). AreAmong (all_of_peer origin h p (own_of who s) (foreign_of who s) (offered (program h moments) (places moments)).1 (Lives_of moments))
+        (all_lives_gone ms (Side_of s is_pair who h p origin moments).end (Side_of s is_pair who h p origin moments).lives))
+        (goes_marks origin (own_of who s) (foreign_of who s) (program h moments) (places moments) n.peer n.parcel (pair h n.peer.host (events_of moments)) n.order n.next ranged (story_agrees hosts moments h n.peer.host (ours.0, subst (λ (y : Host). hosts.strange y ≡ false) (same_host-true p n.peer.host to) ours.1) story))
+        (subst (λ (l : List Life). AreAmong l (all_lives_gone (marks (places moments) (own_of who s) (foreign_of who s) (commands_of n.peer.pair n.parcel)) (Side_of s is_pair who h p origin moments).end (Side_of s is_pair who h p origin moments).lives))
+        (sym (about_peer origin h p (own_of who s) (foreign_of who s) n.peer.host (offered (program h moments) (places moments)).1 (Lives_of moments) (offer_about (program h moments) (places moments) n.peer n.parcel n.next) to)) tells))
 
-  out_by : (b c : Bool) (ms : List Mark) (x : End) (now old lives : List Life) → (b ≡ true → c ≡ true → AreAmong now (all_lives_gone ms x lives)) → (b ≡ true → c ≡ false → now ≡ old) → AreAmong old lives
-      → AreAmong (if b then now else old) (all_lives_gone (when_all b c ms) x lives)
-  out_by true true ms x now old lives new same k = new refl refl
-  out_by true false ms x now old lives new same k = subst (λ (l : List Life). AreAmong l lives) (sym (same refl refl)) k
-  out_by false c ms x now old lives new same k = k
+    out_by : (b c : Bool) (ms : List Mark) (x : End) (now old lives : List Life) → (b ≡ true → c ≡ true → AreAmong now (all_lives_gone ms x lives)) → (b ≡ true → c ≡ false → now ≡ old) → AreAmong old lives
+        → AreAmong (if b then now else old) (all_lives_gone (when_all b c ms) x lives)
+    out_by true true ms x now old lives new same k = new refl refl
+    out_by true false ms x now old lives new same k = subst (λ (l : List Life). AreAmong l lives) (sym (same refl refl)) k
+    out_by false c ms x now old lives new same k = k
 
-  pub out_among : (m : HostMessage) (moments : List Moment) → IsStory (Crossed (crossing.Out m) ∷ moments) → IsRanged (program h moments) → Tie s is_pair who h p origin moments → Among moments → Among (Crossed (crossing.Out m) ∷ moments)
-  out_among m moments story ranged t k =
-      let x : Side = Side_of s is_pair who h p origin moments in
-      by_lives (Crossed (crossing.Out m)) moments
-      (all_lives_gone (when_all (same_host h m.flow.source) (same_host p m.flow.destination) (read_marks (places moments) (own_of who s) (foreign_of who s) m.flow.link.0 m.text)) (Side_of s is_pair who h p origin moments).end (Side_of s is_pair who h p origin moments).lives)
-      (out_lives m moments
-      ∙ ap (λ (n : ℕ). all_lives_gone (when_all (same_host h m.flow.source) (same_host p m.flow.destination) (read_marks n (own_of who s) (foreign_of who s) m.flow.link.0 m.text)) (Side_of s is_pair who h p origin moments).end (Side_of s is_pair who h p origin moments).lives) (place_is moments))
-      (out_by (same_host h m.flow.source) (same_host p m.flow.destination) (read_marks (places moments) (own_of who s) (foreign_of who s) m.flow.link.0 m.text) (Side_of s is_pair who h p origin moments).end
-      (Now (Crossed (crossing.Out m)) moments) (Lives_of moments) (Side_of s is_pair who h p origin moments).lives new same k) where
-        new : same_host h m.flow.source ≡ true → same_host p m.flow.destination ≡ true → AreAmong (Now (Crossed (crossing.Out m)) moments)
-            (all_lives_gone (read_marks (places moments) (own_of who s) (foreign_of who s) m.flow.link.0 m.text) (Side_of s is_pair who h p origin moments).end (Side_of s is_pair who h p origin moments).lives)
-        new e f =
-            let is : h ≡ m.flow.source = same_host-true h m.flow.source e in
-            subst (λ (y : Host). AreAmong (all_of_peer origin h p (own_of who s) (foreign_of who s) (offered (program y moments) (places moments)).1 (Lives_of moments))
-            (all_lives_gone (read_marks (places moments) (own_of who s) (foreign_of who s) m.flow.link.0 m.text) (Side_of s is_pair who h p origin moments).end (Side_of s is_pair who h p origin moments).lives)) is
-            (out_told m moments story.1 (subst (λ (y : Host). IsNext (program y moments) m) (sym is) story.0) ranged t k f)
+    pub out_among : (m : HostMessage) (moments : List Moment) → IsStory hosts (Crossed (crossing.Out m) ∷ moments) → IsRanged (program h moments) → Tie s is_pair who h p origin moments → Among moments → Among (Crossed (crossing.Out m) ∷ moments)
+    out_among m moments story ranged t k =
+        let x : Side = Side_of s is_pair who h p origin moments in
+        by_lives (Crossed (crossing.Out m)) moments
+        (all_lives_gone (when_all (same_host h m.flow.source) (same_host p m.flow.destination) (read_marks (places moments) (own_of who s) (foreign_of who s) m.flow.link.0 m.text)) (Side_of s is_pair who h p origin moments).end (Side_of s is_pair who h p origin moments).lives)
+        (out_lives m moments
+        ∙ ap (λ (n : ℕ). all_lives_gone (when_all (same_host h m.flow.source) (same_host p m.flow.destination) (read_marks n (own_of who s) (foreign_of who s) m.flow.link.0 m.text)) (Side_of s is_pair who h p origin moments).end (Side_of s is_pair who h p origin moments).lives) (place_is moments))
+        (out_by (same_host h m.flow.source) (same_host p m.flow.destination) (read_marks (places moments) (own_of who s) (foreign_of who s) m.flow.link.0 m.text) (Side_of s is_pair who h p origin moments).end
+        (Now (Crossed (crossing.Out m)) moments) (Lives_of moments) (Side_of s is_pair who h p origin moments).lives new same k) where
+          new : same_host h m.flow.source ≡ true → same_host p m.flow.destination ≡ true → AreAmong (Now (Crossed (crossing.Out m)) moments)
+              (all_lives_gone (read_marks (places moments) (own_of who s) (foreign_of who s) m.flow.link.0 m.text) (Side_of s is_pair who h p origin moments).end (Side_of s is_pair who h p origin moments).lives)
+          new e f =
+              let is : h ≡ m.flow.source = same_host-true h m.flow.source e in
+              subst (λ (y : Host). AreAmong (all_of_peer origin h p (own_of who s) (foreign_of who s) (offered (program y moments) (places moments)).1 (Lives_of moments))
+              (all_lives_gone (read_marks (places moments) (own_of who s) (foreign_of who s) m.flow.link.0 m.text) (Side_of s is_pair who h p origin moments).end (Side_of s is_pair who h p origin moments).lives)) is
+              (out_told m moments story.1 (subst (λ (y : Host). IsNext (program y moments) m) (sym is) (story.0 (subst (λ (y : Host). hosts.strange y ≡ false) is ours.0))) ranged t k f)
 
-        same : same_host h m.flow.source ≡ true → same_host p m.flow.destination ≡ false → Now (Crossed (crossing.Out m)) moments ≡ Lives_of moments
-        same e f =
-            let n : IsNext (program m.flow.source moments) m = story.0 in
-            let away : same_host p n.peer.host ≡ false = ap (λ (y : HostMessage). same_host p y.flow.destination) (sym n.message) ∙ f in
-            about_other origin h p (own_of who s) (foreign_of who s) n.peer.host (offered (program m.flow.source moments) (places moments)).1 (Lives_of moments) (offer_about (program m.flow.source moments) (places moments) n.peer n.parcel n.next) away
+          same : same_host h m.flow.source ≡ true → same_host p m.flow.destination ≡ false → Now (Crossed (crossing.Out m)) moments ≡ Lives_of moments
+          same e f =
+              let n : IsNext (program m.flow.source moments) m = story.0 (subst (λ (y : Host). hosts.strange y ≡ false) (same_host-true h m.flow.source e) ours.0) in
+              let away : same_host p n.peer.host ≡ false = ap (λ (y : HostMessage). same_host p y.flow.destination) (sym n.message) ∙ f in
+              about_other origin h p (own_of who s) (foreign_of who s) n.peer.host (offered (program m.flow.source moments) (places moments)).1 (Lives_of moments) (offer_about (program m.flow.source moments) (places moments) n.peer n.parcel n.next) away
 
-  -- ---- what comes in of others, or for others
+    -- ---- what comes in of others, or for others
 
-  pub in_away_among : (m : HostMessage) (moments : List Moment) → ((same_host h m.flow.destination ≡ false) ⊎ (same_host p m.flow.source ≡ false)) → Among moments → Among (Crossed (crossing.In m) ∷ moments)
-  in_away_among m moments away k =
-      quiet_among (Crossed (crossing.In m)) moments refl
-      (heard_off_in h p m.flow.source m.flow.destination m.flow.link.0 (with_box (boxes m.flow.source m.flow.destination (events_of moments) m.flow.link.0) (message_on m.flow.link.0 m.text))
-      (swap_off s is_pair who h p origin (same_host h m.flow.destination) (same_host p m.flow.source) away))
-      (λ here. elim away [
-        | inl not_here ↦ absurd (let both : true ≡ false = sym here ∙ not_here in cc)
-        | inr not_there ↦
-            about_other origin h p (own_of who s) (foreign_of who s) m.flow.source (accepted (program m.flow.destination moments) (inbound.Message m) (places moments)).1 (Lives_of moments)
-            (message_about (program m.flow.destination moments) m (places moments)) not_there
-      ]) k
+    pub in_away_among : (m : HostMessage) (moments : List Moment) → ((same_host h m.flow.destination ≡ false) ⊎ (same_host p m.flow.source ≡ false)) → Among moments → Among (Crossed (crossing.In m) ∷ moments)
+    in_away_among m moments away k =
+        quiet_among (Crossed (crossing.In m)) moments refl
+        (heard_off_in h p m.flow.source m.flow.destination m.flow.link.0 (with_box (boxes m.flow.source m.flow.destination (events_of moments) m.flow.link.0) (message_on m.flow.link.0 m.text))
+        (swap_off s is_pair who h p origin (same_host h m.flow.destination) (same_host p m.flow.source) away))
+        (λ here. elim away [
+          | inl not_here ↦ absurd (let both : true ≡ false = sym here ∙ not_here in cc)
+          | inr not_there ↦
+              about_other origin h p (own_of who s) (foreign_of who s) m.flow.source (accepted (program m.flow.destination moments) (inbound.Message m) (places moments)).1 (Lives_of moments)
+              (message_about (program m.flow.destination moments) m (places moments)) not_there
+        ]) k

@@ -1,5 +1,5 @@
 -- Where a message that is taken went out, by the book; and two programs that start.
-use Rattle.world_keeps_pairing.proofs.Common.{◌≡◌, ℕ, ◌+◌, ◌-◌, Bool, List, [], ◌∷◌, ◌++◌, length, drop, Some, ap, sym, ◌∙◌, arith, eqb-true, append_assoc, Host, Flow, Crossing, HostMessage, Box, Empty, Waiting, Taken, Message, Receiver, Sender, message_on, control_flow, last_out, Moment, Crossed, Asked, places, crossings_of, places_same, opening_has, origin_or, place_or}
+use Rattle.world_keeps_pairing.proofs.Common.{false, ◌≡◌, ℕ, ◌+◌, ◌-◌, Bool, List, [], ◌∷◌, ◌++◌, length, drop, Some, ap, sym, ◌∙◌, arith, eqb-true, append_assoc, Host, Flow, Crossing, HostMessage, Box, Empty, Waiting, Taken, Message, Receiver, Sender, message_on, control_flow, last_out, Moment, Crossed, Asked, places, crossings_of, places_same, opening_has, origin_or, place_or}
 use Rattle.std.proofs.Math.Seq.{drop-append_seam}
 use Rattle.std.proofs.lemmas.List.{length-append}
 use Rattle.interface.specs.Mailboxes as mail
@@ -10,6 +10,7 @@ use Rattle.net_sim.proofs.lemmas.{box_same, flow_of, waiting_out}
 use Rattle.world_keeps_pairing.proofs.Served.{AreServed}
 use Rattle.world_keeps_pairing.proofs.Marks.{foreign_of, own_of}
 use Rattle.world_keeps_pairing.proofs.Tied.{AreOrigins, IsOrigin, Tied}
+use Rattle.reset_law.specs.Network.{Network}
 
 -- ---- the crossings before a place
 
@@ -47,9 +48,9 @@ is_origin none log newer (Crossed (crossing.In m)) moments is = origin_is none l
 is_origin none log newer (Crossed c) moments is = tt
 is_origin none log newer (Asked h r) moments is = tt
 
-pub served_below : (x : Moment) (moments : List Moment) → AreServed (x ∷ moments) → AreServed moments
-served_below (Crossed c) moments served = served
-served_below (Asked h r) moments served = served.2
+pub served_below : (hosts : Network) (x : Moment) (moments : List Moment) → AreServed hosts (x ∷ moments) → AreServed hosts moments
+served_below hosts (Crossed c) moments served = served
+served_below hosts (Asked h r) moments served = served.1
 
 older_log : (log newer : List Crossing) (x : Moment) (moments : List Moment) → log ≡ newer ++ crossings_of (x ∷ moments) → (more : List Crossing) × (log ≡ more ++ crossings_of moments)
 older_log log newer (Crossed c) moments is = (newer ++ c ∷ [], is ∙ sym (append_assoc newer (c ∷ []) (crossings_of moments)))

@@ -86,13 +86,13 @@ module _ (origin : ℕ → ℕ) (own foreign : ℕ) where
   out_may s stamp g x a e next order n ranged agrees below h =
       subst (λ (ms : List Mark). MayAllGo ms e next) (goes_marks s stamp g x a order n ranged agrees) (offer_may origin own foreign s stamp g x e next order n below h)
 
-  pub out_has : (s : NcpState) (stamp : ℕ) (g : Peer) (x : Parcel) (a : Pair) (p : Host) (e : End) → AreInOrder s.peers → next_in s.peers ≡ Some (g, x) → IsRanged s → Agrees (pair_with g.host s.peers) a
+  pub out_has : (s : NcpState) (stamp : ℕ) (g : Peer) (x : Parcel) (a : Pair) (p : Host) (e : End) → AreInOrder s.peers → next_in s.peers ≡ Some (g, x) → IsRanged s → (same_host p g.host ≡ true → Agrees (pair_with g.host s.peers) a)
       → Has p s e → (c : Bool) → same_host p g.host ≡ c → Has p (offered s stamp).0 (all_gone (if c then read_marks stamp own foreign (link_for x) (text_for g.pair x) else []) e)
   out_has s stamp g x a p e order n ranged agrees h true same =
       let is : g.host ≡ p = sym (same_host-true p g.host same) in
       let there : Has g.host s e = subst (λ (y : Host). Has y s e) (sym is) h in
       let gone : Has g.host (offered s stamp).0 (all_gone (read_marks stamp own foreign (link_for x) (text_for g.pair x)) e) =
-      subst (λ (ms : List Mark). Has g.host (offered s stamp).0 (all_gone ms e)) (goes_marks s stamp g x a order n ranged agrees) (offer_says origin own foreign s stamp g x e order n there) in
+      subst (λ (ms : List Mark). Has g.host (offered s stamp).0 (all_gone ms e)) (goes_marks s stamp g x a order n ranged (agrees same)) (offer_says origin own foreign s stamp g x e order n there) in
       subst (λ (y : Host). Has y (offered s stamp).0 (all_gone (read_marks stamp own foreign (link_for x) (text_for g.pair x)) e)) is gone
   out_has s stamp g x a p e order n ranged agrees h false same = subst (λ (q : PairState). HasEnd origin own foreign q e) (sym (offer_leaves s stamp g x p n same)) h
 

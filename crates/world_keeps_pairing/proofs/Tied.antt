@@ -22,6 +22,7 @@ use Rattle.world_keeps_pairing.proofs.Programs.{AnRrp, AnRst, AText, Sort, sort_
 use Rattle.world_keeps_pairing.proofs.Turns.{heard_is}
 use Rattle.world_keeps_pairing.proofs.Messages.{Hears, IsFrom, are_same, boxed, boxed_is, in_turn, place_in, stays_as}
 use Rattle.world_keeps_pairing.proofs.Moves.{under_heard}
+use Rattle.reset_law.specs.Network.{AreOurs, Network}
 
 -- ---- what a host says may be said
 
@@ -38,27 +39,27 @@ module _ (s : Sockets) (is_pair : IsPair s) (who : Who) (h p : Host) (origin : �
   abbrev pub May : Moment → List Moment → Type 0
   May x moments = MayAllGo (said_at x moments) (Side_of s is_pair who h p origin moments).end (Side_of s is_pair who h p origin moments).next
 
-  out_may_here : (m : HostMessage) (moments : List Moment) (next : ℕ) → IsStory moments → IsNext (program h moments) m → IsRanged (program h moments) → next ≤ places moments → Tie s is_pair who h p origin moments → same_host p m.flow.destination ≡ true
+  out_may_here : (hosts : Network) → AreOurs hosts h p → (m : HostMessage) (moments : List Moment) (next : ℕ) → IsStory hosts moments → IsNext (program h moments) m → IsRanged (program h moments) → next ≤ places moments → Tie s is_pair who h p origin moments → same_host p m.flow.destination ≡ true
       → MayAllGo (read_marks (places moments) (own_of who s) (foreign_of who s) m.flow.link.0 m.text) (Side_of s is_pair who h p origin moments).end next
-  out_may_here m moments next story n ranged below t same =
+  out_may_here hosts ours m moments next story n ranged below t same =
       let to : same_host p n.peer.host ≡ true = ap (λ (y : HostMessage). same_host p y.flow.destination) (sym n.message) ∙ same in
       subst (λ (y : HostMessage). MayAllGo (read_marks (places moments) (own_of who s) (foreign_of who s) y.flow.link.0 y.text) (Side_of s is_pair who h p origin moments).end next) (sym n.message)
-      (out_may origin (own_of who s) (foreign_of who s) (program h moments) (places moments) n.peer n.parcel (pair h n.peer.host (events_of moments)) (Side_of s is_pair who h p origin moments).end next n.order n.next ranged (story_agrees moments h n.peer.host story) below
+      (out_may origin (own_of who s) (foreign_of who s) (program h moments) (places moments) n.peer n.parcel (pair h n.peer.host (events_of moments)) (Side_of s is_pair who h p origin moments).end next n.order n.next ranged (story_agrees hosts moments h n.peer.host (ours.0, subst (λ (y : Host). hosts.strange y ≡ false) (same_host-true p n.peer.host to) ours.1) story) below
       (subst (λ (y : Host). Has origin (own_of who s) (foreign_of who s) y (program h moments) (Side_of s is_pair who h p origin moments).end) (same_host-true p n.peer.host to) t))
 
-  out_may_turn : (m : HostMessage) (moments : List Moment) → IsStory (Crossed (crossing.Out m) ∷ moments) → IsRanged (program h moments) → (Side_of s is_pair who h p origin moments).next ≤ places moments → Tie s is_pair who h p origin moments → May (Crossed (crossing.Out m)) moments
-  out_may_turn m moments story ranged below t =
+  out_may_turn : (hosts : Network) → AreOurs hosts h p → (m : HostMessage) (moments : List Moment) → IsStory hosts (Crossed (crossing.Out m) ∷ moments) → IsRanged (program h moments) → (Side_of s is_pair who h p origin moments).next ≤ places moments → Tie s is_pair who h p origin moments → May (Crossed (crossing.Out m)) moments
+  out_may_turn hosts ours m moments story ranged below t =
       let all : MayAllGo (said_out s is_pair who h p origin m moments) (Side_of s is_pair who h p origin moments).end (Side_of s is_pair who h p origin moments).next =
       subst (λ (n : ℕ). MayAllGo (when_all (same_host h m.flow.source) (same_host p m.flow.destination) (read_marks n (own_of who s) (foreign_of who s) m.flow.link.0 m.text)) (Side_of s is_pair who h p origin moments).end (Side_of s is_pair who h p origin moments).next) (sym (place_is moments))
       (may_if (same_host h m.flow.source) (same_host p m.flow.destination) (read_marks (places moments) (own_of who s) (foreign_of who s) m.flow.link.0 m.text) (Side_of s is_pair who h p origin moments).end (Side_of s is_pair who h p origin moments).next
-      (λ e f. out_may_here m moments (Side_of s is_pair who h p origin moments).next story.1 (subst (λ (y : Host). IsNext (program y moments) m) (sym (same_host-true h m.flow.source e)) story.0) ranged below t f)) in
+      (λ e f. out_may_here hosts ours m moments (Side_of s is_pair who h p origin moments).next story.1 (subst (λ (y : Host). IsNext (program y moments) m) (sym (same_host-true h m.flow.source e)) (story.0 (subst (λ (y : Host). hosts.strange y ≡ false) (same_host-true h m.flow.source e) ours.0))) ranged below t f)) in
       subst (λ (ms : List Mark). MayAllGo ms (Side_of s is_pair who h p origin moments).end (Side_of s is_pair who h p origin moments).next)
       (sym (said_is s is_pair who h p m.flow.source m.flow.destination m.flow.link.0 (place (events_of moments)) m.text)) all
 
-  pub may_turn : (x : Moment) (moments : List Moment) → IsStory (x ∷ moments) → IsRanged (program h moments) → (Side_of s is_pair who h p origin moments).next ≤ places moments → Tie s is_pair who h p origin moments → May x moments
-  may_turn (Crossed (crossing.Out m)) moments story ranged below t = out_may_turn m moments story ranged below t
-  may_turn (Crossed c) moments story ranged below t = tt
-  may_turn (Asked g r) moments story ranged below t =
+  pub may_turn : (hosts : Network) → AreOurs hosts h p → (x : Moment) (moments : List Moment) → IsStory hosts (x ∷ moments) → IsRanged (program h moments) → (Side_of s is_pair who h p origin moments).next ≤ places moments → Tie s is_pair who h p origin moments → May x moments
+  may_turn hosts ours (Crossed (crossing.Out m)) moments story ranged below t = out_may_turn hosts ours m moments story ranged below t
+  may_turn hosts ours (Crossed c) moments story ranged below t = tt
+  may_turn hosts ours (Asked g r) moments story ranged below t =
       by_request (λ e. MayAllGo (at_texts s who (stay.said_by h p 0 (placed_event e (events_of moments)))) (Side_of s is_pair who h p origin moments).end (Side_of s is_pair who h p origin moments).next) g r (λ peer. tt) tt
 
   -- ---- requests go out at later places
@@ -140,24 +141,26 @@ if_ranged : (b : Bool) (t old : NcpState) → IsRanged t → IsRanged old → Is
 if_ranged true t old k h = k
 if_ranged false t old k h = h
 
-asked_ranged : (h g : Host) (r : Request) (moments : List Moment) → refusal (program g moments) r ≡ None → IsAsked r → (b : Bool) → same_host h g ≡ b → IsRanged (program h moments)
+asked_ranged : (hosts : Network) (h g : Host) (r : Request) (moments : List Moment) → (hosts.strange g ≡ false → (refusal (program g moments) r ≡ None) × IsAsked r) → hosts.strange h ≡ false → (b : Bool) → same_host h g ≡ b → IsRanged (program h moments)
     → IsRanged (if b then asks.served (program h moments) r else program h moments)
-asked_ranged h g r moments ok asked true e k = request_ranged (program h moments) r (subst (λ (y : Host). refusal (program y moments) r ≡ None) (sym (same_host-true h g e)) ok) asked k
-asked_ranged h g r moments ok asked false e k = k
+asked_ranged hosts h g r moments asks off true e k =
+    let ok : (refusal (program g moments) r ≡ None) × IsAsked r = asks (subst (λ (y : Host). hosts.strange y ≡ false) (same_host-true h g e) off) in
+    request_ranged (program h moments) r (subst (λ (y : Host). refusal (program y moments) r ≡ None) (sym (same_host-true h g e)) ok.0) ok.1 k
+asked_ranged hosts h g r moments asks off false e k = k
 
 -- what users ask for isn't refused, and has numbers of their types
-pub programs_ranged : (moments : List Moment) → AreServed moments → (h : Host) → IsRanged (program h moments)
-programs_ranged [] served h = opening_ranged h
-programs_ranged (Crossed (crossing.Out m) ∷ moments) served h = if_ranged (same_host h m.flow.source) _ _ (offer_ranged (program h moments) (places moments) (programs_ranged moments served h)) (programs_ranged moments served h)
-programs_ranged (Crossed (crossing.In m) ∷ moments) served h = if_ranged (same_host h m.flow.destination) _ _ (message_ranged (program h moments) m (places moments) (programs_ranged moments served h)) (programs_ranged moments served h)
-programs_ranged (Crossed (crossing.Answer kind f) ∷ moments) served h = if_ranged (same_host h f.source) _ _ (answer_ranged (program h moments) kind f (places moments) (programs_ranged moments served h)) (programs_ranged moments served h)
-programs_ranged (Crossed (crossing.Down g) ∷ moments) served h = if_ranged (same_host h g) _ _ (opening_ranged h) (programs_ranged moments served h)
-programs_ranged (Crossed (crossing.Up g) ∷ moments) served h = if_ranged (same_host h g) _ _ (opening_ranged h) (programs_ranged moments served h)
-programs_ranged (Asked g r ∷ moments) served h = asked_ranged h g r moments served.0 served.1 (same_host h g) refl (programs_ranged moments served.2 h)
+pub programs_ranged : (hosts : Network) (moments : List Moment) → AreServed hosts moments → (h : Host) → hosts.strange h ≡ false → IsRanged (program h moments)
+programs_ranged hosts [] served h off = opening_ranged h
+programs_ranged hosts (Crossed (crossing.Out m) ∷ moments) served h off = if_ranged (same_host h m.flow.source) _ _ (offer_ranged (program h moments) (places moments) (programs_ranged hosts moments served h off)) (programs_ranged hosts moments served h off)
+programs_ranged hosts (Crossed (crossing.In m) ∷ moments) served h off = if_ranged (same_host h m.flow.destination) _ _ (message_ranged (program h moments) m (places moments) (programs_ranged hosts moments served h off)) (programs_ranged hosts moments served h off)
+programs_ranged hosts (Crossed (crossing.Answer kind f) ∷ moments) served h off = if_ranged (same_host h f.source) _ _ (answer_ranged (program h moments) kind f (places moments) (programs_ranged hosts moments served h off)) (programs_ranged hosts moments served h off)
+programs_ranged hosts (Crossed (crossing.Down g) ∷ moments) served h off = if_ranged (same_host h g) _ _ (opening_ranged h) (programs_ranged hosts moments served h off)
+programs_ranged hosts (Crossed (crossing.Up g) ∷ moments) served h off = if_ranged (same_host h g) _ _ (opening_ranged h) (programs_ranged hosts moments served h off)
+programs_ranged hosts (Asked g r ∷ moments) served h off = asked_ranged hosts h g r moments served.0 off (same_host h g) refl (programs_ranged hosts moments served.1 h off)
 
 -- ---- what is heard is in order
 
-module _ (s : Sockets) (is_pair : IsPair s) (origin : ℕ → ℕ) (hosts : List Host) (m : HostMessage) (moments : List Moment) (story : IsStory (Crossed (crossing.In m) ∷ moments)) (run : IsRun hosts (events_of (Crossed (crossing.In m) ∷ moments))) where
+module _ (s : Sockets) (is_pair : IsPair s) (origin : ℕ → ℕ) (hosts : Network) (m : HostMessage) (moments : List Moment) (ours : AreOurs hosts m.flow.source m.flow.destination) (story : IsStory hosts (Crossed (crossing.In m) ∷ moments)) (run : IsRun hosts (events_of (Crossed (crossing.In m) ∷ moments))) where
   abbrev heard_here : Message → List (List Bool)
   heard_here n = stay.heard_by m.flow.source m.flow.destination 0 (In m.flow.source m.flow.destination m.flow.link.0 n)
 
@@ -169,7 +172,7 @@ module _ (s : Sockets) (is_pair : IsPair s) (origin : ℕ → ℕ) (hosts : List
       ap (λ (t : Bool). if t then tagged place m.text ∷ [] else []) (ap (λ (t : Bool). t && 0 == m.flow.link.0) (are_same m.flow.source m.flow.destination) ∙ eqb-sym 0 m.flow.link.0 ∙ zero)
 
   -- as the one who receives
-  receiver_text : (place : ℕ) → boxed s is_pair Receiver origin hosts m moments story run ≡ Other (tagged place m.text) → (m.flow.link.0 == 0) ≡ true → stay.stays m.flow.destination m.flow.source (law_events moments) ≡ true
+  receiver_text : (place : ℕ) → boxed s is_pair Receiver origin hosts m moments ours story run ≡ Other (tagged place m.text) → (m.flow.link.0 == 0) ≡ true → stay.stays m.flow.destination m.flow.source (law_events moments) ≡ true
       → AreSteps (steps m.flow.destination m.flow.source (law_events (Crossed (crossing.In m) ∷ moments)))
       → AllFit (marks_in place s.send s.receive (orders_of m.text)) (Side_of s is_pair Receiver m.flow.destination m.flow.source origin moments).end
   receiver_text place e zero stays h =
@@ -192,7 +195,7 @@ module _ (s : Sockets) (is_pair : IsPair s) (origin : ℕ → ℕ) (hosts : List
       (subst (λ (ms : List Mark). AllFit ms (receiver s under).end) (ap (at_texts s Sender) (is_heard place zero) ∙ heard_is s is_pair Receiver place m.text) fit)
 
   -- as the one who sends
-  sender_text : (place : ℕ) → boxed s is_pair Sender origin hosts m moments story run ≡ Other (tagged place m.text) → (m.flow.link.0 == 0) ≡ true → stay.stays m.flow.destination m.flow.source (law_events moments) ≡ true
+  sender_text : (place : ℕ) → boxed s is_pair Sender origin hosts m moments ours story run ≡ Other (tagged place m.text) → (m.flow.link.0 == 0) ≡ true → stay.stays m.flow.destination m.flow.source (law_events moments) ≡ true
       → AreSteps (steps m.flow.source m.flow.destination (law_events (Crossed (crossing.In m) ∷ moments)))
       → AllFit (marks_in place s.receive s.send (orders_of m.text)) (Side_of s is_pair Sender m.flow.destination m.flow.source origin moments).end
   sender_text place e zero stays h =
@@ -213,28 +216,28 @@ module _ (s : Sockets) (is_pair : IsPair s) (origin : ℕ → ℕ) (hosts : List
   signal_fits : (own foreign place : ℕ) (orders : List Order) (x : End) → orders_of m.text ≡ orders → marks_in place own foreign orders ≡ [] → AllFit (marks_in place own foreign (orders_of m.text)) x
   signal_fits own foreign place orders x e f = subst (λ (ms : List Mark). AllFit ms x) (sym (ap (marks_in place own foreign) e ∙ f)) tt
 
-  receiver_now : Sort m.flow.link.0 m.text → IsFrom s is_pair Receiver origin hosts m moments story run → AreSteps (steps m.flow.destination m.flow.source (law_events (Crossed (crossing.In m) ∷ moments)))
+  receiver_now : Sort m.flow.link.0 m.text → IsFrom s is_pair Receiver origin hosts m moments ours story run → AreSteps (steps m.flow.destination m.flow.source (law_events (Crossed (crossing.In m) ∷ moments)))
       → program_phases.is_ready (pair_with m.flow.source (program m.flow.destination moments).peers).phase ≡ true → (m.flow.link.0 == 0) ≡ true
       → AllFit (marks_in (origin (places moments)) s.send s.receive (orders_of m.text)) (Side_of s is_pair Receiver m.flow.destination m.flow.source origin moments).end
   receiver_now (AnRst z orders is) from h ready zero = signal_fits s.send s.receive (origin (places moments)) _ (Side_of s is_pair Receiver m.flow.destination m.flow.source origin moments).end orders refl
   receiver_now (AnRrp z orders is) from h ready zero = signal_fits s.send s.receive (origin (places moments)) _ (Side_of s is_pair Receiver m.flow.destination m.flow.source origin moments).end orders refl
   receiver_now (AText is) from h ready zero =
-      let n : (n : ℕ) × (boxes m.flow.source m.flow.destination (events_of moments) m.flow.link.0 ≡ Waiting n (message_on m.flow.link.0 m.text)) = place_in s is_pair Receiver origin hosts m moments story run in
-      let e : boxed s is_pair Receiver origin hosts m moments story run ≡ Other (tagged (place_in s is_pair Receiver origin hosts m moments story run).0 m.text) = boxed_is s is_pair Receiver origin hosts m moments story run (Other m.text) is in
+      let n : (n : ℕ) × (boxes m.flow.source m.flow.destination (events_of moments) m.flow.link.0 ≡ Waiting n (message_on m.flow.link.0 m.text)) = place_in s is_pair Receiver origin hosts m moments ours story run in
+      let e : boxed s is_pair Receiver origin hosts m moments ours story run ≡ Other (tagged (place_in s is_pair Receiver origin hosts m moments ours story run).0 m.text) = boxed_is s is_pair Receiver origin hosts m moments ours story run (Other m.text) is in
       subst (λ (k : ℕ). AllFit (marks_in k s.send s.receive (orders_of m.text)) (Side_of s is_pair Receiver m.flow.destination m.flow.source origin moments).end)
-      (sym (from (place_in s is_pair Receiver origin hosts m moments story run).0 (place_in s is_pair Receiver origin hosts m moments story run).1 zero))
-      (receiver_text (place_in s is_pair Receiver origin hosts m moments story run).0 e zero (stays_as s is_pair Receiver origin hosts m moments story run (place_in s is_pair Receiver origin hosts m moments story run).0 e true ready) h)
+      (sym (from (place_in s is_pair Receiver origin hosts m moments ours story run).0 (place_in s is_pair Receiver origin hosts m moments ours story run).1 zero))
+      (receiver_text (place_in s is_pair Receiver origin hosts m moments ours story run).0 e zero (stays_as s is_pair Receiver origin hosts m moments ours story run (place_in s is_pair Receiver origin hosts m moments ours story run).0 e true ready) h)
 
-  sender_now : Sort m.flow.link.0 m.text → IsFrom s is_pair Sender origin hosts m moments story run → AreSteps (steps m.flow.source m.flow.destination (law_events (Crossed (crossing.In m) ∷ moments)))
+  sender_now : Sort m.flow.link.0 m.text → IsFrom s is_pair Sender origin hosts m moments ours story run → AreSteps (steps m.flow.source m.flow.destination (law_events (Crossed (crossing.In m) ∷ moments)))
       → program_phases.is_ready (pair_with m.flow.source (program m.flow.destination moments).peers).phase ≡ true → (m.flow.link.0 == 0) ≡ true
       → AllFit (marks_in (origin (places moments)) s.receive s.send (orders_of m.text)) (Side_of s is_pair Sender m.flow.destination m.flow.source origin moments).end
   sender_now (AnRst z orders is) from h ready zero = signal_fits s.receive s.send (origin (places moments)) _ (Side_of s is_pair Sender m.flow.destination m.flow.source origin moments).end orders refl
   sender_now (AnRrp z orders is) from h ready zero = signal_fits s.receive s.send (origin (places moments)) _ (Side_of s is_pair Sender m.flow.destination m.flow.source origin moments).end orders refl
   sender_now (AText is) from h ready zero =
-      let e : boxed s is_pair Sender origin hosts m moments story run ≡ Other (tagged (place_in s is_pair Sender origin hosts m moments story run).0 m.text) = boxed_is s is_pair Sender origin hosts m moments story run (Other m.text) is in
+      let e : boxed s is_pair Sender origin hosts m moments ours story run ≡ Other (tagged (place_in s is_pair Sender origin hosts m moments ours story run).0 m.text) = boxed_is s is_pair Sender origin hosts m moments ours story run (Other m.text) is in
       subst (λ (k : ℕ). AllFit (marks_in k s.receive s.send (orders_of m.text)) (Side_of s is_pair Sender m.flow.destination m.flow.source origin moments).end)
-      (sym (from (place_in s is_pair Sender origin hosts m moments story run).0 (place_in s is_pair Sender origin hosts m moments story run).1 zero))
-      (sender_text (place_in s is_pair Sender origin hosts m moments story run).0 e zero (stays_as s is_pair Sender origin hosts m moments story run (place_in s is_pair Sender origin hosts m moments story run).0 e true ready) h)
+      (sym (from (place_in s is_pair Sender origin hosts m moments ours story run).0 (place_in s is_pair Sender origin hosts m moments ours story run).1 zero))
+      (sender_text (place_in s is_pair Sender origin hosts m moments ours story run).0 e zero (stays_as s is_pair Sender origin hosts m moments ours story run (place_in s is_pair Sender origin hosts m moments ours story run).0 e true ready) h)
 
 -- ---- the run
 
@@ -257,7 +260,7 @@ abbrev pub AreOrigins : (Host → Host → ℕ → ℕ) → List Moment → Type
 AreOrigins origin [] = Unit {0}
 AreOrigins origin (x ∷ moments) = IsOrigin origin x moments × AreOrigins origin moments
 
-module _ (hosts : List Host) (origin : Host → Host → ℕ → ℕ) (a b : Host) (x : Moment) (moments : List Moment) (story : IsStory (x ∷ moments)) (run : IsRun hosts (events_of (x ∷ moments))) (ranged : (h : Host) → IsRanged (program h moments))
+module _ (hosts : Network) (origin : Host → Host → ℕ → ℕ) (a b : Host) (x : Moment) (moments : List Moment) (ours : AreOurs hosts a b) (story : IsStory hosts (x ∷ moments)) (run : IsRun hosts (events_of (x ∷ moments))) (ranged : (h : Host) → hosts.strange h ≡ false → IsRanged (program h moments))
     (names : NamesFreeAt a b x moments) (t : Tied origin a b moments) where
   abbrev e : Event
   e = placed_event (event_in x) (events_of moments)
@@ -272,67 +275,67 @@ module _ (hosts : List Host) (origin : Host → Host → ℕ → ℕ) (a b : Hos
       let first : AreSteps (all_said Sender (words_of Sender (stay.said_by b a 0 (placed_event (event_in x) (events_of moments)))) (steps a b (law_events moments))) =
       sender_speaks to_receiver (steps a b (law_events moments)) (texts_pairs Sender (stay.said_by b a 0 (placed_event (event_in x) (events_of moments)))) t.steps
       (λ s q. subst (λ (y : Side). MayAllGo (at s (words_of Sender (stay.said_by b a 0 (placed_event (event_in x) (events_of moments))))) y.end y.next) (sym (sender_half s a b (law_events moments)))
-      (may_turn s q Sender b a (origin b a) x moments story (ranged b) (t.sender_next s q) (t.sender s q))) in
+      (may_turn s q Sender b a (origin b a) hosts (ours.1, ours.0) x moments story (ranged b ours.1) (t.sender_next s q) (t.sender s q))) in
       let second : AreSteps (spoken_by a b (placed_event (event_in x) (events_of moments)) (steps a b (law_events moments))) =
       receiver_speaks to_sender (all_said Sender to_receiver (steps a b (law_events moments))) (texts_pairs Receiver (stay.said_by a b 0 (placed_event (event_in x) (events_of moments)))) first
       (λ s q. subst (λ (y : Side). MayAllGo (at s (words_of Receiver (stay.said_by a b 0 (placed_event (event_in x) (events_of moments))))) y.end y.next)
       (sym (receiver_waits s to_receiver (steps a b (law_events moments)) ∙ receiver_half s a b (law_events moments)))
-      (may_turn s q Receiver a b (origin a b) x moments story (ranged a) (t.receiver_next s q) (t.receiver s q))) names in
-      legal hosts (placed_event (event_in x) (events_of moments)) (law_events moments) (placed_run hosts (events_of (x ∷ moments)) run) a b second
+      (may_turn s q Receiver a b (origin a b) hosts ours x moments story (ranged a ours.0) (t.receiver_next s q) (t.receiver s q))) names in
+      legal hosts (placed_event (event_in x) (events_of moments)) (law_events moments) (placed_run hosts (events_of (x ∷ moments)) run) a b ours second
 
 -- each moment
-tie_turn : (s : Sockets) (q : IsPair s) (who : Who) (h p : Host) (origin : ℕ → ℕ) (hosts : List Host) (x : Moment) (moments : List Moment) → IsStory (x ∷ moments) → IsRun hosts (events_of (x ∷ moments)) → IsRanged (program h moments) → AreServed (x ∷ moments)
-    → ((m : HostMessage) (story : IsStory (Crossed (crossing.In m) ∷ moments)) (run : IsRun hosts (events_of (Crossed (crossing.In m) ∷ moments))) → x ≡ Crossed (crossing.In m) → same_host h m.flow.destination ≡ true → same_host p m.flow.source ≡ true
-    → Hears s q who origin hosts m moments story run × IsFrom s q who origin hosts m moments story run)
+tie_turn : (s : Sockets) (q : IsPair s) (who : Who) (h p : Host) (origin : ℕ → ℕ) (hosts : Network) (x : Moment) (moments : List Moment) → AreOurs hosts h p → IsStory hosts (x ∷ moments) → IsRun hosts (events_of (x ∷ moments)) → IsRanged (program h moments) → AreServed hosts (x ∷ moments)
+    → ((m : HostMessage) (our : AreOurs hosts m.flow.source m.flow.destination) (story : IsStory hosts (Crossed (crossing.In m) ∷ moments)) (run : IsRun hosts (events_of (Crossed (crossing.In m) ∷ moments))) → x ≡ Crossed (crossing.In m) → same_host h m.flow.destination ≡ true → same_host p m.flow.source ≡ true
+    → Hears s q who origin hosts m moments our story run × IsFrom s q who origin hosts m moments our story run)
     → Tie s q who h p origin moments → Tie s q who h p origin (x ∷ moments)
-tie_turn s q who h p origin hosts (Crossed (crossing.Out m)) moments story run ranged served k t = out_turn s q who h p origin m moments story ranged t
-tie_turn s q who h p origin hosts (Crossed (crossing.In m)) moments story run ranged served k t = in_turn s q who h p origin hosts m moments story run (k m story run refl) t
-tie_turn s q who h p origin hosts (Crossed (crossing.Answer kind f)) moments story run ranged served k t = answer_turn s q who h p origin kind f moments story t
-tie_turn s q who h p origin hosts (Crossed (crossing.Down g)) moments story run ranged served k t = down_turn s q who h p origin g moments story t
-tie_turn s q who h p origin hosts (Crossed (crossing.Up g)) moments story run ranged served k t = up_turn s q who h p origin g moments story t
-tie_turn s q who h p origin hosts (Asked g r) moments story run ranged served k t =
-    asked_turn s q who h p origin g r moments story (λ e. subst (λ (y : Host). refusal (program y moments) r ≡ None) (sym (same_host-true h g e)) served.0) t
+tie_turn s q who h p origin hosts (Crossed (crossing.Out m)) moments ours story run ranged served k t = out_turn s q who h p origin hosts ours m moments story ranged t
+tie_turn s q who h p origin hosts (Crossed (crossing.In m)) moments ours story run ranged served k t = in_turn s q who h p origin hosts m moments ours story run (λ our. k m our story run refl) t
+tie_turn s q who h p origin hosts (Crossed (crossing.Answer kind f)) moments ours story run ranged served k t = answer_turn s q who h p origin hosts ours kind f moments story t
+tie_turn s q who h p origin hosts (Crossed (crossing.Down g)) moments ours story run ranged served k t = down_turn s q who h p origin hosts ours g moments story t
+tie_turn s q who h p origin hosts (Crossed (crossing.Up g)) moments ours story run ranged served k t = up_turn s q who h p origin hosts ours g moments story t
+tie_turn s q who h p origin hosts (Asked g r) moments ours story run ranged served k t =
+    asked_turn s q who h p origin hosts ours g r moments story (λ e. subst (λ (y : Host). refusal (program y moments) r ≡ None) (sym (same_host-true h g e)) (served.0 (subst (λ (y : Host). hosts.strange y ≡ false) (same_host-true h g e) ours.0)).0) t
 
 -- what a message says that is taken of a peer is in order, and is named by its origin
-module _ (hosts : List Host) (origin : Host → Host → ℕ → ℕ) (a b : Host) (x : Moment) (moments : List Moment) (from : IsOrigin origin x moments) (takes : TakesFreeAt x moments) where
+module _ (hosts : Network) (origin : Host → Host → ℕ → ℕ) (a b : Host) (x : Moment) (moments : List Moment) (from : IsOrigin origin x moments) (takes : TakesFreeAt hosts x moments) where
   from_there : (m : HostMessage) → x ≡ Crossed (crossing.In m) → IsOrigin origin (Crossed (crossing.In m)) moments
   from_there m is = subst (λ (y : Moment). IsOrigin origin y moments) is from
 
-  free_there : (m : HostMessage) → x ≡ Crossed (crossing.In m) → TakesFreeAt (Crossed (crossing.In m)) moments
-  free_there m is = subst (λ (y : Moment). TakesFreeAt y moments) is takes
+  free_there : (m : HostMessage) → x ≡ Crossed (crossing.In m) → TakesFreeAt hosts (Crossed (crossing.In m)) moments
+  free_there m is = subst (λ (y : Moment). TakesFreeAt hosts y moments) is takes
 
-  pub receiver_hears : (s : Sockets) (q : IsPair s) (m : HostMessage) (story : IsStory (Crossed (crossing.In m) ∷ moments)) (run : IsRun hosts (events_of (Crossed (crossing.In m) ∷ moments))) → x ≡ Crossed (crossing.In m)
-      → same_host a m.flow.destination ≡ true → same_host b m.flow.source ≡ true → AreSteps (steps a b (law_events (x ∷ moments))) → Hears s q Receiver (origin a b) hosts m moments story run × IsFrom s q Receiver (origin a b) hosts m moments story run
-  receiver_hears s q m story run is e f next =
+  pub receiver_hears : (s : Sockets) (q : IsPair s) (m : HostMessage) (our : AreOurs hosts m.flow.source m.flow.destination) (story : IsStory hosts (Crossed (crossing.In m) ∷ moments)) (run : IsRun hosts (events_of (Crossed (crossing.In m) ∷ moments))) → x ≡ Crossed (crossing.In m)
+      → same_host a m.flow.destination ≡ true → same_host b m.flow.source ≡ true → AreSteps (steps a b (law_events (x ∷ moments))) → Hears s q Receiver (origin a b) hosts m moments our story run × IsFrom s q Receiver (origin a b) hosts m moments our story run
+  receiver_hears s q m our story run is e f next =
       let is_a : a ≡ m.flow.destination = same_host-true a m.flow.destination e in
       let is_b : b ≡ m.flow.source = same_host-true b m.flow.source f in
       let same : origin m.flow.destination m.flow.source ≡ origin a b = ap (λ (y : Host). origin y m.flow.source) (sym is_a) ∙ ap (λ (y : Host). origin a y) (sym is_b) in
-      let place : IsFrom s q Receiver (origin a b) hosts m moments story run = subst (λ (o : ℕ → ℕ). IsFrom s q Receiver o hosts m moments story run) same (from_there m is) in
+      let place : IsFrom s q Receiver (origin a b) hosts m moments our story run = subst (λ (o : ℕ → ℕ). IsFrom s q Receiver o hosts m moments our story run) same (from_there m is) in
       let there : AreSteps (steps m.flow.destination m.flow.source (law_events (Crossed (crossing.In m) ∷ moments))) =
       subst (λ (y : Host). AreSteps (steps y m.flow.source (law_events (Crossed (crossing.In m) ∷ moments)))) is_a
       (subst (λ (y : Host). AreSteps (steps a y (law_events (Crossed (crossing.In m) ∷ moments)))) is_b (subst (λ (y : Moment). AreSteps (steps a b (law_events (y ∷ moments)))) is next)) in
-      (λ ready zero joint. (free_there m is ready zero, receiver_now s q (origin a b) hosts m moments story run (sort_of m.flow.link.0 m.text) place there ready zero), place)
+      (λ ready zero joint. (free_there m is our ready zero, receiver_now s q (origin a b) hosts m moments our story run (sort_of m.flow.link.0 m.text) place there ready zero), place)
 
-  pub sender_hears : (s : Sockets) (q : IsPair s) (m : HostMessage) (story : IsStory (Crossed (crossing.In m) ∷ moments)) (run : IsRun hosts (events_of (Crossed (crossing.In m) ∷ moments))) → x ≡ Crossed (crossing.In m)
-      → same_host b m.flow.destination ≡ true → same_host a m.flow.source ≡ true → AreSteps (steps a b (law_events (x ∷ moments))) → Hears s q Sender (origin b a) hosts m moments story run × IsFrom s q Sender (origin b a) hosts m moments story run
-  sender_hears s q m story run is e f next =
+  pub sender_hears : (s : Sockets) (q : IsPair s) (m : HostMessage) (our : AreOurs hosts m.flow.source m.flow.destination) (story : IsStory hosts (Crossed (crossing.In m) ∷ moments)) (run : IsRun hosts (events_of (Crossed (crossing.In m) ∷ moments))) → x ≡ Crossed (crossing.In m)
+      → same_host b m.flow.destination ≡ true → same_host a m.flow.source ≡ true → AreSteps (steps a b (law_events (x ∷ moments))) → Hears s q Sender (origin b a) hosts m moments our story run × IsFrom s q Sender (origin b a) hosts m moments our story run
+  sender_hears s q m our story run is e f next =
       let is_b : b ≡ m.flow.destination = same_host-true b m.flow.destination e in
       let is_a : a ≡ m.flow.source = same_host-true a m.flow.source f in
       let same : origin m.flow.destination m.flow.source ≡ origin b a = ap (λ (y : Host). origin y m.flow.source) (sym is_b) ∙ ap (λ (y : Host). origin b y) (sym is_a) in
-      let place : IsFrom s q Sender (origin b a) hosts m moments story run = subst (λ (o : ℕ → ℕ). IsFrom s q Sender o hosts m moments story run) same (from_there m is) in
+      let place : IsFrom s q Sender (origin b a) hosts m moments our story run = subst (λ (o : ℕ → ℕ). IsFrom s q Sender o hosts m moments our story run) same (from_there m is) in
       let there : AreSteps (steps m.flow.source m.flow.destination (law_events (Crossed (crossing.In m) ∷ moments))) =
       subst (λ (y : Host). AreSteps (steps m.flow.source y (law_events (Crossed (crossing.In m) ∷ moments)))) is_b
       (subst (λ (y : Host). AreSteps (steps y b (law_events (Crossed (crossing.In m) ∷ moments)))) is_a (subst (λ (y : Moment). AreSteps (steps a b (law_events (y ∷ moments)))) is next)) in
-      (λ ready zero joint. (free_there m is ready zero, sender_now s q (origin b a) hosts m moments story run (sort_of m.flow.link.0 m.text) place there ready zero), place)
+      (λ ready zero joint. (free_there m is our ready zero, sender_now s q (origin b a) hosts m moments our story run (sort_of m.flow.link.0 m.text) place there ready zero), place)
 
-pub tied_turn : (hosts : List Host) (origin : Host → Host → ℕ → ℕ) (a b : Host) (x : Moment) (moments : List Moment) → IsStory (x ∷ moments) → IsRun hosts (events_of (x ∷ moments)) → AreServed (x ∷ moments) → ((h : Host) → IsRanged (program h moments))
-    → IsOrigin origin x moments → NamesFreeAt a b x moments → TakesFreeAt x moments → Tied origin a b moments → Tied origin a b (x ∷ moments)
-tied_turn hosts origin a b x moments story run served ranged from names takes t =
-    let next : AreSteps (steps a b (law_events (x ∷ moments))) = steps_turn hosts origin a b x moments story run ranged names t in
+pub tied_turn : (hosts : Network) (origin : Host → Host → ℕ → ℕ) (a b : Host) (x : Moment) (moments : List Moment) → AreOurs hosts a b → IsStory hosts (x ∷ moments) → IsRun hosts (events_of (x ∷ moments)) → AreServed hosts (x ∷ moments) → ((h : Host) → hosts.strange h ≡ false → IsRanged (program h moments))
+    → IsOrigin origin x moments → NamesFreeAt a b x moments → TakesFreeAt hosts x moments → Tied origin a b moments → Tied origin a b (x ∷ moments)
+tied_turn hosts origin a b x moments ours story run served ranged from names takes t =
+    let next : AreSteps (steps a b (law_events (x ∷ moments))) = steps_turn hosts origin a b x moments ours story run ranged names t in
     record {
       steps = next;
-      receiver = λ s q. tie_turn s q Receiver a b (origin a b) hosts x moments story run (ranged a) served (λ m story run is e f. receiver_hears hosts origin a b x moments from takes s q m story run is e f next) (t.receiver s q);
-      sender = λ s q. tie_turn s q Sender b a (origin b a) hosts x moments story run (ranged b) served (λ m story run is e f. sender_hears hosts origin a b x moments from takes s q m story run is e f next) (t.sender s q);
+      receiver = λ s q. tie_turn s q Receiver a b (origin a b) hosts x moments ours story run (ranged a ours.0) served (λ m our story run is e f. receiver_hears hosts origin a b x moments from takes s q m our story run is e f next) (t.receiver s q);
+      sender = λ s q. tie_turn s q Sender b a (origin b a) hosts x moments (ours.1, ours.0) story run (ranged b ours.1) served (λ m our story run is e f. sender_hears hosts origin a b x moments from takes s q m our story run is e f next) (t.sender s q);
       receiver_next = λ s q. next_turn s q Receiver a b (origin a b) x moments (t.receiver_next s q);
       sender_next = λ s q. next_turn s q Sender b a (origin b a) x moments (t.sender_next s q);
     }

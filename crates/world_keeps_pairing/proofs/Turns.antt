@@ -7,14 +7,15 @@ use Rattle.reset_law.specs.Stays as stay
 use Rattle.world_keeps_pairing.proofs.Sides.{all_says, at_texts, before, hears_if, left_if, met_if, met_end}
 use Rattle.world_keeps_pairing.proofs.Marks.{IsPair, foreign_of, own_of, text_at}
 use Rattle.world_keeps_pairing.proofs.Programs.{AnRrp, AnRst, AText, Sort, read_marks, sort_of}
+use Rattle.reset_law.specs.Network.{AreOurs, Network}
 
 abbrev pub other : Who → Who
 other Receiver = Sender
 other Sender = Receiver
 
-pub ready_is : (h p : Host) (moments : List Moment) → IsStory moments → stay.ready h p (law_events moments) ≡ program_phases.is_ready (pair_with p (program h moments).peers).phase
-ready_is h p moments story =
-    let a : Agrees (pair_with p (program h moments).peers) (pair h p (events_of moments)) = story_agrees moments h p story in
+pub ready_is : (hosts : Network) (h p : Host) (moments : List Moment) → AreOurs hosts h p → IsStory hosts moments → stay.ready h p (law_events moments) ≡ program_phases.is_ready (pair_with p (program h moments).peers).phase
+ready_is hosts h p moments ours story =
+    let a : Agrees (pair_with p (program h moments).peers) (pair h p (events_of moments)) = story_agrees hosts moments h p ours story in
     ap (λ (q : Pair). program_phases.is_ready q.phase) (pair_same h p (events_of moments)) ∙ ap program_phases.is_ready a.phase
 
 -- ---- what a text says

@@ -1,5 +1,5 @@
 -- Two sockets that both receive or both send: nothing is said of them, and no end of theirs opens.
-use Rattle.world_keeps_pairing.proofs.Common.{◌≡◌, ℕ, ◌==◌, Bool, true, false, ◌&&◌, if◌then◌else◌, List, [], ◌∷◌, ◌++◌, refl, ap, sym, subst, ◌∙◌, eqb-true, same_host, same_flow, Flow, Crossing, HostMessage, same_flow-true, is_receive_socket, is_send_socket, Order, Legal, Wrong, orders_of, AreOrders, IsOrder, text_good, MayAllGo, mark_in, marks_in, nothing, Mark, Ask, Close}
+use Rattle.world_keeps_pairing.proofs.Common.{Host, ◌≡◌, ℕ, ◌==◌, Bool, true, false, ◌&&◌, if◌then◌else◌, List, [], ◌∷◌, ◌++◌, refl, ap, sym, subst, ◌∙◌, eqb-true, same_host, same_flow, Flow, Crossing, HostMessage, same_flow-true, is_receive_socket, is_send_socket, Order, Legal, Wrong, orders_of, AreOrders, IsOrder, text_good, MayAllGo, mark_in, marks_in, nothing, Mark, Ask, Close}
 use Rattle.interface.specs.Mailboxes as mail
 use Rattle.interface.specs.declared.crossing.Crossing.TheVariants as crossing
 use Rattle.ncp_control.specs.declared.command.Command.TheVariants as command
@@ -7,6 +7,7 @@ use Rattle.host_pairs.proofs.lemmas.{both}
 use Rattle.net_sim.proofs.lemmas.{cleared_waits, fetched_waits}
 use Rattle.world_keeps_pairing.proofs.Programs.{read_marks}
 use Rattle.interface.proofs.lemmas.{and_turned}
+use Rattle.reset_law.specs.Network.{AreOurs, Network}
 
 -- neither a receiving socket with a sending one, nor the other way
 abbrev pub IsUnpaired : ℕ → ℕ → Type 0
@@ -79,13 +80,13 @@ unsaid own foreign place link text next u may = none_said (read_marks place own 
 abbrev pub IsSilent : ℕ → List Bool → Type 0
 IsSilent link text = (own foreign place : ℕ) → IsUnpaired own foreign → read_marks place own foreign link text ≡ []
 
-abbrev pub AllSilent : List Crossing → Type 0
-AllSilent [] = Unit {0}
-AllSilent (crossing.Out m ∷ log) = IsSilent m.flow.link.0 m.text × AllSilent log
-AllSilent (crossing.In m ∷ log) = AllSilent log
-AllSilent (crossing.Answer kind f ∷ log) = AllSilent log
-AllSilent (crossing.Down h ∷ log) = AllSilent log
-AllSilent (crossing.Up h ∷ log) = AllSilent log
+abbrev pub AllSilent : Network → List Crossing → Type 0
+AllSilent hosts [] = Unit {0}
+AllSilent hosts (crossing.Out m ∷ log) = (AreOurs hosts m.flow.source m.flow.destination → IsSilent m.flow.link.0 m.text) × AllSilent hosts log
+AllSilent hosts (crossing.In m ∷ log) = AllSilent hosts log
+AllSilent hosts (crossing.Answer kind f ∷ log) = AllSilent hosts log
+AllSilent hosts (crossing.Down h ∷ log) = AllSilent hosts log
+AllSilent hosts (crossing.Up h ∷ log) = AllSilent hosts log
 
 -- the text of a box
 abbrev text_in : mail.Box → List Bool
@@ -93,15 +94,15 @@ text_in mail.Empty = []
 text_in (mail.Waiting place text) = text
 text_in (mail.Taken place text) = text
 
-module _ (f : Flow) (p : ℕ) (text : List Bool) where
-  put_silent : (m : HostMessage) (here : ℕ) (box : mail.Box) → IsSilent m.flow.link.0 m.text → (box ≡ mail.Waiting p text → IsSilent f.link.0 text) → (b : Bool) → same_flow f m.flow ≡ b → (if b then mail.Waiting here m.text else box) ≡ mail.Waiting p text → IsSilent f.link.0 text
+module _ (hosts : Network) (f : Flow) (ours : AreOurs hosts f.source f.destination) (p : ℕ) (text : List Bool) where
+  put_silent : (m : HostMessage) (here : ℕ) (box : mail.Box) → (AreOurs hosts m.flow.source m.flow.destination → IsSilent m.flow.link.0 m.text) → (box ≡ mail.Waiting p text → IsSilent f.link.0 text) → (b : Bool) → same_flow f m.flow ≡ b → (if b then mail.Waiting here m.text else box) ≡ mail.Waiting p text → IsSilent f.link.0 text
   put_silent m here box said rest true e is =
       let same : f ≡ m.flow = same_flow-true f m.flow e in
       let kept : m.text ≡ text = ap text_in is in
-      subst (λ (t : List Bool). IsSilent f.link.0 t) kept (subst (λ (g : Flow). IsSilent g.link.0 m.text) (sym same) said)
+      subst (λ (t : List Bool). IsSilent f.link.0 t) kept (subst (λ (g : Flow). IsSilent g.link.0 m.text) (sym same) (said (subst (λ (g : Flow). AreOurs hosts g.source g.destination) same ours)))
   put_silent m here box said rest false e is = rest is
 
-  pub waiting_silent : (log : List Crossing) → AllSilent log → mail.box_of f log ≡ mail.Waiting p text → IsSilent f.link.0 text
+  pub waiting_silent : (log : List Crossing) → AllSilent hosts log → mail.box_of f log ≡ mail.Waiting p text → IsSilent f.link.0 text
   waiting_silent [] all is = absurd (let no : mail.Empty ≡ mail.Waiting p text = is in cc)
   waiting_silent (crossing.Out m ∷ log) all is = put_silent m _ (mail.box_of f log) all.0 (λ e. waiting_silent log all.1 e) (same_flow f m.flow) refl is
   waiting_silent (crossing.In m ∷ log) all is = waiting_silent log all (fetched_waits (mail.box_of f log) p text (same_flow f m.flow) is)

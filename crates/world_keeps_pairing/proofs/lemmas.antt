@@ -1,4 +1,5 @@
 -- The lemmas of this crate that others may use: the proofs of headline, world_keeps_connections, world_keeps_lives and world_keeps_streams do. All others in proofs/ are its own.
+pub use Rattle.world_keeps_pairing.proofs.AllOurs
 pub use Rattle.world_keeps_pairing.proofs.BookPartners.{life_in, life_matches, life_paired, one_own, partner_named, place_there, safe_partners}
 pub use Rattle.world_keeps_pairing.proofs.BookPartners.{other_sends}
 pub use Rattle.world_keeps_pairing.proofs.LifeLists.{between_itself, in_among, told_in}
@@ -19,4 +20,4 @@ pub use Rattle.world_keeps_pairing.proofs.Tied.{AreOrigins, IsOrigin, programs_r
 pub use Rattle.world_keeps_pairing.proofs.Turns.{heard_is, other, ready_is}
 pub use Rattle.world_keeps_pairing.proofs.Unpaired.{IsSilent, IsUnpaired, unpaired_turned, waiting_silent}
 pub use Rattle.world_keeps_pairing.proofs.UnpairedMoments.{AllBare, all_bare, mail_below}
-pub use Rattle.world_keeps_pairing.proofs.Worlds.{book_lives, book_run, world_alone, world_partners}
+pub use Rattle.world_keeps_pairing.proofs.AllOurs.{book_lives, book_run, world_alone, world_partners}

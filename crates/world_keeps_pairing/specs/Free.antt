@@ -1,5 +1,5 @@
 -- What is asked of the moments of a world: where messages went out, and that links are free.
-use Rattle.std.specs.Prelude.{◌≡◌, ℕ, ◌==◌, true, List, [], ◌∷◌, Option, Some, None}
+use Rattle.std.specs.Prelude.{◌≡◌, ℕ, ◌==◌, Bool, true, List, [], ◌∷◌, Option, Some, None}
 use Rattle.interface.specs.Host.{Host}
 use Rattle.interface.specs.declared.crossing.Crossing.{Crossing}
 use Rattle.interface.specs.declared.crossing.Crossing.TheVariants as crossing
@@ -15,6 +15,7 @@ use Rattle.reset_law.specs.Stays as stay
 use Rattle.net_sim.specs.Story.{Moment, Crossed, event_in, events_of, places, program}
 use Rattle.promise.specs.Safe.{before, control_flow, last_out}
 use Rattle.world_keeps_pairing.specs.Steps.{all_said, steps, words_of}
+use Rattle.reset_law.specs.Network.{AreOurs, Network}
 
 -- a place, or this number where there is none
 abbrev pub place_or : ℕ → Option ℕ → ℕ
@@ -46,9 +47,9 @@ NamesFreeAt a b x moments =
     NameFree (words_of Receiver (stay.said_by a b 0 (placed_event (event_in x) (events_of moments))))
     (all_said Sender (words_of Sender (stay.said_by b a 0 (placed_event (event_in x) (events_of moments)))) (steps a b (law_events moments)))
 
--- each RTS that a host takes names a link that none of its sending ends has
-abbrev pub TakesFreeAt : Moment → List Moment → Type 0
-TakesFreeAt (Crossed (crossing.In m)) moments =
-    is_ready (pair_with m.flow.source (program m.flow.destination moments).peers).phase ≡ true → (m.flow.link.0 == 0) ≡ true
+-- each RTS that a host takes of another with a program names a link that none of its sending ends has
+abbrev pub TakesFreeAt : Network → Moment → List Moment → Type 0
+TakesFreeAt hosts (Crossed (crossing.In m)) moments =
+    AreOurs hosts m.flow.source m.flow.destination → is_ready (pair_with m.flow.source (program m.flow.destination moments).peers).phase ≡ true → (m.flow.link.0 == 0) ≡ true
     → AreFree m.flow.source (places moments) (orders_of m.text) (turn_of (program m.flow.destination moments) m.flow.source)
-TakesFreeAt x moments = Unit {0}
+TakesFreeAt hosts x moments = Unit {0}

@@ -47,7 +47,8 @@ pub use Rattle.ncp_control.specs.declared.command.Command.{Command}
 pub use Rattle.ncp_control.specs.declared.data_header.DataHeader.{DataHeader}
 pub use Rattle.ncp_control.specs.declared.phase.Phase.{Phase}
 pub use Rattle.ncp_control.specs.declared.phase.Phase.TheVariants.{Gone, Heard, Ready, Want}
-pub use Rattle.net_sim.proofs.lemmas.{Coupled, box_same, by_request, coupled, data_away, kept_fated, place_same, plain_take, program_own, same_host-sym, story_agrees}
+pub use Rattle.net_sim.proofs.lemmas.AllOurs.{coupled}
+pub use Rattle.net_sim.proofs.lemmas.{Coupled, box_same, by_request, data_away, kept_fated, place_same, plain_take, program_own, same_host-sym, story_agrees}
 pub use Rattle.net_sim.specs.Book.{Kept, all_told, book_told, carried, changed_when, crossed, life_ended, lives_asked, lives_at, lives_between, lives_crossed, lives_on, lives_told, lives_with, new_life, where_it}
 pub use Rattle.net_sim.specs.Clean.{HaveAddresses, IsLawful}
 pub use Rattle.net_sim.specs.Projection.{Agrees, AllPlain, ArePlain, IsApart, control_message, event_by, is_rrp, is_rst, message_on}
@@ -101,7 +102,8 @@ pub use Rattle.world_keeps_lives.proofs.lemmas.{At, Each, Elsewhere, GoodTurn, I
 pub use Rattle.world_keeps_lives.specs.Drained.{ClosesFirst}
 pub use Rattle.world_keeps_lives.specs.Lives.{AreRefusing, HasOpenEnd, IsLifeOf, at_socket, mine_on}
 pub use Rattle.world_keeps_lives.specs.WorkedFormed.{gave, sent_log}
-pub use Rattle.world_keeps_pairing.proofs.lemmas.{AText, AllBare, AllTied, AnRrp, AnRst, AreOrigins, IsUnpaired, Side_of, Sort, Tie, all_bare, all_hears, all_says, all_tied, are_origins, at_texts, book_lives, book_run, even_odd, foreign_of, half, heard_is, hears_if, left_if, life_in, life_paired, mail_below, message_pair, met_if, odd_send, offered_pair, other, own_of, plain_joint, programs_ranged, receiver_half, safe_partners, send_odd, sender_half, served_in, sort_of, takes, waiting}
+pub use Rattle.world_keeps_pairing.proofs.lemmas.AllOurs.{life_in, life_paired, safe_partners, served_in}
+pub use Rattle.world_keeps_pairing.proofs.lemmas.{AText, AllBare, AllTied, AnRrp, AnRst, AreOrigins, IsUnpaired, Side_of, Sort, Tie, all_bare, all_hears, all_says, all_tied, are_origins, at_texts, book_lives, book_run, even_odd, foreign_of, half, heard_is, hears_if, left_if, mail_below, message_pair, met_if, odd_send, offered_pair, other, own_of, plain_joint, programs_ranged, receiver_half, send_odd, sender_half, sort_of, takes, waiting}
 pub use Rattle.world_keeps_pairing.specs.Free.{TakesFreeAt, law_events, origin_in, place_or}
 pub use Rattle.world_keeps_pairing.specs.Lives.{life_of, openings}
 pub use Rattle.world_keeps_pairing.specs.Steps.{keeps, steps}

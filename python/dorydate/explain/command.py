@@ -7,7 +7,9 @@ Mermaid's language instead, which GitHub and GitLab draw; with --short it draws 
 leaves out RFNMs and most of what users learn. With --book it says what the promise says of one life or one message:
 LINE is its line in the log, and without it they are listed; FILE is a log, or an input. With --promise it checks
 such a file against each clause of the promise, by its definitions (docs/audit.md). With --page it writes a page for
-a browser (docs/workbench.md). Its exit status is that of the program.
+a browser (docs/workbench.md). With --worksheet it writes a sheet for a class that says nothing of what happens after
+its first question (`#?`), with --answers the same sheet with all that, and with --slides the first hour of
+docs/lessons.md. Its exit status is that of the program.
 
 Which script line printed what the program itself says, in a run with refused events between those of the script
 (dorydate.marks).
@@ -24,7 +26,7 @@ import sys
 from collections.abc import Callable, Sequence
 
 from dorydate.expect import command as expect
-from dorydate.explain import book, faults, page, promised
+from dorydate.explain import book, faults, page, promised, sheets
 from dorydate.explain.charts import chart, short_chart
 from dorydate.given import Input
 from dorydate.explain.logs import explained
@@ -37,6 +39,8 @@ from dorydate.where import ROOT, here
 
 MOST_OF_LOG = 268_435_456  # octets of a log that is read here
 USAGE = here("""usage: ./explain [--chart [--short] | --page [OTHER-FILE]] < FILE
+usage: ./explain --worksheet | --answers < FILE > sheet.html
+usage: ./explain --slides > hour.html
 usage: ./explain --audit < LOG
 usage: ./explain --book [LINE] < FILE
 usage: ./explain --promise [LOG]
@@ -127,6 +131,8 @@ def replayed(options: Sequence[str]) -> int:
         return 4
     if ended.status != 0:
         print(f"The program says: {ended.said.strip()} (status {ended.status}).\n{diagnose(given, ended.said)}")
+    elif options in (["--worksheet"], ["--answers"]):
+        print(sheets.sheet(given, ended.events, page.name_of_input() or "script", options == ["--answers"]))
     elif options:
         print(drawn(given, ended, short_chart if "--short" in options else chart))
     else:
@@ -155,7 +161,10 @@ def asked(options: list[str]) -> int:
         return of_log(open_or_given(options[1:]), say_promise)
     if options[:1] == ["--expect"]:
         return expect(options[1:])
-    if sorted(options) in ([], ["--chart"], ["--chart", "--short"]):
+    if options == ["--slides"]:
+        print(sheets.slides())
+        return 0
+    if sorted(options) in ([], ["--chart"], ["--chart", "--short"], ["--worksheet"], ["--answers"]):
         return replayed(options)
     if {"--help", "-h"} & {*options}:
         print(f"{USAGE}\n\n{here(__doc__ or '').strip()}")

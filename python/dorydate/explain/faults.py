@@ -37,7 +37,7 @@ def diagnose(given: Input, said: str, raw: bool) -> str:
         as_raw = raw or line.startswith(b"out ") and has_strangers(given)
         why = wrong_with_line(line, as_raw) or "No cause was found. docs/program.md has the forms of script lines."
         return f"Script line {found[1]} is line {number} of the file:\n  {shown(line)}\n{why}\nNothing was run: one bad line stops the whole script."
-    if "bad topology" in said:
+    if "bad topology" in said or "input too long" in said:
         why = wrong_with_topology(given) or "No cause was found. docs/program.md has the form of topologies."
         return f"{why}\nNothing was run."
     return "docs/program.md has a table of the program's faults."

@@ -24,7 +24,7 @@ Holes = dict[str, object]
 
 
 class Way:
-    """What goes from one host to another on link 0: what waits there, and the commands that are out and were not taken."""
+    """What goes from one host to another on link 0: what waits there, and the commands that are out."""
 
     def __init__(self, world: World, source: HostName, destination: HostName) -> None:
         self.flow = Flow(source, destination, 0)

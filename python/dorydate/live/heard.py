@@ -1,5 +1,7 @@
 """A host on the wire as a program that hears lines and answers by lines, so that `dorydate.conformance` may try it.
 
+    python3 -m dorydate.live.heard ./host -q 0/2 PORT echo 1
+
 Here this end of the wire is its IMP: what the host is handed goes to it in frames, and what it says until it is silent
 is its answer. Nobody can ask its user for something, so of the dialogues those remain in which nobody does.
 """
@@ -8,9 +10,12 @@ from __future__ import annotations
 
 import socket
 import subprocess
+import sys
 from collections.abc import Iterator, Sequence
 from contextlib import contextmanager, suppress
 
+from dorydate import ending
+from dorydate.conformance.dialogues import DIALOGUES
 from dorydate.conformance.steps import MINE, Dialogue
 from dorydate.conformance.trial import Finding, Trial
 from dorydate.coupling import Mute
@@ -18,7 +23,7 @@ from dorydate.export.leaders import crossing_of
 from dorydate.live.frames import LAST, READY, Assembly, Frame, WireFault
 from dorydate.live.messages import nop, read
 from dorydate.network import Host
-from dorydate.program import Program
+from dorydate.program import NoProgram, Program
 
 SILENCE = 0.2  # seconds after which a host has said what it has to say
 COMES = 10.0  # seconds in which a host has to say that it is ready
@@ -99,3 +104,26 @@ def had(command: Sequence[str], dialogue: Dialogue, port: int = 0, simulator: Pr
     """A dialogue with a host that is started for it: what is wrong, None where nothing is."""
     with started(command, port) as imp:
         return Trial(Heard(imp), dialogue, simulator).finding()
+
+
+def main() -> int:
+    """The status: 0 if all is right, else 1."""
+    if not (command := sys.argv[1:]):
+        said = f"which host? It is {MINE}, and the word PORT is that of its IMP: ./host {MINE} PORT echo 1"
+        print(f"heard: {said}", file=sys.stderr)
+        return 1
+    chosen, wrong = without_a_user(DIALOGUES), 0
+    try:
+        for dialogue in chosen:
+            found = had(command, dialogue)
+            wrong += found is not None
+            print(f"wrong  {dialogue.name}: {found}" if found else f"right  {dialogue.name}", flush=True)
+    except (Mute, NoProgram) as why:
+        print(f"heard: {why}", file=sys.stderr)
+        return 1
+    print(f"{len(chosen)} dialogues, {wrong} wrong; {len(DIALOGUES) - len(chosen)} need the user of the host")
+    return 1 if wrong else 0
+
+
+if __name__ == "__main__":
+    sys.exit(ending.run("heard", main))

@@ -16,7 +16,8 @@ from dorydate.model.topology import Topology
 BLANK = re.compile(rb"[ \t]*(#[^\x00-\x08\x0a-\x1f\x7f]*)?")
 TABLE = re.compile(rb"\[\[(imp|line)\]\]")
 PAIR = re.compile(rb'([a-z]+) = ("[ !#-\[\]-~]*"|true|false|0|[1-9][0-9]*)')
-MOST_OCTETS = 1_048_576
+MOST_OCTETS = 268_435_456
+TOO_LONG = 1, "", "arpasim: input too long\n"
 BAD_TOPOLOGY = 1, "", "arpasim: bad topology\n"
 FORMS: dict[str, type] = {"carrier": str, "raw": bool, "id": int, "hosts": int, "a": int, "b": int}
 ALL_KEYS = {"imp": {"id", "hosts"}, "line": {"a", "b"}}
@@ -69,8 +70,10 @@ def network_in(octets: bytes) -> Topology:
 
 def ends(octets: bytes, options: Sequence[str] = ()) -> End:
     """How the program ends on an input."""
+    if len(octets) > MOST_OCTETS:
+        return TOO_LONG
     lines = octets.split(b"\n")
-    if len(octets) > MOST_OCTETS or b"%" not in lines:
+    if b"%" not in lines:
         return BAD_TOPOLOGY
     marker = lines.index(b"%")
     try:

@@ -19,6 +19,7 @@ from dataclasses import dataclass
 
 from dorydate.definitions.promise import PACKED, files_of_promise
 from workshop.builds.manual import manual
+from workshop.documents.versions import for_debian, for_python
 from workshop.parts import ROOT, read_octets
 from workshop.tools import python_with
 
@@ -113,7 +114,7 @@ def wheel(release: Release, folder: str) -> str:
         ran = subprocess.run([python_with_setuptools(), "-c", build, folder], cwd=room, env=env, capture_output=True, text=True)
     if ran.returncode:
         raise Refused(f"setuptools made no wheel:\n{ran.stderr}")
-    return f"dorydate-{release.version}-py3-none-any.whl"
+    return f"dorydate-{for_python(release.version)}-py3-none-any.whl"
 
 
 # ---- archives
@@ -165,7 +166,7 @@ def c_of_module(release: Release) -> bytes:
 
 def debian_package(release: Release, folder: str) -> str:
     """Writes the package for Debian and those that follow it, and answers its name."""
-    name = f"dorydate_{release.version}_amd64.deb"
+    name = f"dorydate_{for_debian(release.version)}_amd64.deb"
     packed = {
         "usr/bin/arpasim": (release.native, 0o755),
         "usr/share/man/man1/arpasim.1.gz": (gzip.compress(manual(release.version).encode(), 9, mtime=0), 0o644),
@@ -177,7 +178,7 @@ def debian_package(release: Release, folder: str) -> str:
     }
     size = sum(len(octets) for octets, _ in packed.values()) // 1024
     control = f"""Package: dorydate
-Version: {release.version}
+Version: {for_debian(release.version)}
 Architecture: amd64
 Maintainer: Dorydate maintainers <maintainers@dorydate.invalid>
 Installed-Size: {size}

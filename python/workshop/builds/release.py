@@ -31,7 +31,7 @@ from workshop.builds import packages, site
 from workshop.builds.manual import manual
 from workshop.builds.packages import LICENCES, Refused, Release
 from workshop.builds.static import NotTheSame, static_program
-from workshop.documents.versions import faults as other_versions, version
+from workshop.documents.versions import faults as other_versions, for_debian, for_python, version
 from workshop.parts import ROOT, read_octets, text_of
 from workshop.wasm.make import read_note
 from workshop.wasm.pack import title_of
@@ -132,9 +132,9 @@ that arpasim is made of. arpasim-{note["version"]}-c.tar.gz is C that wasm2c mad
 other systems; its README has the line that compiles it. dorydate.html holds arpasim.wasm, and opens
 from a file in a browser of 2023 or later, without a network. lessons/ has {count} pages that open it.
 
-    pip install dorydate-{note["version"]}-py3-none-any.whl     arpasim, dorydate explain, explore, export, ..
+    pip install dorydate-{for_python(note["version"])}-py3-none-any.whl     arpasim, dorydate explain, explore, export, ..
     npm install -g ./dorydate-{note["version"]}.tgz              arpasim and dorydate, by Node 18 or later
-    dpkg -i dorydate_{note["version"]}_amd64.deb                  arpasim, its manual page, the workbench
+    dpkg -i dorydate_{for_debian(note["version"])}_amd64.deb                  arpasim, its manual page, the workbench
 
 The wheel has arpasim, and for other systems the page, whose module Node 18 or later runs.
 docs/browser.md of the repository says what is trusted in a module beyond arpasim.

@@ -78,10 +78,9 @@ class CopyOfCrate(Copy):
             if name == crate:
                 shutil.copytree(f"{ROOT}/crates/{name}", f"{folder}/crates/{name}", symlinks=True, ignore=shutil.ignore_patterns("rlib"))
             else:
-                shutil.copytree(f"{ROOT}/crates/{name}", f"{folder}/crates/{name}", symlinks=True, ignore=shutil.ignore_patterns("incremental", "must-fail"), copy_function=linked)
+                shutil.copytree(f"{ROOT}/crates/{name}", f"{folder}/crates/{name}", symlinks=True, ignore=shutil.ignore_patterns("incremental"), copy_function=linked)
         with open(f"{folder}/crates.txt", "w", encoding="utf-8") as file:
             file.writelines(f"{name}:{lines[name]}\n" for name in needed)
-        shutil.rmtree(f"{self.own}/must-fail", ignore_errors=True)
 
     def command(self) -> list[str]:
         return ["rt", "check", *self.words]

@@ -129,7 +129,7 @@ def is_row(name: str, crate: str) -> bool:
 
 
 def is_planted_bug(name: str, crate: str) -> bool:
-    return any(os.path.exists(f"{ROOT}/crates/{crate}/{at}/{name}.edit") for at in ("must-fail", "wrong-bodies"))
+    return os.path.exists(f"{ROOT}/crates/{crate}/wrong-bodies/{name}.edit")
 
 
 def unknown_attacks(crate: str, attacked: str) -> Iterator[str]:

@@ -2,6 +2,8 @@
 
 from __future__ import annotations
 
+from dorydate.program import MOST_OCTETS
+
 # a script line, and words of the cause that is meant
 BAD_LINES = [
     (b"jump", "`jump` is not an event"),
@@ -101,7 +103,7 @@ BAD_TOPOLOGIES = [
     (b'carrier = "plain"\nraw = true\nimp = []\n%\n', "1 to 63 IMPs"),
     (b'carrier = "Plain"\nraw = true\n[[imp]]\nid = 1\nhosts = 1\n%\n', "There are two carriers"),
     (GOOD + b"".join(b"[[imp]]\nid = %d\nhosts = 1\n[[line]]\na = 1\nb = %d\n" % (it, it) for it in range(2, 8)) + b"%\n", "more than five lines"),
-    (b"#" * 1_048_600, "at most 1048576 octets are read"),
+    (b"#" * (MOST_OCTETS + 1), f"at most {MOST_OCTETS} octets are read"),
     (b'carrier = "plain"\n[[imp]]\nid = 1\nhosts = 1\nraw = true\n%\n', "Line 5 of the file:\n  raw = true\n`raw` comes after `[[imp]]`, so it is a key of that table. Put it before the first `[[`."),
     (GOOD + b"imp = " + b"[" * 10_000 + b"\n%\n", "brackets within brackets, hundreds deep"),
     (GOOD + b"a." * 100_000 + b"a = 1\n%\n", "It has more than 100 dots"),

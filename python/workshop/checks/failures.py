@@ -33,6 +33,7 @@ from concurrent.futures import ThreadPoolExecutor
 from dataclasses import dataclass
 from itertools import count
 
+from dorydate.program import MOST_OCTETS
 from workshop.parts import ROOT, any_program
 from workshop.tools import lacking, left_out
 
@@ -149,17 +150,16 @@ class Trial:
 
 def check_streams(program: str) -> int:
     """How many things are wrong with what the program does with endless input and full output."""
-    wanted = (1, b"", b"arpasim: bad topology\n")
+    wanted = (1, b"", b"arpasim: input too long\n")
     with open("/dev/zero", "rb") as zeros, tempfile.TemporaryFile() as long, open("/dev/full", "wb") as full:
         endless = subprocess.run([program], stdin=zeros, capture_output=True, timeout=60)
-        long.write(b"#\n" * 1_000_000)
-        long.seek(0)
+        long.truncate(MOST_OCTETS + 1_000_000)
         limited = subprocess.run([program], stdin=long, capture_output=True, timeout=60)
         was_read = os.lseek(long.fileno(), 0, os.SEEK_CUR)
         with open(f"{ROOT}/examples/first-message", "rb") as octets:
             lost = subprocess.run([program], stdin=octets, stdout=full, stderr=subprocess.PIPE, timeout=60)
     found = [(it.returncode, it.stdout, it.stderr) == wanted for it in (endless, limited)]
-    found += [was_read == 1_048_577, (lost.returncode, lost.stderr) == STOPPED]
+    found += [was_read == MOST_OCTETS + 1, (lost.returncode, lost.stderr) == STOPPED]
     print(f"endless input, long input, {was_read} octets of it read, full output: {'all well' if all(found) else found}")
     return found.count(False)
 

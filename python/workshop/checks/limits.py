@@ -46,6 +46,10 @@ def end_of(status: int, printed: str, said: str) -> End:
 
 PAIR = Topology("plain", False, [(1, 1), (2, 1)], [])
 MANY = Topology("plain", False, [(imp, 4) for imp in range(1, 64)], [])
+HOSTS = [f"{host}/{imp}" for imp in range(1, 64) for host in range(4)]
+# half of all hosts are strangers, and one of two
+ODD = MANY._replace(foreign=[(imp, [1, 3]) for imp in range(1, 64)])
+STRANGE = Topology("plain", False, [(1, 2), (2, 2)], [], [(1, [1]), (2, [1])])
 CONNECTED = ["contact 0/1 0/2", "calm 3", "openrecv 0/1 0/2 16 33", "opensend 0/2 0/1 33 16 8", "calm 3"]
 SHORT = ["contact 0/1 0/2", "calm 3", "server 0/1 7 100", "openrecv 0/1 0/2 2 1", "opensend 0/2 0/1 1 2 8", "calm 3", "grant 0/1 2 65000 1000000"]
 SERVED = ["contact 0/1 0/2", "calm 3", "server 0/1 7 100", "user 0/2 0/1 7 16", "calm 40"]
@@ -74,8 +78,8 @@ LIMITS: dict[str, Limit] = {
     "crossings, notices and changes of lives": Limit([], PAIR, [*SHORT, *["send 0/2 1 8 5A", "calm 1"] * 34_000]),
     # in each round one life takes, another sends, and both are granted as much again: a million changes
     "notices that services hear, and changes of lives": Limit([], PAIR, [*JOINED, "send 0/1 101 8 5A", "calm 260000"]),
-    # an event for each seven octets of an input
-    "events of a script": Limit([], PAIR, ["calm 0"] * 149_000),
+    # an event for each seven octets of an input, which has more octets than one of 20 bits can count
+    "events of a script": Limit([], PAIR, ["calm 0"] * 600_000),
     "peers": Limit([], MANY, [*[f"contact 0/1 {host}/{imp}" for imp in range(2, 64) for host in range(4)], "calm 6"]),
     "requests in a row": Limit([], MANY, [*[f"contact {host}/{imp} 0/1" for imp in range(2, 64) for host in range(4)], "calm 12"]),
     "ends": Limit(["--book"], PAIR, ["contact 0/1 0/2", "calm 3", *[f"openrecv 0/1 0/2 {2 * at} {2 * at + 1}" for at in range(1, 250)], "calm 20", *[f"opensend 0/1 0/2 {2 * at + 1} {2 * at} 8" for at in range(1, 5000)], "calm 1000"]),
@@ -83,6 +87,17 @@ LIMITS: dict[str, Limit] = {
     "commands that wait": Limit([], PAIR, ["contact 0/1 0/2", "calm 3", *["echo 0/1 0/2 65"] * 5000, "calm 400"]),
     "a typed line": Limit([], PAIR, [*SERVED, f"type 0/2 {'A' * 20_000}", "calm 200"]),
     "servers": Limit([], PAIR, ["contact 0/1 0/2", "calm 3", *[f"server 0/1 {2 * at + 1} {10_000 + 2 * at}" for at in range(600)], "user 0/2 0/1 1199 16", "calm 40"]),
+    "strangers": Limit(
+        ["--book", "--texts"],
+        ODD,
+        [*(f"out {host}/{imp} {host - 1}/{imp} 0 48 00080001000C" for imp in range(1, 64) for host in (1, 3)), "calm 3"],
+    ),
+    "events among strangers": Limit([], STRANGE, ["calm 0"] * 600_000),
+    "flows of an IMP": Limit(
+        [],
+        MANY._replace(carrier="subnet", raw=True),
+        [f"out 0/1 {host}/{imp} {link} 0 -" for link in range(41) for imp in range(2, 64) for host in range(4)],
+    ),
     "lines of a subnet": Limit([], Topology("subnet", True, [(imp, 1) for imp in range(1, 64)], [*ring(63)]), ["calm 40", *[f"out 0/1 0/{imp} 5 8 41" for imp in range(2, 64)], "calm 60"]),
 }
 
@@ -97,6 +112,9 @@ TRACES: dict[str, Limit] = {
     ),
     # after its first round, which changes nothing, a calm has no more lines
     "rounds of a trace": Limit(["--trace"], Topology("subnet", True, [(1, 0)], []), ["calm 4294967295", "route 1"]),
+    "strangers of a trace": Limit(["--trace"], ODD, ["calm 1"]),
+    "events of a trace among strangers": Limit(["--trace"], STRANGE, ["calm 0"] * 60_000),
+    "octets of the input of a trace": Limit(["--trace"], PAIR, ["calm 0"] * 200_000),
     "events of a trace of hosts": Limit(["--trace"], PAIR, ["take 0/1"] * 110_000),
     "rounds of a trace of hosts": Limit(["--trace"], PAIR, [*JOINED, "send 0/1 101 8 5A", "calm 4000"]),
 }
@@ -139,24 +157,29 @@ LOGS: dict[str, Callable[[], bytes]] = {
     "crossings of a log": lambda: b"down 0/1\nup 0/1\n" * 500_000 + b"end\n",
     # the first crossing is of no run, so that messages are looked at one by one
     "crossings of a log that strays": lambda: b"up 0/1\n" + b"down 0/1\nup 0/1\n" * 50_000 + b"end\n",
+    "strangers of a log": lambda: in_lines([*(f"foreign {it}" for it in HOSTS), "end"]),
+    "flows of a log": lambda: in_lines(
+        [*(f"out {one} {other} {link} 0 -" for one in HOSTS[:2] for other in HOSTS for link in range(256)), "end"]
+    ),
     "octets of a log": lambda: in_lines([*CARRIED * 17_500, "end"]),
     "lives of a log": lambda: in_lines(
         [*CONTACT, *opened(CONNECTIONS), *lives_of(CONNECTIONS), *["handed 0 -"] * (2 * CONNECTIONS), "end"]
     ),
 }
-DOCUMENT = "octets of a topology"
-COMMENTED = Limit([], PAIR, ["contact 0/1 0/2", "calm 3"])
-NAMES = [*LIMITS, *TRACES, *LOGS, DOCUMENT]
+# comments before a topology, which the models leave out
+COMMENTED: dict[str, Limit] = {
+    "octets of a topology": Limit([], PAIR, ["contact 0/1 0/2", "calm 3"]),
+    "octets of a topology with strangers": Limit(["--check"], STRANGE, ["calm 3"]),
+}
+NAMES = [*LIMITS, *TRACES, *LOGS, *COMMENTED]
 
 
 def given(name: str) -> tuple[list[str], bytes]:
     """The options and the input of a limit."""
     if name in LOGS:
         return ["--audit"], LOGS[name]()
-    if name == DOCUMENT:
-        return COMMENTED.options, COMMENTS + spelled_input(COMMENTED.network, COMMENTED.lines)
-    limit = (LIMITS | TRACES)[name]
-    return limit.options, spelled_input(limit.network, limit.lines)
+    limit = (LIMITS | TRACES | COMMENTED)[name]
+    return limit.options, (COMMENTS if name in COMMENTED else b"") + spelled_input(limit.network, limit.lines)
 
 
 def by_program(program: str, name: str) -> End:
@@ -172,7 +195,7 @@ def by_model(name: str) -> End:
         return end_of(*ends_audit(LOGS[name]()))
     if name in TRACES:
         return end_of(*ends_traced(TRACES[name]))
-    limit = COMMENTED if name == DOCUMENT else LIMITS[name]
+    limit = (LIMITS | COMMENTED)[name]
     return end_of(*expected(limit.options, limit.network, [*limit.lines, ""]))
 
 

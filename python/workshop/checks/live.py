@@ -2,7 +2,7 @@
 
 Compiles examples/host.c with the system's `cc`, and lets it speak to `dorydate live` over UDP and TCP: with the echo
 service of a host with a program, with another host in C, twenty of them on the map of August 1972, in the weather of 20
-seeds (as many as a minute lets begin, which is said), and while the session is killed again and again. A hostile host
+seeds (as many as 45 seconds let begin, which is said), and while the session is killed again and again. A hostile host
 sends octets of no frame, leaders of no network and commands of no protocol. Of each session the replay is what was
 printed, and the audit says `kept`; the independent model prints the same, event by event. The host in C is right in the
 dialogues of `dorydate.conformance` that need no user, and faults that are planted in it are found.
@@ -11,6 +11,7 @@ dialogues of `dorydate.conformance` that need no user, and faults that are plant
 from __future__ import annotations
 
 import argparse
+import os
 import random
 import shutil
 import socket
@@ -47,7 +48,7 @@ HOSTILE = 1_500  # datagrams of each kind
 KILLS = 4
 MODELLED = 3_000  # events of a session that the model prints, too
 SEEDS = 20
-SECONDS = 60.0  # after which no weather begins any more
+SECONDS = 45.0  # after which no weather begins any more
 MOST_MEMORY = 200_000  # kB of a session
 # what is written in place of what in the host in C, the dialogue that finds it, and by which words
 PLANTED = [
@@ -251,7 +252,7 @@ def main() -> int:
     parser = argparse.ArgumentParser(prog="check live", add_help=False)
     parser.add_argument("--seeds", type=int, default=SEEDS)
     seeds = parser.parse_args().seeds
-    program = any_program()
+    program = os.environ.get("DORYDATE_PROGRAM") or any_program()
     if program is None:
         print("check live: there is no program of these sources: ./build makes it")
         return 1

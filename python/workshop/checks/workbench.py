@@ -1,17 +1,20 @@
-"""The workbench: its modules by Node on every example and by the independent model, and with --browser its page in browsers (2 minutes).
+"""The workbench: its modules by Node and by the independent model, and with --browser in browsers (2 minutes).
 
-With Node (Debian's package `nodejs`), over the native program (over its module, which is faster, while it is not proved and has one):
+With Node (Debian's package `nodejs`), over the native program (over its module, which is faster, while it is not
+proved and has one):
 - each example's moments print what is stored, each stop is there once, and a change at a random position is exact;
-- what each event leaves inside, in the programs of hosts too, is what the independent model in Python has then, part for part;
+- what each event leaves inside, in the programs of hosts too, is what the independent model in Python has then, part
+  for part;
 - packets that are thrown away are called repeats or lost, as rows written by hand say;
 - of a life or a message of a book it says what ./explain --book says, in broken books too;
-- nothing that waits is left out at any stop, each message has its lane, each sentence is whole, and faults, texts and addresses are as by hand;
+- nothing that waits is left out at any stop, each message has its lane, each sentence is whole, and faults, texts and
+  addresses are as by hand;
 - random lines have a fault here exactly where the reader in Python finds one;
 - planted faults in all of these are found.
 
-TypeScript (`node-typescript`) checks the types where it is there. With --browser the page of `./build --wasm` is opened in Chromium,
-Firefox and WebKit (Debian's packages `chromium`, `firefox-esr`, and `webkit2gtk-driver` with `xvfb`), as many of them as there are: each
-lesson is stepped forth and back, parts are tapped, sizes measured, planted faults found.
+TypeScript (`node-typescript`) checks the types where it is there. With --browser the page of `./build --wasm` is
+opened in Chromium, Firefox and WebKit (Debian's packages `chromium`, `firefox-esr`, and `webkit2gtk-driver` with
+`xvfb`), as many of them as there are: each lesson is stepped forth and back, parts are tapped, sizes measured, planted faults found.
 """
 
 from __future__ import annotations

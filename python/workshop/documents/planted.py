@@ -7,7 +7,6 @@ since counts as not tried.
 
 from __future__ import annotations
 
-import glob
 import json
 import os
 from collections.abc import Iterator, Sequence
@@ -22,8 +21,8 @@ RESULTS = f"{ROOT}/docs/measured/planted.json"
 HEAD = (
     "# Planted bugs\n\n`./check docs --write` makes this page. Refused counts the bugs that `./check edits --note` saw refused "
     "at goals of their own functions, with the text that they have now. [What it means](../PLANTED.md).\n\n"
-    "| Crate | `must-fail/` | `wrong-bodies/` | of these tried by the gate | Refused | First | Last |\n"
-    "|---|---|---|---|---|---|---|\n"
+    "| Crate | Planted bugs | of these tried by the gate | Refused | First | Last |\n"
+    "|---|---|---|---|---|---|\n"
 )
 UNTRIED = "\nNot seen refused:\n\n"
 # of each crate its planted bugs, each with the day on which it was refused and the digest of its text
@@ -69,13 +68,12 @@ def row(crate: str, found: Results) -> tuple[list[int], list[str]]:
     """What the page has of a crate: its counts, and the first and the last day."""
     edits, left = edits_of(crate), untried(crate, found)
     days = sorted(found[crate][it.title][0] for it in edits if it.title not in left)
-    must_fail = len(glob.glob(f"{ROOT}/crates/{crate}/must-fail/*.edit"))
-    counts = [must_fail, len(edits), sum(it.is_of_gate for it in edits), len(days)]
+    counts = [len(edits), sum(it.is_of_gate for it in edits), len(days)]
     return counts, [days[0], days[-1]] if days else ["", ""]
 
 
 def page() -> str:
-    rows, sums, left = [], [0, 0, 0, 0], []
+    rows, sums, left = [], [0, 0, 0], []
     found = results()
     for crate in (it for layer in layers() for it in layer.crates):
         numbers, days = row(crate, found)

@@ -1,7 +1,7 @@
 """docs/measured/rules.md: from each definition that a contract cites to the function, the rows and the planted bugs, each with its place.
 
 Read from the sources: definitions of specs/ with the comment above them, the clauses `ensures` of functions in src/ and the
-fields of those that are records of specs/Laws, the tables of rows in CLAIMS.md, and the edits of must-fail/ and wrong-bodies/ by
+fields of those that are records of specs/Laws, the tables of rows in CLAIMS.md, and the edits of wrong-bodies/ by
 the function that they change. `./check docs --rule WORD..` prints the rules that have these words, each with its definition and its functions; of a definition that no contract cites, the functions whose contracts
 cite one that uses it, by the shortest way.
 """

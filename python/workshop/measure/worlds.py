@@ -5,7 +5,7 @@ that a busy machine slows both; both have to print the same. With --only, the ki
 Two hosts talk over plain mailboxes, and over a chain of four IMPs:
 
 - a stream: messages of 8,000 bits, each let go by a grant of its own. 1,000,000 bits are 125 messages. In a script eight bits
-  take two digits, and an input has at most 1,048,576 octets, so ten times as many don't fit: beside 1,000,000 bits, 400,000
+  take two digits, and a measured input has at most 1,048,576 octets, so ten times as many don't fit: beside 1,000,000 bits, 400,000
   are compared with 4,000,000;
 - 40 connections at once, 20 each way, since one host has 30 links to receive on from another: on each goes a message of 80
   bits after its grant, again and again;

@@ -3,8 +3,9 @@
 FOLDER has `page.html`, `page.css` and `main.js`, the module of JavaScript that the page begins with (web/page, or another one). In
 `page.html` four comments say where what is packed goes: `<!-- policy -->`, `<!-- style -->`, `<!-- data -->` and `<!-- script -->`. The
 data are blocks that no browser runs: `program` (MODULE, by gzip and base85), `worker` (web/run/worker.js), `examples` (JSON by gzip and
-base85: a name, a title and the text of each input in examples/), `chronology` (docs/chronology.md, by gzip and base85) and `opened`, a
-list that is empty, into which ./explain --page puts inputs like these, with which the page opens.
+base85: a name, a title and the text of each input in examples/), `sentences` (the table of sentences), `chronology`
+(docs/chronology.md, both by gzip and base85) and `opened`, a list that is empty, into which ./explain --page puts
+inputs like these, with which the page opens.
 
 Modules are joined to one script, each in a function of its own, so names of two never meet. They may import names, or all names as one
 (`import * as it`), from other files, and export declarations and lists of names; anything else is refused. The policy of the page forbids
@@ -38,8 +39,12 @@ MAY_COUNT = re.compile(r"['`/]")  # in a line with one of these a space may be i
 SPACED = re.compile(r'("(?:[^"\\]|\\.)*")|[ ]*([{}()\[\];,=<>?:&|!*])[ ]*')
 LEFT_OVER = re.compile(r"^(?:import|export)\b.*$|\bimport\(", re.MULTILINE)
 ALIAS = re.compile(r"(\w+)(?:\s+as\s+(\w+))?")
-ENDINGS = re.compile(r"\.(?:py|args|stdout|stderr|status|rows|md)$")
+ENDINGS = re.compile(r"\.\w+$")
 AVOIDED, INSTEAD = "<`", ",."  # digits of base85 that would end a block, or a text in a script, and those in their place
+
+
+TABLE, UNPACKS = f"{ROOT}/python/dorydate/sentences/table.mjs", f"{ROOT}/web/run/embedded.js"
+TOO_OLD = "This page wants a browser of 2023 or later."
 
 
 class Refused(Exception):
@@ -93,6 +98,8 @@ def add(packed: Packed, path: str) -> int:
         return packed.places[path]
     if path in packed.open:
         raise Refused(f"{os.path.relpath(path, ROOT)} imports itself, by way of {', '.join(os.path.relpath(it, ROOT) for it in packed.open)}")
+    if path == TABLE:
+        return add_table(packed)
     packed.open.append(path)
     text = bare(read(path), path)
 
@@ -119,6 +126,22 @@ def add(packed: Packed, path: str) -> int:
     answer = ", ".join(name if name == there else f"{there}: {name}" for name, there in given)
     packed.texts.append(tight(f"const module{place} = (() => {{\n{text}return {{ {answer} }};\n}})();\n"))
     return place
+
+
+def add_table(packed: Packed) -> int:
+    """Adds the table of sentences, which is a block of its own. A browser that can't unpack it says so."""
+    unpacks = f"module{add(packed, UNPACKS)}"
+    place = packed.places[TABLE] = len(packed.places)
+    late = f'document.getElementById("sentence").textContent = {json.dumps(TOO_OLD)};'
+    text = f'{unpacks}.unpackedText({unpacks}.block("sentences"))'
+    table = f"JSON.parse(await {text}.catch((why) => {{ {late} throw why; }}))"
+    packed.texts.append(tight(f"const module{place} = {{ TABLE: {table} }};\n"))
+    return place
+
+
+def table_in(text: str) -> str:
+    """The table as JSON."""
+    return text.split("TABLE = ", 1)[1].rstrip().removesuffix(";")
 
 
 def joined(entry: str) -> str:
@@ -184,6 +207,7 @@ def page(folder: str, module: bytes) -> str:
     data += block("worker", "text/plain", joined(f"{ROOT}/web/run/worker.js"))
     data += block("opened", "application/json", "[]")
     data += block("examples", "application/octet-stream", spell_octets(examples.encode()))
+    data += block("sentences", "application/octet-stream", spell_octets(table_in(read(TABLE)).encode()))
     data += block("chronology", "application/octet-stream", spell_octets(read(f"{ROOT}/docs/chronology.md").encode()))
     parts = {
         "policy": f'<meta http-equiv="Content-Security-Policy" content="{policy}">',

@@ -90,7 +90,7 @@ for (const exercise of EXERCISES) {
 
 test("a goal is in the head of an input, and one that can't be read is said to be so", async () => {
     assert.equal(goalOf(readInput("raw = true\n%\n# Goal: in A\n")), null);
-    assert.deepEqual(goalOf(readInput("# Goal: in A ..\n%\n")), { pattern: "in A ..", shortest: 0 });
+    assert.deepEqual(goalOf(readInput("# Goal: in A ..\n%\n")), { pattern: "in A ..", shortest: 0, hint: "" });
     const { text } = await judged(program.batch, readInput("# Goal: In A\n%\n"));
     assert(text.startsWith("The goal can't be read: `In A` is not a line"), text);
 });

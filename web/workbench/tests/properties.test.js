@@ -97,7 +97,7 @@ for (const name of NAMES) {
         const points = [...imps].map(([imp, point]) => ({ ...point, ...(boxes.get(imp) ?? { w: 0, h: 0 }) }));
         points.forEach(
             (a, at) => points.slice(at + 1).forEach(
-                (b) => assert(Math.abs(a.x - b.x) >= a.w + b.w || Math.abs(a.y - b.y) >= a.h + b.h),
+                (b) => assert(Math.abs(a.x - b.x) >= a.w + b.w - 1e-6 || Math.abs(a.y - b.y) >= a.h + b.h - 1e-6 || Math.hypot(a.x - b.x, a.y - b.y) >= a.w + b.w),
             ),
         );
         assert.equal(hosts.size, history.network.hosts.length);

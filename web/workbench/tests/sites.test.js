@@ -39,7 +39,7 @@ test("hosts have the names of their machines where a site has several", () => {
 
 test("sites from coast to coast are on the map of the country, west to the left and north above, none on another", () => {
     const network = networkOf("arpanet-of-december-1970");
-    const { imps, outline, boxes } = placed(network);
+    const { imps, outline, boxes, width, height } = placed(network);
     assert(outline.length > 40);
     const at = (/** @type {number} */ imp) => imps.get(imp) ?? { x: 0, y: 0 };
     assert(at(1).x < at(4).x && at(4).x < at(13).x && at(13).x < at(6).x, "UCLA, UTAH, CASE, MIT");
@@ -47,9 +47,10 @@ test("sites from coast to coast are on the map of the country, west to the left 
     const all = [...imps];
     for (const [a, one] of all) {
         for (const [b, other] of all) {
-            const [w, h] = [(boxes.get(a)?.w ?? 0) + (boxes.get(b)?.w ?? 0), 20];
-            assert(a === b || Math.abs(one.x - other.x) > w || Math.abs(one.y - other.y) > h, `${a} on ${b}`);
+            const apart = (boxes.get(a)?.w ?? 0) + (boxes.get(b)?.w ?? 0);
+            assert(a === b || Math.hypot(one.x - other.x, one.y - other.y) > apart, `${a} on ${b}`);
         }
+        assert(one.x > 0 && one.y > 0 && one.x < width && one.y < height, `${a} is beyond the map`);
     }
     assert.equal(placed(networkOf("arpanet-of-december-1969")).outline.length, 0);
 });

@@ -81,13 +81,16 @@ test("who contacts a stranger waits for its RRP, and not for it to start, unless
     const whyOf = async (/** @type {string[]} */ lines) => {
         const history = await among(lines);
         const waits = waitsOf(history.at(history.length), new Talk(history.replay).goTo(history.length));
-        return waits.filter(({ what }) => what.includes("contact")).map(({ bad }) => bad);
+        return waits.filter(({ what }) => what.includes("contact")).map((it) => [it.for, it.bad]);
     };
-    assert.deepEqual(await whyOf(script), [false]);
-    assert.deepEqual(await whyOf([...script, "hostdown 1/2"]), [true]);
+    const taken = [...script, "calm 4", "take 1/2", "calm 6"];
+    assert.deepEqual(await whyOf(taken), [["the RRP of host 1/2, a stranger", false]]);
+    assert.deepEqual(await whyOf([...taken, "hostdown 1/2"]), [["host 1/2, which is down", true]]);
+    const [[why, isBad]] = await whyOf([...script, "hostdown 1/2"]);
+    assert(!isBad && /its RST/.test(String(why)), "what is under way comes first");
 });
 
-test("a calm ends with its rest; while something waits for a stranger it lasts, until the run is stopped", async () => {
+test("a calm ends with its rest; while something waits for a stranger it lasts, and is shown in part", async () => {
     const calm = "calm 4294967295";
     const history = await among([calm]);
     assert.equal(history.replay.cut, "");
@@ -95,7 +98,8 @@ test("a calm ends with its rest; while something waits for a stranger it lasts, 
     const waiting = ['carrier = "plain"', ...ROW, "%", "contact 0/1 1/2", calm, ""].join("\n");
     const stopped = await replay(run, waiting, { ...PATIENT, seconds: 1 });
     assert(isReplay(stopped));
-    assert(/^The program was stopped after 1 seconds\./.test(stopped.cut), stopped.cut);
+    assert(/is shown as `calm 60`\.$/.test(stopped.cut), stopped.cut);
+    assert(stopped.moments.length > 0);
 });
 
 test("a stranger is asked what it sends, and hosts with programs aren't", async () => {

@@ -4,7 +4,7 @@ import assert from "node:assert/strict";
 import { test } from "node:test";
 
 import { chance } from "../../check/chance.js";
-import { readable, Viewport } from "../viewport.js";
+import { Viewport } from "../viewport.js";
 
 test("a zoom keeps the point under the hand where it is, within the map", () => {
     const draw = chance(7);
@@ -48,23 +48,4 @@ test("the whole map comes back, and a pan of it moves nothing", () => {
     port.show({ x: 990, y: 490 });
     const { view } = port;
     assert(view.x + view.width >= 990 && view.y + view.height >= 490);
-});
-
-test("no shown label is on another, and a heavier one is never left out for a lighter one", () => {
-    const draw = chance(11);
-    for (let turn = 0; turn < 200; turn += 1) {
-        const labels = Array.from({ length: 63 }, () => (
-            { at: { x: draw(900), y: draw(500) }, width: 20 + draw(60), weight: draw(4) }
-        ));
-        const scale = (1 + draw(20)) / 10;
-        const shown = readable(labels, scale, 14);
-        const isOn = (/** @type {number} */ a, /** @type {number} */ b) =>
-            Math.abs(labels[a].at.x - labels[b].at.x) * scale < (labels[a].width + labels[b].width) / 2
-            && Math.abs(labels[a].at.y - labels[b].at.y) * scale < 14;
-        labels.forEach((_, a) => {
-            labels.forEach((_, b) => assert(a === b || !shown[a] || !shown[b] || !isOn(a, b)));
-            const heavier = labels.filter((it, b) => shown[b] && it.weight >= labels[a].weight && b !== a);
-            assert(shown[a] || heavier.length > 0);
-        });
-    }
 });

@@ -91,13 +91,12 @@ export function say(element, text) {
  *
  * @param {Element} element
  * @param {string} text
+ * @param {(part: string) => (string | Node)[]} [plain] what the rest is made of
  */
-export function sayWithCode(element, text) {
+export function sayWithCode(element, text, plain = (part) => [part]) {
     if (element.getAttribute("data-said") === text) return;
     element.setAttribute("data-said", text);
-    element.replaceChildren(
-        ...text.split("\x60").map((part, place) => (place % 2 ? h("code", {}, part) : document.createTextNode(part))),
-    );
+    element.replaceChildren(...text.split("\x60").flatMap((part, place) => (place % 2 ? [h("code", {}, part)] : plain(part))));
 }
 
 /**

@@ -7,9 +7,10 @@ import { h } from "./dom.js";
  *
  * @param {string} text
  * @param {string} name
+ * @param {string} [type]
  */
-export function saveText(text, name) {
-    const address = URL.createObjectURL(new Blob([text], { type: "text/plain" }));
+export function saveText(text, name, type = "text/plain") {
+    const address = URL.createObjectURL(new Blob([text], { type }));
     h("a", { href: address, download: name }).click();
     URL.revokeObjectURL(address);
 }

@@ -4,7 +4,7 @@ import { headComment } from "../script.js";
 import { quietSentence, sentenceOf } from "../sentences.js";
 import { answerTo } from "../walk.js";
 import { byId, h, say, sayWithCode, set } from "./dom.js";
-import { legendSign } from "./map.js";
+import { withTerms } from "./terms.js";
 
 /** @typedef {import("../fold.js").History} History */
 /** @typedef {import("../stops.js").Stop} Stop */
@@ -21,6 +21,7 @@ import { legendSign } from "./map.js";
  * @property {Set<Note>} asked
  * @property {boolean} hidden whether what is to come is hidden
  * @property {string} title
+ * @property {string} first what a first visit reads in place of what the input says of itself
  * @property {() => void} next shows what happens
  */
 
@@ -35,19 +36,11 @@ export const TABS = /** @type {[string, string][]} */ ([
     ["printed", "Printed"],
     ["compare", "Compare"],
 ]);
-const LEGEND = [
-    ["data", "data"],
-    ["rfnm", "RFNM"],
-    ["dead", "Dead"],
-    ["ask", "question"],
-    ["routes", "distances"],
-    ["ack", "ack"],
-];
 const MOST_OF_INTRO = 320; // letters
 const MOST_OF_EVENT = 90;
 
 /**
- * Fills the lists that stay as they are: lessons, tabs, legend.
+ * Fills the lists that stay as they are: lessons and tabs.
  *
  * @param {Example[]} examples
  * @param {(tab: string) => void} openTab
@@ -64,8 +57,6 @@ export function fillLists(examples, openTab) {
             return h("button", { ...more, id: `tab-${name}`, class: `${name}-tab` }, title, badge && " ", badge);
         }),
     );
-    const signs = LEGEND.map(([kind, words]) => h("span", {}, legendSign(kind), words));
-    byId("legend").replaceChildren(...signs, h("span", {}, "Tap a part to change it"));
 }
 
 /**
@@ -82,15 +73,24 @@ export function drawSentence(step) {
     if (question) drawQuestion(step, question);
     if (!stop) {
         say(byId("label"), step.title);
-        return sayWithCode(sentence, asking ? "" : introOf(history));
+        return sayWithTerms(sentence, asking ? "" : step.first || introOf(history));
     }
     const event = history.replay.input.events[stop.event];
     const words = event.words.join(" ").slice(0, MOST_OF_EVENT);
     say(byId("label"), asking ? "Before the next step" : `${words}${roundsOf(stop)}`);
     const text = asking ? "" : stop.main < 0 ? quietSentence(history, stop) : sentenceOf(history, stop.main);
     const isCut = at === stops.length && !step.hidden && history.replay.cut !== "";
-    sayWithCode(sentence, isCut ? `${text} ${history.replay.cut}` : text);
+    sayWithTerms(sentence, isCut ? `${text} ${history.replay.cut}` : text);
     sentence.classList.toggle("refused", text.startsWith("Refused"));
+}
+
+/**
+ * @param {Element} sentence
+ * @param {string} text
+ */
+function sayWithTerms(sentence, text) {
+    const seen = new Set();
+    sayWithCode(sentence, text, (part) => withTerms(part, seen));
 }
 
 /**
@@ -133,12 +133,15 @@ function drawQuestion({ stops, at, notes, asking, next }, question) {
  * @param {number} at how many stops are done
  * @param {boolean} hidden whether what is to come is hidden
  * @param {{undo: boolean, redo: boolean}} can
+ * @param {number} rounds how many have passed
  */
-export function drawFoot(stops, at, hidden, can) {
+export function drawFoot(stops, at, hidden, can, rounds) {
     const slider = /** @type {HTMLInputElement} */ (byId("slider"));
     const count = `step ${at}${hidden ? "" : ` of ${stops.length}`}`;
     set(slider, { max: hidden ? Math.max(at, 1) : stops.length, "aria-valuetext": count });
     slider.value = String(at);
+    slider.style.setProperty("--done", `${(100 * at) / Math.max(1, Number(slider.max))}%`);
+    say(byId("clock"), `round ${rounds}`);
     say(byId("count"), count);
     set(byId("first"), { disabled: at === 0 });
     set(byId("last"), { disabled: hidden });

@@ -2,11 +2,14 @@
 
 import { bundled } from "../bundles.js";
 import { partTitle } from "../choices.js";
-import { leaving, placed } from "../layout.js";
+import { around, firstFree, putLabels } from "../labels.js";
+import { boxesOf, leaving, placed } from "../layout.js";
 import { FAR } from "../state.js";
-import { impOf, machineOf, siteName, wayOf } from "../topology.js";
-import { readable, Viewport } from "../viewport.js";
+import { impOf, machineOf, siteName } from "../topology.js";
+import { Viewport } from "../viewport.js";
 import { keep, s, say, set } from "./dom.js";
+import { drawFrame } from "./frames.js";
+import { badge, between, cross, crossPath, hatch, label, spelled, updateBadge } from "./signs.js";
 
 /** @typedef {import("../topology.js").Network} Network */
 /** @typedef {import("../layout.js").Layout} Layout */
@@ -15,26 +18,18 @@ import { keep, s, say, set } from "./dom.js";
 /** @typedef {import("../talk.js").Talk} Talk */
 /** @typedef {import("../trace.js").Frame} Frame */
 /** @typedef {import("../choices.js").Part} Part */
+/** @typedef {import("./frames.js").FrameOnLine} FrameOnLine */
 
-/**
- * A frame that is drawn.
- *
- * @typedef {object} FrameOnLine
- * @property {number} line
- * @property {"+" | "-"} way
- * @property {number} place its place among the frames that way
- * @property {Frame} frame
- * @property {number} count how many are drawn that way
- * @property {number} more how many are not, of the last one that is
- */
-
-/** The height of letters in a map of few IMPs, in one of many, and of its details there; and the least in pixels. */
-const [LETTERS, SMALL_LETTERS, DETAIL_LETTERS, LEAST_LETTERS] = [10, 8.5, 4.6, 9.5];
-
-const MOST_LARGER = 1.12;
-const DOT = 0.5; // of its size at a distance, an IMP whose label has no room
 const MOST_FRAMES = 7;
 const MOST_ARCS = 6;
+const NEAR = 2.2; // times larger than the whole map, from where hosts and lines of a map of dots have their names
+const GROWS = 0.3; // the power of that by which letters grow there, so that there is more room between them
+const MOST_GROWN = 1.4;
+const DOT_BADGE = 7.5; // pixels from the middle of a number of packets to its edge
+const WORD = "mailboxes";
+const MARK = 8; // pixels from the middle of a dot with a number in it to its edge
+/** Where the number of lines that are drawn as one may stand, as shares of the way. */
+const SHARES = [0.5, 0.42, 0.58, 0.34, 0.66, 0.26, 0.74];
 
 /**
  * @typedef {object} Scene what is drawn
@@ -54,18 +49,16 @@ export class MapView {
         this.svg = svg;
         this.network = network;
         this.tap = tap;
-        this.layout = placed(network);
-        const { width, height } = this.layout;
-        this.port = new Viewport(
-            { width: Math.max(width, 200), height: Math.max(height, 120) },
-            this.layout.small ? 18 : 0,
-        );
-        set(svg, { "data-small": this.layout.small });
+        /** @type {Set<number>} the IMPs of hosts that the script names */
+        this.named = new Set();
         /** @type {Scene | null} */
         this.scene = null;
-        this.factor = 1; // by how much signs and labels are larger than they are drawn, so that they can be read
-        const { outline } = this.layout;
-        this.land = s("path", { class: "land", d: outline.length ? `M${outline.map(spelled).join("L")}Z` : "" });
+        this.factor = 1; // how large a pixel of the layout is in units of the map, so that signs and labels can be read
+        this.isNear = false;
+        this.put = "";
+        /** @type {Map<number, {w: number, h: number}> | undefined} */
+        this.tags = undefined;
+        this.land = s("path", { class: "land" });
         this.arcs = s("g", { class: "arcs" });
         this.spokes = s("g", { class: "spokes" });
         this.lines = s("g", { class: "lines" });
@@ -73,89 +66,193 @@ export class MapView {
         this.frames = s("g", { class: "frames" });
         this.imps = s("g", { class: "imps" });
         this.hosts = s("g", { class: "hosts" });
-        svg.replaceChildren(hatch(), this.land, this.arcs, this.spokes, this.lines, this.ways, this.imps, this.hosts, this.frames);
-        this.drawLines();
-        this.drawImps();
-        this.drawHosts();
+        svg.replaceChildren(hatch(), this.land, this.arcs, this.spokes, this.lines, this.ways, this.hosts, this.imps, this.frames);
+        /** @type {import("../layout.js").Frame} */
+        this.frame = this.measured();
+        this.layout = placed(network, this.frame);
+        this.port = new Viewport(this.layout);
+        this.make();
         this.see();
     }
 
-    /** Shows the part of the map that is looked at, with labels that can be read. */
-    see() {
+    /** The room for the map, in pixels, what lies on it there, and the size of letters. */
+    measured() {
         const box = this.svg.getBoundingClientRect();
-        this.port.resize(box.width, box.height);
-        const { x, y, width: w, height: h } = this.port.view;
-        set(this.svg, { viewBox: [x, y, w, h].map((it) => it.toFixed(1)).join(" ") });
-        const { scale } = this.port;
-        const letters = (this.layout.small ? SMALL_LETTERS : LETTERS) * scale;
-        const most = this.layout.small ? Infinity : MOST_LARGER; // where hosts have names, there is no room for more
-        this.factor = box.width ? Math.min(most, Math.max(1, LEAST_LETTERS / letters)) : 1;
-        this.svg.classList.toggle("far", this.layout.small && this.factor > 1.02);
-        this.svg.classList.toggle("near", this.layout.small && DETAIL_LETTERS * scale >= LEAST_LETTERS);
-        this.svg.style.setProperty("--wide", String(Math.max(1, 0.7 / scale)));
-        this.fold();
-        if (this.scene) this.updateFrames(this.scene);
+        const unit = parseFloat(getComputedStyle(document.documentElement).fontSize) / 16;
+        const [width, height] = box.width ? [box.width, box.height] : [640, 360];
+        const tools = this.svg.closest("#map")?.querySelector("#map-tools")?.getBoundingClientRect();
+        const corner = tools && { x: tools.x - box.x, y: tools.y - box.y, width: tools.width, height: tools.height };
+        const isOver = corner && corner.x < width && corner.y < height && corner.x + corner.width > 0 && corner.y + corner.height > 0;
+        return { width, height, unit, taken: isOver && box.width ? [corner] : [] };
     }
 
-    /** At a distance, leaves out labels for which there is no room, and hosts of which nothing is to be seen. */
+    /** Makes all parts where the layout has them. */
+    make() {
+        const { small, detail, unit, outline } = this.layout;
+        set(this.svg, { "data-detail": detail.name });
+        this.svg.toggleAttribute("data-small", small);
+        this.svg.style.setProperty("--title", `${(detail.title * unit).toFixed(2)}px`);
+        this.svg.style.setProperty("--text", `${(detail.text * unit).toFixed(2)}px`);
+        this.svg.style.setProperty("--unit", unit.toFixed(3));
+        set(this.land, { d: outline.length ? `M${outline.map(spelled).join("L")}Z` : "" });
+        for (const group of [this.arcs, this.spokes, this.lines, this.ways, this.imps, this.hosts, this.frames]) group.replaceChildren();
+        this.put = "";
+        this.tags = boxesOf(this.network, detail, unit);
+        this.drawLines();
+        this.drawImps();
+        this.drawHosts();
+    }
+
+    /** Shows the part of the map that is looked at, arranged for the room that there is, with labels that can be read. */
+    see() {
+        const frame = this.measured();
+        if (JSON.stringify(frame) !== JSON.stringify(this.frame)) {
+            const { scale, map, isWhole } = this.port;
+            const { x, y } = this.port.middle();
+            this.frame = frame;
+            this.layout = placed(this.network, frame);
+            this.port = new Viewport(this.layout);
+            if (!isWhole) this.port.look({ x: (x / map.width) * this.layout.width, y: (y / map.height) * this.layout.height }, scale);
+            this.make();
+            if (this.scene) this.update(this.scene);
+        }
+        this.port.resize(frame.width, frame.height);
+        const { x, y, width: w, height: h } = this.port.view;
+        set(this.svg, { viewBox: [x, y, w, h].map((it) => it.toFixed(1)).join(" ") });
+        const { small } = this.layout;
+        const { scale } = this.port;
+        this.isNear = small && scale >= NEAR;
+        this.factor = small ? this.grown() / scale : 1;
+        this.svg.classList.toggle("far", small && !this.isNear);
+        this.svg.classList.toggle("near", this.isNear);
+        this.svg.style.setProperty("--k", String(this.factor));
+        this.fold();
+        if (this.scene) {
+            this.updateArcs(this.scene);
+            this.updateWays(this.scene);
+            this.updateFrames(this.scene);
+        }
+    }
+
+    /** How many times larger the letters of a map of dots are from near. */
+    grown() {
+        return Math.min(MOST_GROWN, Math.max(1, this.port.scale ** GROWS));
+    }
+
+    /**
+     * A point of the map in pixels of the frame.
+     *
+     * @param {Point} point
+     */
+    onScreen({ x, y }) {
+        const { view, scale } = this.port;
+        return { x: (x - view.x) * scale, y: (y - view.y) * scale };
+    }
+
+    /** In a map of dots, puts names beside them where there is room, and shows hosts of which something is to be seen. */
     fold() {
-        const { factor } = this;
-        const letters = (this.layout.small ? SMALL_LETTERS : LETTERS) * this.port.scale * factor;
-        const shown = this.layout.small && factor > 1.02
-            ? readable(
-                this.network.sites.map(({ number, name }, place) => ({
-                    at: this.imp(number),
-                    width: 0.62 * letters * (name || String(number)).length + 8,
-                    weight: this.weight(number, name, this.imps.children[place]),
-                })),
-                this.port.scale,
-                letters + 6,
-            )
-            : this.network.sites.map(() => true);
-        const { x: left, width } = this.port.view;
-        this.network.sites.forEach(({ number }, place) => {
-            const { x, y } = this.imp(number);
+        if (!this.layout.small) return;
+        const grown = this.grown();
+        const size = grown * this.layout.unit;
+        this.foldHosts();
+        const labels = this.network.sites.map(({ number }, place) => {
             const element = this.imps.children[place];
-            const isMarked = element.querySelector(".badge.shown") || element.classList.contains("down");
-            const by = shown[place] ? factor : isMarked ? Math.min(factor, 1.25) : DOT;
-            const half = by * this.box(number).w;
-            const isMoved = shown[place] && x >= left && x <= left + width; // so that it isn't cut at the edge
-            const over = isMoved ? Math.max(0, left + half - x) - Math.max(0, x + half - left - width) : 0;
-            element.classList.toggle("folded", !shown[place]);
-            set(element, {
-                transform: by === 1 || (by > 1 && by <= 1.02)
-                    ? null
-                    : `translate(${x + over} ${y}) scale(${by.toFixed(3)}) translate(${-x} ${-y})`,
-            });
+            const { w } = this.tag(number);
+            return {
+                at: this.onScreen(this.imp(number)),
+                radius: element.querySelector(".badge.shown") ? MARK * size : grown * this.box(number).w,
+                width: 2 * w * grown,
+                height: 2 * this.layout.detail.half * size,
+                weight: this.weight(number, element),
+            };
         });
+        const hosts = this.network.hosts.filter((_, place) => !this.hosts.children[place].classList.contains("folded"));
+        const radius = this.hostRadius() * grown;
+        const taken = [
+            ...(this.frame.taken ?? []),
+            ...hosts.map((host) => around(this.onScreen(this.host(host)), 2 * radius + 2, 2 * radius + 2)),
+        ];
+        const key = JSON.stringify([this.port.view, labels.map((it) => [it.weight, it.radius]), hosts]);
+        if (key === this.put) return;
+        this.put = key;
+        const { width, height } = this.frame;
+        const put = putLabels(labels, { x: 1, y: 1, width: width - 2, height: height - 2 }, taken);
+        this.network.sites.forEach(({ number }, place) => this.putTag(this.imps.children[place], number, labels[place].at, put[place]));
+        const rects = put.flatMap((it, place) => (it ? [around(it, labels[place].width, labels[place].height)] : []));
+        this.foldLines([...taken, ...rects, ...labels.map((it) => around(it.at, 2 * it.radius, 2 * it.radius))]);
+    }
+
+    /**
+     * Puts the name of an IMP where it has room, with a line to the dot if that is further away; or leaves it out.
+     *
+     * @param {Element} element
+     * @param {number} number
+     * @param {Point} at its dot, in pixels of the frame
+     * @param {import("../labels.js").Put | null} put
+     */
+    putTag(element, number, at, put) {
+        const { x, y } = this.imp(number);
+        const grown = this.grown();
+        const [dx, dy] = put ? [(put.x - at.x) / grown, (put.y - at.y) / grown] : [0, 0];
+        set(element, { transform: `translate(${x} ${y}) scale(${this.factor.toFixed(4)})` });
+        element.classList.toggle("folded", !put);
+        const tag = element.querySelector(".tag");
+        const lead = element.querySelector(".lead");
+        if (tag) set(tag, { transform: `translate(${dx.toFixed(1)} ${dy.toFixed(1)})` });
+        if (lead) set(lead, { x2: dx.toFixed(1), y2: dy.toFixed(1) }).classList.toggle("shown", Boolean(put?.isFar));
+    }
+
+    /** From afar, hides the hosts of which nothing is to be seen. */
+    foldHosts() {
         this.network.hosts.forEach((host, place) => {
             const element = this.hosts.children[place];
             const isQuiet = !element.classList.contains("down") && !element.querySelector(".badge.shown");
-            const isFolded = this.layout.small && factor > 1.02 && isQuiet && !this.isBusy(host);
+            const isFolded = !this.isNear && isQuiet && !this.isBusy(host);
+            const { x, y } = this.host(host);
+            const { x: fromX, y: fromY } = this.imp(impOf(host));
             element.classList.toggle("folded", isFolded);
-            this.spokes.children[place].classList.toggle("folded", isFolded);
+            set(element, { transform: `translate(${x.toFixed(2)} ${y.toFixed(2)}) scale(${this.factor.toFixed(4)})` });
+            const spoke = this.spokes.children[place];
+            spoke.classList.toggle("folded", isFolded);
+            set(spoke, { x1: fromX, y1: fromY, x2: x.toFixed(2), y2: y.toFixed(2) });
+            const disc = element.querySelector(".disc");
+            if (disc) set(disc, { r: this.hostRadius().toFixed(1) });
         });
-        if (this.layout.small) this.foldLines();
     }
 
-    /** At a distance, draws lines that run side by side as one, with their number; one that is down or has a packet by itself. */
-    foldLines() {
-        const isFar = this.layout.small && this.factor > 1.02;
+    /** The radius of a host's circle, in pixels of the layout. */
+    hostRadius() {
+        return this.layout.radius * (this.isNear ? 2.1 : 1);
+    }
+
+    /**
+     * From afar, draws lines that run side by side as one, with their number where that has room; one that is down or has
+     * a packet by itself.
+     *
+     * @param {import("../labels.js").Rect[]} taken
+     */
+    foldLines(taken) {
         const courses = this.network.lines.map((imps, line) => ({
             ends: /** @type {[Point, Point]} */ (imps.map((imp) => this.imp(imp))),
-            isBusy: !isFar || this.isBusyLine(line),
+            isBusy: this.isNear || this.isBusyLine(line),
         }));
         const drawn = bundled(courses, this.port.scale);
+        const letters = this.layout.detail.text * this.layout.unit * this.grown();
         [...this.lines.children].forEach((element, line) => {
             const count = drawn.filter((it) => it === line).length;
             element.classList.toggle("folded", drawn[line] !== line);
             element.classList.toggle("bundle", count > 1);
+            const [a, b] = courses[line].ends;
+            const words = this.isNear ? String(line) : count > 1 ? `×${count}` : "";
+            const width = letters * (0.75 * words.length + 0.8);
+            const places = SHARES.map((share) => this.onScreen(between(a, b, share)));
+            const at = words ? firstFree(places, width, 1.6 * letters, taken) : null;
+            if (at) taken.push(around(at, width, 1.6 * letters));
             const label = element.querySelector(".many");
             if (!label) return;
-            const [a, b] = courses[line].ends;
-            const { x, y } = between(a, b, 0.5);
-            set(label, { transform: `translate(${x} ${y}) scale(${this.factor.toFixed(2)})` });
-            say(label, count > 1 ? `×${count}` : "");
+            const { x, y } = at ? between(a, b, SHARES[places.indexOf(at)]) : a;
+            set(label, { transform: `translate(${x} ${y}) scale(${this.factor.toFixed(4)})` });
+            say(label, at ? words : "");
         });
     }
 
@@ -173,17 +270,27 @@ export class MapView {
     }
 
     /**
-     * How much the label of an IMP matters at a distance.
+     * How much the name of an IMP matters where there is no room for all.
      *
      * @param {number} number
-     * @param {string} name
      * @param {Element} element
      */
-    weight(number, name, element) {
+    weight(number, element) {
         const has = (/** @type {string} */ it) => element.classList.contains(it);
         const ofBusy = this.scene ? this.busyImps().has(number) : false;
-        return (has("chosen") ? 16 : 0) + (has("down") ? 8 : 0) + (ofBusy ? 4 : 0) + (name ? 2 : 0)
+        return (has("chosen") ? 32 : 0) + (this.named.has(number) ? 16 : 0) + (has("down") ? 8 : 0) + (ofBusy ? 4 : 0)
+            + (this.network.sites.find((it) => it.number === number)?.name ? 2 : 0)
             + (element.querySelector(".badge.shown") ? 1 : 0);
+    }
+
+    /**
+     * The names of these IMPs come first.
+     *
+     * @param {Set<number>} imps
+     */
+    name(imps) {
+        this.named = imps;
+        this.fold();
     }
 
     /** The IMPs of hosts that have a message without an answer. */
@@ -266,7 +373,12 @@ export class MapView {
      * @returns {Point}
      */
     host(host) {
-        return this.layout.hosts.get(host) ?? this.imp(impOf(host));
+        const imp = this.imp(impOf(host));
+        const at = this.layout.hosts.get(host) ?? imp;
+        if (!this.layout.small) return at;
+        const far = Math.hypot(at.x - imp.x, at.y - imp.y) || 1;
+        const reach = (this.factor * (this.box(impOf(host)).w + this.hostRadius() + 5 * this.layout.unit)) / far;
+        return { x: imp.x + (at.x - imp.x) * reach, y: imp.y + (at.y - imp.y) * reach };
     }
 
     /**
@@ -286,11 +398,22 @@ export class MapView {
      * @param {number} imp
      */
     box(imp) {
-        return this.layout.boxes.get(imp) ?? this.layout.box;
+        return this.layout.boxes.get(imp) ?? { w: 0, h: 0 };
+    }
+
+    /**
+     * Half the size of the name of an IMP that is a dot.
+     *
+     * @param {number} imp
+     */
+    tag(imp) {
+        this.tags ??= boxesOf(this.network, this.layout.detail, this.layout.unit);
+        return this.tags.get(imp) ?? { w: 0, h: 0 };
     }
 
     drawLines() {
-        if (this.network.plain) return;
+        if (this.network.plain) return this.drawCloud();
+        const { detail, unit } = this.layout;
         this.network.lines.forEach((imps, line) => {
             const [a, b] = this.ends(line);
             const middle = between(a, b, 0.5);
@@ -300,16 +423,15 @@ export class MapView {
                     { class: "half", "data-imp": imps[place], x1: end.x, y1: end.y, x2: middle.x, y2: middle.y },
                 ),
             );
-            const crosses = [a, b].map((end) => cross(between(end, middle, 0.55), this.layout.small ? 3 : 5));
+            const crosses = [a, b].map((end) => cross(between(end, middle, 0.55), (this.layout.small ? 3.5 : 5) * unit));
             const hit = s("line", { class: "hit", x1: a.x, y1: a.y, x2: b.x, y2: b.y });
+            const half = 0.75 * detail.text * unit;
+            const plate = { x: middle.x - half, y: middle.y - half, width: 2 * half, height: 2 * half, rx: 3 };
             const label = this.layout.small
-                ? [
-                    s("text", { class: "detail", x: middle.x, y: middle.y + 2 }, String(line)),
-                    s("text", { class: "many", y: 3 }),
-                ]
+                ? [s("text", { class: "many", y: 0.35 * detail.text * unit })]
                 : [
-                    s("rect", { class: "plate", x: middle.x - 7, y: middle.y - 7, width: 14, height: 14, rx: 3 }),
-                    s("text", { class: "number", x: middle.x, y: middle.y + 3.5 }, String(line)),
+                    s("rect", { class: "plate", ...plate }),
+                    s("text", { class: "number", x: middle.x, y: middle.y + 0.35 * detail.text * unit }, String(line)),
                 ];
             this.lines.append(
                 this.part({ kind: "line", line }, `line ${line}`, [...halves, ...crosses, hit, ...label]),
@@ -317,32 +439,55 @@ export class MapView {
         });
     }
 
+    /** Between IMPs without lines, the mailboxes that carry what they send: a line to a middle from each. */
+    drawCloud() {
+        const points = this.network.sites.map(({ number }) => this.imp(number));
+        const middle = { x: points.reduce((sum, it) => sum + it.x, 0) / points.length, y: points.reduce((sum, it) => sum + it.y, 0) / points.length };
+        if (points.length < 2) return;
+        const { detail, unit } = this.layout;
+        const [w, h] = [0.31 * detail.text * unit * WORD.length + 8 * unit, detail.text * unit];
+        const isFree = points.every((it) => Math.abs(it.x - middle.x) > w + 20 || Math.abs(it.y - middle.y) > h + 20);
+        this.lines.append(
+            ...points.map((it) => s("line", { class: "mail", x1: it.x, y1: it.y, x2: middle.x, y2: middle.y })),
+            ...(isFree
+                ? [
+                    s("rect", { class: "plate cloud", x: middle.x - w, y: middle.y - h, width: 2 * w, height: 2 * h, rx: h }),
+                    s("text", { class: "number", x: middle.x, y: middle.y + 0.35 * detail.text * unit }, WORD),
+                ]
+                : []),
+        );
+    }
+
     drawImps() {
+        const { small, detail, unit } = this.layout;
         for (const { number, name } of this.network.sites) {
-            const { x, y } = this.imp(number);
-            const { w, h } = this.box(number);
-            const small = this.layout.small;
-            const title = s(
-                "text",
-                { class: "title", x, y: small ? y + 3.5 : y - 2 },
-                small ? name || String(number) : name || `IMP ${number}`,
-            );
-            const below = s("text", { class: "below", x, y: y + 13 }, name ? `IMP ${number}` : "");
-            const parts = [
-                s("rect", { class: "box", x: x - w, y: y - h, width: 2 * w, height: 2 * h, rx: small ? 3 : 6 }),
-                s("rect", { class: "hatch", x: x - w, y: y - h, width: 2 * w, height: 2 * h, rx: small ? 3 : 6 }),
-                title,
-            ];
-            if (!small) parts.push(below);
-            parts.push(badge(x + w - 2, y - h + 1, small ? 5.5 : 8.5));
+            const at = small ? { x: 0, y: 0 } : this.imp(number);
+            const { w, h } = small ? this.tag(number) : this.box(number);
+            const corner = { x: at.x - w, y: at.y - h, width: 2 * w, height: 2 * h, rx: (small ? 3 : 7) * unit };
+            const drop = 0.35 * detail.title * unit;
+            const words = name || (detail.half > 10 ? `IMP ${number}` : String(number));
+            const isDouble = detail.name === "full";
+            const title = s("text", { class: "title", x: at.x, y: at.y + drop - (isDouble && name ? 0.55 * detail.title * unit : 0) }, words);
+            const below = s("text", { class: "below", x: at.x, y: isDouble ? at.y + drop + 0.72 * detail.title * unit : at.y + h + detail.text * unit });
+            const box = [s("rect", { class: "box", ...corner }), s("rect", { class: "hatch", ...corner }), title];
+            const radius = DOT_BADGE * unit;
+            const parts = small
+                ? [
+                    s("circle", { class: "hit", r: 12 * unit }),
+                    s("line", { class: "lead" }),
+                    s("circle", { class: "spot", r: this.box(number).w }),
+                    badge(0, 0, radius),
+                    s("g", { class: "tag" }, ...box, below),
+                ]
+                : [...box, below, badge(at.x + w - 2, at.y - h + 1, radius)];
             this.imps.append(this.part({ kind: "imp", imp: number }, `imp ${number}`, parts));
         }
     }
 
     drawHosts() {
-        const { radius, small } = this.layout;
+        const { radius, small, detail, unit } = this.layout;
         for (const host of this.network.hosts) {
-            const { x, y } = this.host(host);
+            const { x, y } = small ? { x: 0, y: 0 } : this.host(host);
             const imp = this.imp(impOf(host));
             const edge = leaving(
                 imp,
@@ -350,16 +495,15 @@ export class MapView {
                 this.box(impOf(host)),
             );
             this.spokes.append(s("line", { class: "spoke", x1: edge.x, y1: edge.y, x2: x, y2: y }));
+            const drop = 0.35 * detail.text * unit;
             const parts = [
                 s("circle", { class: "disc", cx: x, cy: y, r: radius }),
                 s("path", { class: "crossed", d: crossPath(x, y, radius * 0.6) }),
             ];
-            parts.push(
-                small
-                    ? s("text", { class: "detail", x, y: y + 2 }, host)
-                    : s("text", { class: "name", x, y: y + 3.5 }, host),
-            );
-            parts.push(badge(x + radius * 0.86, y - radius * 0.98, small ? 5 : 7.5));
+            if (small) parts.push(s("text", { class: "detail", x, y: y + drop }, host));
+            else if (detail.hosts) parts.push(s("text", { class: "name", x, y: y + drop }, host));
+            const isApart = radius > 8 * unit;
+            parts.push(badge(x + (isApart ? radius * 0.86 : 0), y - (isApart ? radius * 0.98 : 0), 7 * unit));
             const element = this.part({ kind: "host", host }, `host ${host}`, parts);
             element.classList.toggle("stranger", this.network.strangers.includes(host));
             this.hosts.append(element);
@@ -393,13 +537,18 @@ export class MapView {
      */
     draw(scene) {
         this.scene = scene;
+        this.update(scene);
+        this.fold();
+        this.updateArcs(scene);
+        this.updateWays(scene);
+        this.updateFrames(scene);
+    }
+
+    /** @param {Scene} scene */
+    update(scene) {
         this.updateLines(scene);
         this.updateImps(scene);
         this.updateHosts(scene);
-        this.updateArcs(scene);
-        this.updateWays(scene);
-        if (this.factor > 1.02) this.fold();
-        this.updateFrames(scene);
     }
 
     /** @param {Scene} scene */
@@ -433,16 +582,14 @@ export class MapView {
             updateBadge(element, held);
             const below = element.querySelector(".below");
             if (below) {
-                say(
-                    below,
-                    distance < 0
-                        ? (isUp ? (siteName(this.network, number).startsWith("IMP ") ? "" : `IMP ${number}`) : "down")
-                        : distance === FAR
-                        ? "no route"
-                        : String(distance),
-                );
+                const { title: letters } = this.layout.detail;
+                const isDouble = this.layout.detail.name === "full";
+                const isNamed = !siteName(this.network, number).startsWith("IMP ");
+                const plain = !isUp ? "down" : isNamed ? `IMP ${number}` : "";
+                say(below, distance < 0 ? (isDouble ? plain : "") : distance === FAR ? "no route" : String(distance));
                 below.classList.toggle("distance", distance >= 0);
-                if (title) set(title, { y: this.imp(number).y + (below.textContent ? -2 : 4) });
+                const up = below.textContent ? 0.55 * letters * this.layout.unit : 0;
+                if (title && isDouble) set(title, { y: this.imp(number).y + 0.35 * letters * this.layout.unit - up });
             }
             const told = distance < 0 ? "" : distance === FAR ? ", no route" : `, distance ${distance}`;
             label(
@@ -488,11 +635,10 @@ export class MapView {
                     x: middle.x + (bend * (destination.y - source.y)) / length,
                     y: middle.y - (bend * (destination.x - source.x)) / length,
                 };
-                const y = Math.max(over.y, 6);
-                return s(
-                    "path",
-                    { class: "arc", d: `M${source.x} ${source.y} Q${over.x} ${y} ${destination.x} ${destination.y}` },
-                );
+                const x = Math.min(Math.max(over.x, 6), this.layout.width - 6);
+                const y = Math.min(Math.max(over.y, 6), this.layout.height - 6);
+                const d = `M${source.x} ${source.y} Q${x} ${y} ${destination.x} ${destination.y}`;
+                return s("path", { class: "arc", d });
             },
             (element, it) => element.classList.toggle("taken", it.taken),
         );
@@ -522,16 +668,16 @@ export class MapView {
                 const [from, other] = this.network.lines[line][0] === imp ? [a, b] : [b, a];
                 const at = between(from, other, 0.3);
                 const angle = (Math.atan2(other.y - from.y, other.x - from.x) * 180) / Math.PI;
-                return s(
-                    "path",
-                    {
-                        class: "way",
-                        d: this.layout.small ? "M-4 -4 L3 0 L-4 4" : "M-6 -6 L5 0 L-6 6",
-                        transform: `translate(${at.x} ${at.y}) rotate(${angle})`,
-                    },
-                );
+                const d = this.layout.small ? "M-4 -4 L3 0 L-4 4" : "M-6 -6 L5 0 L-6 6";
+                return s("path", { class: "way", d, "data-at": `translate(${at.x} ${at.y}) rotate(${angle})` });
             },
+            (element, _) => set(element, { transform: `${element.getAttribute("data-at")} scale(${this.size()})` }),
         );
+    }
+
+    /** How much larger than drawn a sign is. */
+    size() {
+        return (this.factor * this.layout.unit).toFixed(3);
     }
 
     /** @param {Scene} scene */
@@ -571,78 +717,8 @@ export class MapView {
                     s("text", { class: "more" }),
                 ],
             ),
-            (element, it) => this.updateFrame(state, element, it),
+            (element, it) => drawFrame(this, state, element, it),
         );
-    }
-
-    /**
-     * @param {State} state
-     * @param {SVGElement} element
-     * @param {FrameOnLine} it
-     */
-    updateFrame(state, element, { line, way, place, frame, count, more }) {
-        const [a, b] = this.ends(line);
-        const [from, to] = way === "+" ? [a, b] : [b, a];
-        const length = Math.hypot(to.x - from.x, to.y - from.y) || 1;
-        const { factor } = this;
-        const gap = Math.min(factor * (this.layout.small ? 11 : 17), (0.9 * length) / Math.max(count, 1));
-        const along = Math.max(0.06 * length, length / 2 + gap * ((count - 1) / 2 - place));
-        const side = factor * (this.layout.small ? 6 : 11);
-        const x = from.x + ((to.x - from.x) * along) / length - (side * (to.y - from.y)) / length;
-        const y = from.y + ((to.y - from.y) * along) / length + (side * (to.x - from.x)) / length;
-        const angle = (Math.atan2(to.y - from.y, to.x - from.x) * 180) / Math.PI;
-        const kind = frame.packet ? frame.packet.kind : frame.routes ? "routes" : "ack";
-        const scale = factor * (this.layout.small ? 0.6 : 1);
-        set(
-            element,
-            {
-                class: `part frame ${kind}`,
-                style: `transform: translate(${x.toFixed(1)}px, ${y.toFixed(1)}px)`,
-                "data-way": wayOf(this.network, line, way).join(" "),
-            },
-        );
-        label(element, partTitle(state, { kind: "frame", line, way, place }));
-        const turn = kind === "data" || kind === "routes"
-            ? `rotate(${angle.toFixed(1)}) scale(${scale})`
-            : `scale(${scale})`;
-        set(element.children[2], { d: SIGNS[kind], transform: turn });
-        set(element.children[3], { d: STROKES[kind] ?? "", transform: `scale(${scale})` });
-        say(element.children[4], more ? `+${more}` : "");
-        set(element.children[4], { x: (-14 * (to.x - from.x)) / length, y: (-14 * (to.y - from.y)) / length + 3 });
-    }
-
-    /**
-     * Lets a frame travel from one IMP to another, for the eye.
-     *
-     * @param {number} line
-     * @param {number} from
-     * @param {Frame} frame
-     * @param {number} [duration] in milliseconds
-     * @param {number} [delay]
-     */
-    travel(line, from, frame, duration = 420, delay = 0) {
-        const [a, b] = this.ends(line);
-        const [start, end] = this.network.lines[line][0] === from ? [a, b] : [b, a];
-        const kind = frame.packet ? frame.packet.kind : frame.routes ? "routes" : "ack";
-        const angle = (Math.atan2(end.y - start.y, end.x - start.x) * 180) / Math.PI;
-        const size = (1.25 * this.factor * (this.layout.small ? 0.6 : 1)).toFixed(2);
-        const turn = kind === "data" || kind === "routes" ? `rotate(${angle}) scale(${size})` : `scale(${size})`;
-        const ghost = s(
-            "g",
-            { class: `ghost frame ${kind}`, "aria-hidden": "true" },
-            s("path", { class: "sign", d: SIGNS[kind], transform: turn }),
-            s("path", { class: "stroke", d: STROKES[kind] ?? "", transform: `scale(${size})` }),
-        );
-        this.svg.append(ghost);
-        const moved = ghost.animate(
-            [
-                { transform: `translate(${start.x}px, ${start.y}px)` },
-                { transform: `translate(${end.x}px, ${end.y}px)` },
-            ],
-            { duration, delay, easing: "ease-in-out", fill: "backwards" },
-        );
-        moved.onfinish = () => ghost.remove();
-        moved.oncancel = () => ghost.remove();
     }
 
     /**
@@ -666,109 +742,4 @@ export class MapView {
             [...this.imps.children, ...this.hosts.children, ...this.lines.children, ...this.frames.children]
         );
     }
-}
-
-/**
- * Names a part, for who hears and for who points, by its title.
- *
- * @param {Element} element
- * @param {string} text
- */
-function label(element, text) {
-    say(element.children[0], text);
-}
-
-/** Shapes that differ without colour, drawn around the origin. */
-const SIGNS = /** @type {{[kind: string]: string}} */ ({
-    data: "M-7 -5.5 H2 L8 0 L2 5.5 H-7 Z",
-    rfnm: "M-6.5 0 A6.5 6.5 0 1 1 6.5 0 A6.5 6.5 0 1 1 -6.5 0 Z",
-    dead: "M-6 -6 H6 V6 H-6 Z",
-    ask: "M0 -8 L8 0 L0 8 L-8 0 Z",
-    never: "M-3.5 -7 H3.5 L7 -3.5 V3.5 L3.5 7 H-3.5 L-7 3.5 V-3.5 Z",
-    routes: "M-4 -4.5 L5 0 L-4 4.5 Z",
-    ack: "M-2.5 0 A2.5 2.5 0 1 1 2.5 0 A2.5 2.5 0 1 1 -2.5 0 Z",
-});
-
-const STROKES = /** @type {{[kind: string]: string}} */ ({
-    rfnm: "M-3 0.2 L-0.8 2.6 L3.2 -2.4",
-    dead: "M-3 -3 L3 3 M3 -3 L-3 3",
-    ask: "M-1.8 -2 A1.9 1.9 0 1 1 0 0.4 V1.6 M0 3.6 V4.2",
-    never: "M0 -4 V1 M0 3.4 V4",
-});
-
-/**
- * A sign for a legend.
- *
- * @param {string} kind
- */
-export function legendSign(kind) {
-    return s(
-        "svg",
-        { viewBox: "-10 -10 20 20", class: `frame ${kind} key`, "aria-hidden": "true" },
-        s("path", { class: "sign", d: SIGNS[kind] }),
-        s("path", { class: "stroke", d: STROKES[kind] ?? "" }),
-    );
-}
-
-/** @param {Point} point */
-function spelled({ x, y }) {
-    return `${x.toFixed(1)} ${y.toFixed(1)}`;
-}
-
-/**
- * @param {Point} a
- * @param {Point} b
- * @param {number} part
- */
-function between(a, b, part) {
-    return { x: a.x + (b.x - a.x) * part, y: a.y + (b.y - a.y) * part };
-}
-
-/**
- * @param {number} x
- * @param {number} y
- * @param {number} r
- */
-function crossPath(x, y, r) {
-    return `M${x - r} ${y - r} L${x + r} ${y + r} M${x + r} ${y - r} L${x - r} ${y + r}`;
-}
-
-/**
- * @param {Point} at
- * @param {number} r
- */
-function cross(at, r) {
-    return s("path", { class: "cut", d: crossPath(at.x, at.y, r) });
-}
-
-/**
- * @param {number} x
- * @param {number} y
- * @param {number} r
- */
-function badge(x, y, r) {
-    return s("g", { class: "badge" }, s("circle", { cx: x, cy: y, r }), s("text", { x, y: y + (r > 6 ? 3.6 : 2.3) }));
-}
-
-/**
- * @param {Element} element
- * @param {number} count
- */
-function updateBadge(element, count) {
-    const it = element.querySelector(".badge");
-    if (!it) return;
-    it.classList.toggle("shown", count > 0);
-    say(it.children[1], count ? String(count) : "");
-}
-
-function hatch() {
-    return s(
-        "defs",
-        {},
-        s(
-            "pattern",
-            { id: "hatched", width: 6, height: 6, patternUnits: "userSpaceOnUse", patternTransform: "rotate(45)" },
-            s("line", { x1: 0, y1: 0, x2: 0, y2: 6, class: "hatching" }),
-        ),
-    );
 }

@@ -112,14 +112,16 @@ export class Toast {
 
     /**
      * @param {string} text
-     * @param {(() => void) | null} undo
+     * @param {(() => void) | null} act
      * @param {boolean} [stays] whether it stays until something else is shown
+     * @param {string} [words] what a press of its button does
      */
-    show(text, undo, stays = false) {
+    show(text, act, stays = false, words = "Undo") {
         window.clearTimeout(this.timer);
         this.element.replaceChildren(
             h("span", {}, text),
-            undo ? h("button", { type: "button", onclick: undo }, "Undo") : "",
+            act ? h("button", { type: "button", onclick: act }, words) : "",
+            h("button", { "type": "button", "class": "quiet", "aria-label": "Close", "onclick": () => this.hide() }, "×"),
         );
         this.element.hidden = false;
         if (!stays) this.timer = window.setTimeout(() => this.hide(), 9000);

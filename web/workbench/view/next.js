@@ -12,7 +12,9 @@ import { h, say } from "./dom.js";
 /** @typedef {import("../app.js").Workbench} Workbench */
 /** @typedef {import("../possible.js").Possible} Possible */
 
-const SURPRISE = { tried: 40, kept: 10 };
+const SURPRISE = { tried: 160, kept: 10 };
+const LATER = 60; // milliseconds at a step until the program is asked what can happen at it
+const IDLE = ["take", "offer", "calm", "ask", "deliver", "resend", "route"]; // what is left out of a surprise where it prints nothing
 const SECONDS = 60; // of a search
 const GROUPS = /** @type {[string, string][]} */ ([["hosts", "Hosts"], ["lines", "Lines"], ["IMPs", "IMPs"]]);
 
@@ -23,6 +25,7 @@ export class Next {
         this.bench = bench;
         this.shown = "";
         this.turn = 0;
+        this.timer = 0;
         this.seed = Date.now() % 1_000_000;
         this.isSearching = false;
         this.status = h("p", { class: "soft", role: "status" });
@@ -67,24 +70,34 @@ export class Next {
             this.list.replaceChildren();
             return say(this.status, "What can happen is hidden with the future.");
         }
-        if (key !== this.shown) void this.look(key);
+        if (key === this.shown) return;
+        this.stale(true);
+        this.shown = key;
+        window.clearTimeout(this.timer);
+        this.timer = window.setTimeout(() => void this.look(), LATER);
     }
 
     /**
-     * Asks the program what can happen.
+     * What is listed is of another step, until the program has answered: it can't be pressed then.
      *
-     * @param {string} key
+     * @param {boolean} isStale
      */
-    async look(key) {
+    stale(isStale) {
+        this.list.inert = isStale;
+        this.list.classList.toggle("stale", isStale);
+        if (isStale) say(this.status, "The program is asked what can happen now…");
+    }
+
+    /** Asks the program what can happen. */
+    async look() {
         const { history, position, talk, runner } = this.bench;
         if (!history || !talk) return;
-        this.shown = key;
         this.turn += 1;
         const { turn } = this;
-        say(this.status, "The program is asked what can happen now…");
         const tried = candidates(history.at(position), talk.goTo(position));
         const found = await possible(runner.batch, history, position, tried);
-        if (turn !== this.turn) return;
+        if (turn !== this.turn || this.shown !== `${this.bench.position} ${this.bench.history?.replay.input.text}`) return;
+        this.stale(false);
         const left = found.count < tried.length ? ` There was time for ${found.count} of ${tried.length}.` : "";
         const [can, cannot] = [found.possible.length, found.count - found.possible.length];
         const refused = cannot ? ` ${count(cannot, "other")} would be refused.` : "";
@@ -128,15 +141,17 @@ export class Next {
         if (!history) return;
         this.seed += 1;
         const draw = chance(this.seed);
-        const lines = schedules(history.network, draw)().slice(1, SURPRISE.tried);
+        const lines = [...greeting(history.network, draw), ...schedules(history.network, draw)().slice(1, SURPRISE.tried)];
         const edit = goOn(history, position, lines, true);
         const outcome = await replay(runner.run, edit.text);
         if (!isReplay(outcome)) return;
         const refused = new Set(
             outcome.moments.filter((it) => it.printed[0]?.startsWith("refused ")).map((it) => it.event),
         );
+        const printing = new Set(outcome.moments.filter((it) => it.printed.length).map((it) => it.event));
+        const isIdle = (/** @type {string[]} */ [kind], /** @type {number} */ event) => IDLE.includes(kind) && !printing.has(event);
         const kept = outcome.input.events.flatMap(
-            ({ line, text }, event) => (line >= edit.line && !refused.has(event) ? [text] : []),
+            ({ line, text, words }, event) => (line >= edit.line && !refused.has(event) && !isIdle(words, event) ? [text] : []),
         );
         const added = kept.slice(0, SURPRISE.kept);
         const cutOff = this.bench.taps.cutOff;
@@ -180,4 +195,20 @@ export class Next {
         await this.bench.openText([...comments, ...head, "%", ...script, ""].join("\n"));
         say(this.found, `${count(script.length, "event")}, after ${runs} schedules.`);
     }
+}
+
+/**
+ * What makes a surprise begin with something to see: a message from one host to another, or a contact of their programs.
+ *
+ * @param {import("../topology.js").Network} network
+ * @param {(below: number) => number} draw
+ */
+function greeting({ hosts, raw, plain, strangers }, draw) {
+    const own = hosts.filter((it) => !strangers.includes(it));
+    if (own.length < 2) return [];
+    const from = own[draw(own.length)];
+    const others = own.filter((it) => it !== from);
+    const to = others[draw(others.length)];
+    const settles = plain ? [] : ["calm 2"];
+    return raw ? [...settles, `out ${from} ${to} 5 16 4849`, "calm 3"] : [...settles, `contact ${from} ${to}`, "calm 4"];
 }

@@ -2,7 +2,9 @@
 use Rattle.command_line.proofs.Common.{◌≡◌, ◌≢◌, ◌⊎◌, ◌||◌, not, ℕ, Bool, true, false, if◌then◌else◌, List, [], ◌∷◌}
 use Rattle.command_line.proofs.Common.{◌++◌, Option, Some, None, codes, subst, refl, sym, ap, ◌∙◌, inl, inr, false≢true}
 use Rattle.command_line.proofs.Common.{bytes_eq, list_any, option_and_then, HasKind, long_of, one_of, kind_of}
-use Rattle.command_line.proofs.Common.{command_line, Options, options_of}
+use Rattle.command_line.proofs.Common.{command_line}
+use Rattle.command_line.specs.declared.options.Options.{Options}
+use Rattle.command_line.specs.Options.{options_of}
 use Rattle.std.proofs.Common.{◌&&◌, find, is_some, fold}
 use Rattle.std.proofs.lemmas.List.{append-nil}
 use Rattle.std.proofs.lemmas.Slice.Eq.{bytes_eq-Decides}

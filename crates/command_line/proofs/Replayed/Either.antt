@@ -3,7 +3,8 @@ use Rattle.command_line.proofs.Common.{◌≡◌, ◌⊎◌, ◌<◌, inl, inr, 
 use Rattle.command_line.proofs.Common.{Ok, Err, IfSome, IfErr, MatchResult, OnOk, refl, sym, subst, ◌∙◌, false≢true}
 use Rattle.command_line.proofs.Common.{Keeps, IsReplayFault, IsInputFault, IsInput, ReplaysOn, ScriptFault}
 use Rattle.command_line.proofs.Common.{Detail, TopologyFields, on_ok, MixedFields, MixedWorldEvent, IsEitherFault}
-use Rattle.command_line.proofs.Common.{IsEitherInput, RanEither, RanEitherInPart, ReplaysEither, StopsEither}
+use Rattle.command_line.proofs.Common.{IsEitherInput, ReplaysEither, StopsEither}
+use Rattle.command_line.specs.Either.{RanEither, RanEitherInPart}
 use Rattle.command_line.proofs.Common.{IsMixedFault, MixedEndsOn, MixedReplaysOn}
 use Rattle.std.proofs.Common.{length}
 use Rattle.command_line.specs.Events.{Asked}
@@ -39,9 +40,10 @@ at_known F (Some k) octets same h = subst F same h
 -- ---- octets that were not read: too many, or memory ran out
 
 unread_known : (k : List ℕ) (f : ScriptFault) (failed : Bool) → IsReadFault f
-    → (f ≡ fault.BadTopology → 1048576 < length k) → (f ≡ fault.CannotRead → failed ≡ true) → failed ≡ false
+    → (f ≡ fault.TooLong → 268435456 < length k) → (f ≡ fault.CannotRead → failed ≡ true) → failed ≡ false
     → IsEitherFault k f
-unread_known k fault.BadTopology failed read long told whole = (inl (long refl), inl (long refl))
+unread_known k fault.TooLong failed read long told whole = long refl
+unread_known k fault.BadTopology failed read long told whole = absurd read
 unread_known k fault.OutOfMemory failed read long told whole = tt
 unread_known k fault.CannotRead failed read long told whole = absurd (false≢true (sym whole ∙ told refl))
 unread_known k fault.BadOptions failed read long told whole = absurd read
@@ -49,7 +51,7 @@ unread_known k fault.CannotWrite failed read long told whole = absurd read
 unread_known k (fault.BadLine number) failed read long told whole = absurd read
 
 pub unread_either : (known : Option (List ℕ)) (r : Result (Unit {0}) ScriptFault) (f : ScriptFault) (failed : Bool)
-    → r ≡ Err f → IsReadFault f → (f ≡ fault.BadTopology → IfSome known (λ k. 1048576 < length k))
+    → r ≡ Err f → IsReadFault f → (f ≡ fault.TooLong → IfSome known (λ k. 268435456 < length k))
     → (f ≡ fault.CannotRead → failed ≡ true) → failed ≡ false
     → IfSome known (λ k. MatchResult r (λ done. IsEitherInput k) (IsEitherFault k))
 unread_either None r f failed is read long told whole = tt
@@ -65,6 +67,7 @@ pub plain_read : (octets : List ℕ) (r : Result (Unit {0}) ScriptFault) → IsS
 plain_read octets (Ok done) read known = inl read
 plain_read octets (Err fault.OutOfMemory) read known = tt
 plain_read octets (Err fault.CannotWrite) read known = inl read
+plain_read octets (Err fault.TooLong) read known = absurd known
 plain_read octets (Err fault.BadTopology) read known = absurd known
 plain_read octets (Err fault.CannotRead) read known = absurd known
 plain_read octets (Err fault.BadOptions) read known = absurd known
@@ -91,6 +94,7 @@ pub mixed_read : (octets : List ℕ) (r : Result (Unit {0}) ScriptFault) → IsS
 mixed_read octets (Ok done) read known = read
 mixed_read octets (Err fault.OutOfMemory) read known = tt
 mixed_read octets (Err fault.CannotWrite) read known = read
+mixed_read octets (Err fault.TooLong) read known = absurd known
 mixed_read octets (Err fault.BadTopology) read known = absurd known
 mixed_read octets (Err fault.CannotRead) read known = absurd known
 mixed_read octets (Err fault.BadOptions) read known = absurd known
@@ -117,6 +121,7 @@ pub either_read : (octets : List ℕ) (r : Result (Unit {0}) ScriptFault) → Is
 either_read octets (Ok done) bad h = inr h
 either_read octets (Err fault.OutOfMemory) bad h = tt
 either_read octets (Err fault.CannotWrite) bad h = inr h
+either_read octets (Err fault.TooLong) bad h = h
 either_read octets (Err fault.BadTopology) bad h = (bad, h)
 either_read octets (Err fault.CannotRead) bad h = h
 either_read octets (Err fault.BadOptions) bad h = h
@@ -138,6 +143,7 @@ pub follow_fault : (octets : List ℕ) (r : Result (Unit {0}) ScriptFault)
 follow_fault octets (Ok done) h = tt
 follow_fault octets (Err fault.OutOfMemory) h = tt
 follow_fault octets (Err fault.CannotWrite) h = tt
+follow_fault octets (Err fault.TooLong) h = tt
 follow_fault octets (Err fault.BadTopology) h = tt
 follow_fault octets (Err (fault.BadLine number)) h = tt
 follow_fault octets (Err fault.CannotRead) h = absurd h

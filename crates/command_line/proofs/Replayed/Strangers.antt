@@ -2,7 +2,8 @@
 use Rattle.command_line.proofs.Common.{◌≡◌, ◌⊎◌, inl, inr, ℕ, Bool, true, List, [], ◌∷◌, ◌++◌, Option, None, Result}
 use Rattle.command_line.proofs.Common.{OnOk, sym, subst, refl, Appends, Keeps, Calls, Detail, Host, Life, book_text}
 use Rattle.command_line.proofs.Common.{codes, shown, CarrierKind, ScriptFault, subnet_calls, subnet_of, IsUtf8}
-use Rattle.command_line.proofs.Common.{All-head, All-tail, All, appends_more, IsParted, MixedFields, hosts_of}
+use Rattle.command_line.proofs.Common.{All, appends_more, IsParted, MixedFields, hosts_of}
+use Rattle.std.proofs.lemmas.List.Elements.{All-head, All-tail}
 use Rattle.command_line.proofs.Common.{MixedWorldEvent, IsMixedFault, MixedEndsOn, MixedReplaysOn, MixedReplaysOver}
 use Rattle.command_line.proofs.Common.{WritesWorld, IsNetworkFault}
 use Rattle.interface.specs.Host.{is_host}
@@ -24,7 +25,8 @@ pub no_strangers : (octets document script : List ℕ) (f : ScriptFault) → IsP
     → IsNetworkFault f → (f ≡ fault.BadTopology → IsUtf8 document → (t : MixedFields) → ¬ (DescribesMixed document t))
     → IsMixedFault octets f
 no_strangers octets document script fault.BadTopology parted known refused =
-    inr (inr (record { document = document; script = script; parted = parted; unfit = refused refl }))
+    inr (record { document = document; script = script; parted = parted; unfit = refused refl })
+no_strangers octets document script fault.TooLong parted known refused = absurd known
 no_strangers octets document script fault.OutOfMemory parted known refused = tt
 no_strangers octets document script fault.CannotRead parted known refused = absurd known
 no_strangers octets document script fault.CannotWrite parted known refused = absurd known

@@ -8,6 +8,7 @@ use Rattle.reset_law.specs.Pairs.{MaySend}
 use Rattle.reset_law.specs.Runs.{IsRun}
 use Rattle.net_sim.specs.Timeline.{called_at}
 use Rattle.net_sim.proofs.Resets.Bridge.{SameBoxes, box_step, contact_or, flow_of, place_by, places_same}
+use Rattle.reset_law.specs.Network.{Network}
 
 -- ---- the events of moments, without what is nothing to resets
 
@@ -58,7 +59,7 @@ boxes_told a b (Asked h r ∷ moments) =
     by_asked (λ e xs. boxes a b (called_events xs ++ told_events moments) ≡ boxes a b (e ∷ events_of moments)) h (places moments) r (λ peer. boxes_told a b moments) (boxes_told a b moments)
 
 needs_told : (hosts : List Host) (e : Event) (es fs : List Event) → ((h : Host) → is_up hosts h es ≡ is_up hosts h fs) → ((a b : Host) → boxes a b es ≡ boxes a b fs) → Needs hosts e fs → Needs hosts e es
-needs_told hosts (Contact x y) es fs up bs n = up x ∙ n
+needs_told hosts (Contact x y) es fs up bs n = tt
 needs_told hosts (Out x y l m) es fs up bs n = (up x ∙ n.0, ap (λ (f : ℕ → Box). f l) (bs x y) ∙ n.1)
 needs_told hosts (In x y l m) es fs up bs n = (up y ∙ n.0, subst (λ (f : ℕ → Box). WaitsWith (f l) m) (sym (bs x y)) n.1)
 needs_told hosts (Told x y l k) es fs up bs n = (up x ∙ n.0, subst (λ (f : ℕ → Box). Fits k (f l)) (sym (bs x y)) n.1)
@@ -66,18 +67,20 @@ needs_told hosts (Down x) es fs up bs n = up x ∙ n
 needs_told hosts (Up x) es fs up bs n = (n.0, up x ∙ n.1)
 needs_told hosts Idle es fs up bs n = tt
 
-allowed_told : (e : Event) (es fs : List Event) → ((a b : Host) → pair a b es ≡ pair a b fs) → Allowed e fs → Allowed e es
-allowed_told (Out x y l m) es fs ps n = subst (λ (p : Pair). MaySend p l m) (sym (ps x y)) n
-allowed_told e es fs ps n = tt
+allowed_told : (hosts : Network) (e : Event) (es fs : List Event) → ((h : Host) → is_up hosts.all h es ≡ is_up hosts.all h fs) → ((a b : Host) → pair a b es ≡ pair a b fs)
+    → Allowed hosts e fs → Allowed hosts e es
+allowed_told hosts (Out x y l m) es fs up ps n = λ ours. subst (λ (p : Pair). MaySend p l m) (sym (ps x y)) (n ours)
+allowed_told hosts (Contact x y) es fs up ps n = λ off. up x ∙ n off
+allowed_told hosts e es fs up ps n = tt
 
-event_told : (hosts : List Host) (e : Event) (moments : List Moment) → Needs hosts e (events_of moments) → Allowed e (events_of moments) → IsRun hosts (told_events moments) → IsRun hosts (e ∷ told_events moments)
+event_told : (hosts : Network) (e : Event) (moments : List Moment) → Needs hosts.all e (events_of moments) → Allowed hosts e (events_of moments) → IsRun hosts (told_events moments) → IsRun hosts (e ∷ told_events moments)
 event_told hosts e moments n a r = (
-  needs_told hosts e (told_events moments) (events_of moments) (λ h. up_told hosts h moments) (λ x y. boxes_told x y moments) n,
-  allowed_told e (told_events moments) (events_of moments) (λ x y. pair_told x y moments) a,
+  needs_told hosts.all e (told_events moments) (events_of moments) (λ h. up_told hosts.all h moments) (λ x y. boxes_told x y moments) n,
+  allowed_told hosts e (told_events moments) (events_of moments) (λ h. up_told hosts.all h moments) (λ x y. pair_told x y moments) a,
   r,
 )
 
-pub run_told : (hosts : List Host) (moments : List Moment) → IsRun hosts (events_of moments) → IsRun hosts (told_events moments)
+pub run_told : (hosts : Network) (moments : List Moment) → IsRun hosts (events_of moments) → IsRun hosts (told_events moments)
 run_told hosts [] r = tt
 run_told hosts (Crossed c ∷ moments) r = event_told hosts (event_of c) moments r.0 r.1 (run_told hosts moments r.2)
 run_told hosts (Asked h q ∷ moments) r =
@@ -164,15 +167,15 @@ same_events (Asked h r ∷ moments) =
 
 -- ---- a book up to a place
 
-run_under : (hosts : List Host) (xs ys : List Event) → IsRun hosts (xs ++ ys) → IsRun hosts ys
+run_under : (hosts : Network) (xs ys : List Event) → IsRun hosts (xs ++ ys) → IsRun hosts ys
 run_under hosts [] ys r = r
 run_under hosts (x ∷ xs) ys r = run_under hosts xs ys r.2
 
-run_before : (hosts : List Host) (contacts : List Called) (newer older : List Crossing) → IsRun hosts (events_in contacts (newer ++ older)) → IsRun hosts (events_in contacts older)
+run_before : (hosts : Network) (contacts : List Called) (newer older : List Crossing) → IsRun hosts (events_in contacts (newer ++ older)) → IsRun hosts (events_in contacts older)
 run_before hosts contacts [] older r = r
 run_before hosts contacts (c ∷ newer) older r = run_before hosts contacts newer older (run_under hosts (called_at (length (c ∷ newer ++ older)) contacts) (event_of c ∷ events_in contacts (newer ++ older)) r).2
 
-pub run_at : (hosts : List Host) (contacts : List Called) (newer : List Crossing) (c : Crossing) (older : List Crossing) → IsRun hosts (events_in contacts (newer ++ c ∷ older)) → IsRun hosts (event_of c ∷ events_in contacts older)
+pub run_at : (hosts : Network) (contacts : List Called) (newer : List Crossing) (c : Crossing) (older : List Crossing) → IsRun hosts (events_in contacts (newer ++ c ∷ older)) → IsRun hosts (event_of c ∷ events_in contacts older)
 run_at hosts contacts newer c older r = run_under hosts (called_at (length (c ∷ older)) contacts) (event_of c ∷ events_in contacts older) (run_before hosts contacts newer (c ∷ older) r)
 
 -- contacts leave the boxes and the places

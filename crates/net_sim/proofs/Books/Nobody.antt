@@ -8,7 +8,7 @@ use Rattle.net_sim.specs.World.{Event}
 use Rattle.net_sim.proofs.Hosts.Telling.{kept_nobody}
 use Rattle.net_sim.proofs.Books.Whole.{calm_among, opening_among_whole, run_among, step_among}
 
-any_mixed : (strange : Host → Bool) (hosts : List Host) (moments : List Moment) → IsTimeline hosts moments → AreMixed strange hosts moments
+pub any_mixed : (strange : Host → Bool) (hosts : List Host) (moments : List Moment) → IsTimeline hosts moments → AreMixed strange hosts moments
 any_mixed strange hosts [] t = tt
 any_mixed strange hosts (x ∷ moments) t = ((λ off. t.0), any_mixed strange hosts moments t.1)
 

@@ -24,11 +24,11 @@ opening_agrees own h = record { phase = refl; owed = refl; busy = λ k. refl; re
 -- ---- one peer and the others
 
 pub part_by : (g h : Host) (q : PairState) (peers : List Peer) (p : Pair) (part : Part) → Agrees (pair_with h peers) p
-    → (Agrees (pair_with g peers) p → Agrees q (pair_moved (Some part) p)) → (b : Bool) → same_host h g ≡ b
+    → (same_host h g ≡ true → Agrees (pair_with g peers) p → Agrees q (pair_moved (Some part) p)) → (b : Bool) → same_host h g ≡ b
     → Agrees (pair_with h (with_pair g q peers)) (pair_moved (when b part) p)
 part_by g h q peers p part a work true e =
     let is : h ≡ g = same_host-true h g e in
-    let here : Agrees q (pair_moved (Some part) p) = work (subst (λ (x : Host). Agrees (pair_with x peers) p) is a) in
+    let here : Agrees q (pair_moved (Some part) p) = work e (subst (λ (x : Host). Agrees (pair_with x peers) p) is a) in
     let put : pair_with h (with_pair g q peers) ≡ q = (let r : pair_with h (with_pair g q peers) ≡ cond (same_host h g) q (pair_with h peers) = pair_changed g h q peers in rw e at r) in
     subst (λ (x : PairState). Agrees x (pair_moved (Some part) p)) (sym put) here
 part_by g h q peers p part a work false e = subst (λ (x : PairState). Agrees x p) (sym (others_stay g h q peers e)) a
@@ -47,15 +47,15 @@ quiet g h q peers p a work = quiet_by g h q peers p a work (same_host h g) refl
 
 -- ---- what comes in
 
-message_by : (s : NcpState) (m : HostMessage) (stamp : ℕ) (h : Host) (p : Pair) → IsApart m.flow.link.0 m.text (message_on m.flow.link.0 m.text) → Agrees (pair_with h s.peers) p
+message_by : (s : NcpState) (m : HostMessage) (stamp : ℕ) (h : Host) (p : Pair) → (same_host h m.flow.source ≡ true → IsApart m.flow.link.0 m.text (message_on m.flow.link.0 m.text)) → Agrees (pair_with h s.peers) p
     → (b : Bool) → same_host s.own m.flow.destination ≡ b
     → Agrees (pair_with h (accepted_message s m stamp).0.peers) (pair_moved (part_of s.own h (event_of (crossing.In m))) p)
 message_by s m stamp h p apart a true e =
     rw e (part_by m.flow.source h (message_taken m.flow.source stamp m.flow.link.0 m.text (turn_of s m.flow.source)).pair s.peers p (Take (message_on m.flow.link.0 m.text)) a
-    (λ b. agrees_message m.flow.source stamp m.flow.link.0 m.text (turn_of s m.flow.source) p apart b) (same_host h m.flow.source) refl)
+    (λ from b. agrees_message m.flow.source stamp m.flow.link.0 m.text (turn_of s m.flow.source) p (apart from) b) (same_host h m.flow.source) refl)
 message_by s m stamp h p apart a false e = rw e a
 
-pub message_agrees : (s : NcpState) (m : HostMessage) (stamp : ℕ) (h : Host) (p : Pair) → IsApart m.flow.link.0 m.text (message_on m.flow.link.0 m.text) → Agrees (pair_with h s.peers) p
+pub message_agrees : (s : NcpState) (m : HostMessage) (stamp : ℕ) (h : Host) (p : Pair) → (same_host h m.flow.source ≡ true → IsApart m.flow.link.0 m.text (message_on m.flow.link.0 m.text)) → Agrees (pair_with h s.peers) p
     → Agrees (pair_with h (accepted s (inbound.Message m) stamp).0.peers) (pair_moved (part_of s.own h (event_of (crossing.In m))) p)
 unfolding accepted
 message_agrees s m stamp h p apart a = message_by s m stamp h p apart a (same_host s.own m.flow.destination) refl
@@ -77,7 +77,7 @@ answer_by : (s : NcpState) (kind : Answer) (f : Flow) (h : Host) (p : Pair) → 
     → Agrees (pair_with h (accepted_answer s kind f).0.peers) (pair_moved (part_of s.own h (event_of (crossing.Answer kind f))) p)
 answer_by s kind f h p out a true true e g =
     rw (e, g) (part_by f.destination h (answered_turn f.destination kind f.link.0 (turn_of s f.destination)).pair s.peers p (Hear f.link.0 kind) a
-    (λ b. agrees_answer f.destination kind f.link.0 (turn_of s f.destination) p b) (same_host h f.destination) refl)
+    (λ to b. agrees_answer f.destination kind f.link.0 (turn_of s f.destination) p b) (same_host h f.destination) refl)
 answer_by s kind f h p out a true false e g = rw (e, g) (unanswered s kind f h p e out a g (same_host h f.destination) refl)
 answer_by s kind f h p out a false c e g = rw e a
 
@@ -147,7 +147,7 @@ close_agrees s socket h p a false e = rw e (owner_agrees s (owner_of socket s.pe
 contact_agrees : (s : NcpState) (peer h : Host) (p : Pair) → Agrees (pair_with h s.peers) p
     → Agrees (pair_with h (with_pair peer (contacted (pair_with peer s.peers)) s.peers)) (pair_moved (part_of s.own h (event_by s.own (request.Contact peer))) p)
 contact_agrees s peer h p a =
-    rw (same_host-refl s.own) (part_by peer h (contacted (pair_with peer s.peers)) s.peers p Call a (agrees_contacted (pair_with peer s.peers) p) (same_host h peer) refl)
+    rw (same_host-refl s.own) (part_by peer h (contacted (pair_with peer s.peers)) s.peers p Call a (λ to. agrees_contacted (pair_with peer s.peers) p) (same_host h peer) refl)
 
 pub request_agrees : (s : NcpState) (r : Request) (h : Host) (p : Pair) → Agrees (pair_with h s.peers) p → Agrees (pair_with h (served s r).peers) (pair_moved (part_of s.own h (event_by s.own r)) p)
 unfolding served

@@ -6,6 +6,7 @@ use Rattle.interface.specs.declared.crossing.Crossing.TheVariants as crossing
 use Rattle.reset_law.specs.Boxes.{Empty, Taken}
 use Rattle.reset_law.specs.Events as reset
 use Rattle.reset_law.specs.Runs.{IsRun}
+use Rattle.net_sim.specs.MixedWorlds.{IsLawfulAmong, with_programs}
 use Rattle.reset_law.specs.Stays.{IsPrefix, heard_in_stay, said_in_stay}
 use Rattle.reset_law.proofs.lemmas.{heard_front}
 use Rattle.net_sim.specs.World.{Event}
@@ -17,6 +18,7 @@ use Rattle.net_sim.proofs.Books.Whole.{program_is}
 use Rattle.net_sim.proofs.Books.BookEvents.{box_in, pair_told, run_at, run_told, same_events, told_events}
 use Rattle.net_sim.proofs.Resets.Coupled.{Coupled, coupled}
 use Rattle.net_sim.proofs.Resets.StoryLemmas.{story_agrees}
+use Rattle.reset_law.specs.Network.{AreOurs, Network}
 
 -- ---- where a message that waits went out
 
@@ -60,7 +62,7 @@ seen_waiting link (mail.Taken place text) p message is = absurd (cc)
 
 -- ---- the book is a run of the law of resets
 
-module _ {C : Type 0} (seen : C → Seen) (hosts : List Host) (w : WorldState C) (lawful : IsLawful seen hosts w) where
+module _ {C : Type 0} (seen : C → Seen) (hosts : Network) (w : WorldState C) (lawful : IsLawfulAmong hosts.strange seen hosts.all w) where
   abbrev contacts : List Called
   contacts = w.kept.book.contacts
 
@@ -69,9 +71,9 @@ module _ {C : Type 0} (seen : C → Seen) (hosts : List Host) (w : WorldState C)
 
   book_coupled : Coupled hosts lawful.whole.moments
   book_coupled =
-      let all : mail.IsRun hosts (lawful.booked.unbooked ++ log) = subst (λ (xs : List Crossing). mail.IsRun hosts xs) lawful.booked.book lawful.run in
-      let run : mail.IsRun hosts (crossings_of lawful.whole.moments) = subst (λ (xs : List Crossing). mail.IsRun hosts xs) lawful.whole.crossings (run_below hosts lawful.booked.unbooked log all) in
-      coupled hosts lawful.addresses lawful.whole.moments run lawful.whole.timeline
+      let all : mail.IsRun hosts.all (lawful.booked.unbooked ++ log) = subst (λ (xs : List Crossing). mail.IsRun hosts.all xs) lawful.booked.book lawful.run in
+      let run : mail.IsRun hosts.all (crossings_of lawful.whole.moments) = subst (λ (xs : List Crossing). mail.IsRun hosts.all xs) lawful.whole.crossings (run_below hosts.all lawful.booked.unbooked log all) in
+      coupled hosts lawful.addresses lawful.whole.moments run lawful.whole.mixed
 
   book_events : events_in contacts log ≡ told_events lawful.whole.moments
   book_events =
@@ -81,35 +83,35 @@ module _ {C : Type 0} (seen : C → Seen) (hosts : List Host) (w : WorldState C)
   book_run = subst (λ (es : List reset.Event). IsRun hosts es) (sym book_events) (run_told hosts lawful.whole.moments book_coupled.run)
 
   -- each host's program is where the book has it
-  book_agrees : (a b : Host) → Agrees (pair_with b (program a lawful.whole.moments).peers) (pair a b (events_in contacts log))
-  book_agrees a b =
+  book_agrees : (a b : Host) → AreOurs hosts a b → Agrees (pair_with b (program a lawful.whole.moments).peers) (pair a b (events_in contacts log))
+  book_agrees a b ours =
       let same : pair a b (events_in contacts log) ≡ pair a b (events_of lawful.whole.moments) = ap (λ (es : List reset.Event). pair a b es) book_events ∙ pair_told a b lawful.whole.moments in
-      subst (λ (p : Pair). Agrees (pair_with b (program a lawful.whole.moments).peers) p) (sym same) (story_agrees lawful.whole.moments a b book_coupled.story)
+      subst (λ (p : Pair). Agrees (pair_with b (program a lawful.whole.moments).peers) p) (sym same) (story_agrees hosts lawful.whole.moments a b ours book_coupled.story)
 
-  pub book_clean : (newer older : List Crossing) (m : HostMessage) → log ≡ newer ++ crossing.In m ∷ older → IsText m → is_through m.flow.destination m.flow.source contacts older ≡ true → IsFresh m contacts older
-  book_clean newer older m parts plain through =
+  pub book_clean : (newer older : List Crossing) (m : HostMessage) → log ≡ newer ++ crossing.In m ∷ older → AreOurs hosts m.flow.source m.flow.destination → IsText m → is_through m.flow.destination m.flow.source contacts older ≡ true → IsFresh m contacts older
+  book_clean newer older m parts ours plain through =
       let all : IsRun hosts (events_in contacts (newer ++ crossing.In m ∷ older)) = subst (λ (xs : List Crossing). IsRun hosts (events_in contacts xs)) parts book_run in
       let here : IsRun hosts (event_of (crossing.In m) ∷ events_in contacts older) = run_at hosts contacts newer (crossing.In m) older all in
       let run : IsRun hosts (In m.flow.source m.flow.destination m.flow.link.0 (Other m.text) ∷ events_in contacts older) =
       subst (λ (x : Message). IsRun hosts (In m.flow.source m.flow.destination m.flow.link.0 x ∷ events_in contacts older)) plain here in
       let waits : WaitsAfterClean m.flow.source m.flow.destination m.flow.link.0 m.text (events_in contacts older) =
-      clean_run hosts (events_in contacts older) m.flow.source m.flow.destination m.flow.link.0 m.text run (ready_phase (pair m.flow.destination m.flow.source (events_in contacts older)).phase through) in
+      clean_run hosts (events_in contacts older) m.flow.source m.flow.destination m.flow.link.0 m.text ours run (ready_phase (pair m.flow.destination m.flow.source (events_in contacts older)).phase through) in
       let box : seen_box m.flow.link.0 (mail.box_of m.flow older) ≡ Waiting waits.place (Other m.text) = sym (box_in m.flow.source m.flow.destination contacts older m.flow.link.0) ∙ waits.waits in
       let kept : (text : List Bool) × (mail.box_of m.flow older ≡ mail.Waiting waits.place text) = seen_waiting m.flow.link.0 (mail.box_of m.flow older) waits.place (Other m.text) box in
       record { place = waits.place; out = waiting_out m.flow waits.place kept.0 older kept.1; after = waits.after }
 
   -- link by link, what a host heard in its last stay is a prefix of what was said
-  pub book_front : (a b : Host) (link : ℕ) → IsPrefix (heard_in_stay a b link (events_in contacts log)) (said_in_stay a b link (events_in contacts log))
-  book_front a b link = heard_front hosts (events_in contacts log) book_run a b link
+  pub book_front : (a b : Host) → AreOurs hosts a b → (link : ℕ) → IsPrefix (heard_in_stay a b link (events_in contacts log)) (said_in_stay a b link (events_in contacts log))
+  book_front a b ours link = heard_front hosts (events_in contacts log) book_run a b ours link
 
   -- and so is the program in the seat of each host that is up
-  pub seat_agrees : w.stopped ≡ false → (a b : Host) (s : NcpState) → seat_of a w.seats ≡ Some (record { host = a; program = Some s }) → Agrees (pair_with b s.peers) (pair a b (events_in contacts log))
-  seat_agrees running a b s is =
-      let there : record { host = a; program = Some s } ≡ seat_in hosts lawful.whole.moments a =
-      found_seat hosts hosts lawful.whole.moments a (record { host = a; program = Some s }) (ap (λ (seats : List Seat). seat_of a seats) (sym (lawful.whole.seats running)) ∙ is) in
-      let here : (mail.is_up hosts a (crossings_of lawful.whole.moments) ≡ true) × (program a lawful.whole.moments ≡ s) =
-      program_is (mail.is_up hosts a (crossings_of lawful.whole.moments)) (program a lawful.whole.moments) s (ap (λ (x : Seat). x.program) (sym there)) in
-      subst (λ (x : NcpState). Agrees (pair_with b x.peers) (pair a b (events_in contacts log))) here.1 (book_agrees a b)
+  pub seat_agrees : w.stopped ≡ false → (a b : Host) → AreOurs hosts a b → (s : NcpState) → seat_of a w.seats ≡ Some (record { host = a; program = Some s }) → Agrees (pair_with b s.peers) (pair a b (events_in contacts log))
+  seat_agrees running a b ours s is =
+      let there : record { host = a; program = Some s } ≡ seat_in hosts.all lawful.whole.moments a =
+      found_seat hosts.all (with_programs hosts.strange hosts.all) lawful.whole.moments a (record { host = a; program = Some s }) (ap (λ (seats : List Seat). seat_of a seats) (sym (lawful.whole.seats running)) ∙ is) in
+      let here : (mail.is_up hosts.all a (crossings_of lawful.whole.moments) ≡ true) × (program a lawful.whole.moments ≡ s) =
+      program_is (mail.is_up hosts.all a (crossings_of lawful.whole.moments)) (program a lawful.whole.moments) s (ap (λ (x : Seat). x.program) (sym there)) in
+      subst (λ (x : NcpState). Agrees (pair_with b x.peers) (pair a b (events_in contacts log))) here.1 (book_agrees a b ours)
 
 -- ---- worlds come to be so, and stay so
 

@@ -318,7 +318,7 @@ offer_agrees s stamp g x h p order n a =
     let pair : pair_with g.host s.peers ≡ g.pair = next_pair s.peers g x order n in
     let step : Agrees (pair_with g.host s.peers) p → Agrees (after g.host stamp s.listening x g.pair) (pair_sent (link_for x) (message_on (link_for x) (text_for g.pair x)) p) =
     λ b. (goes g.host stamp s.listening g.pair p x (subst (λ (q : PairState). Agrees q p) pair b) (next_is g x s.peers n)).agrees in
-    rw (n, same_host-refl s.own) (part_by g.host h (after g.host stamp s.listening x g.pair) s.peers p (Send (link_for x) (message_on (link_for x) (text_for g.pair x))) a step (same_host h g.host) refl)
+    rw (n, same_host-refl s.own) (part_by g.host h (after g.host stamp s.listening x g.pair) s.peers p (Send (link_for x) (message_on (link_for x) (text_for g.pair x))) a (λ to. step) (same_host h g.host) refl)
 
 -- what goes out is an RST or an RRP by itself, or has neither
 apart : (q : PairState) (p : Pair) (x : Parcel) → Agrees q p → MayGo q x → next_of q ≡ Some x → IsApart (link_for x) (text_for q x) (message_on (link_for x) (text_for q x))

@@ -19,10 +19,12 @@ use Rattle.net_sim.specs.MixedWorlds.{MixedState, MixedStepGives, Out, opening_a
 use Rattle.net_sim.specs.Projection.{Agrees, IsApart, event_by, event_of, message_on}
 use Rattle.net_sim.specs.Story as story
 use Rattle.net_sim.specs.Story.{Crossed, Moment, places}
-use Rattle.net_sim.specs.Timeline.{IsTimeline, contacts_of, crossings_of, events_in}
+use Rattle.net_sim.specs.Mixed.{Happened}
+use Rattle.net_sim.specs.Timeline.{contacts_of, crossings_of, events_in}
 use Rattle.net_sim.specs.Whole.{Each, IsNamed, IsWhole}
 use Rattle.net_sim.specs.World.{CalmGives, Event, RunGives, StepGives, WorldFault, WorldState, opening_world, seat_of}
 use Rattle.reset_law.specs.Events.{part_of}
+use Rattle.reset_law.specs.Network.{AreOurs, Network}
 use Rattle.reset_law.specs.Pairs.{MaySend, Pair, pair_moved}
 use Rattle.reset_law.specs.Pairs as pairs
 use Rattle.reset_law.specs.Runs as runs
@@ -47,7 +49,8 @@ pub record Resets : Type 0 where
   -- a message that has RST and RRP only, or neither, is what the law says of an RST, of an RRP or of any other text
   pub message :
       (s : NcpState) (m : HostMessage) (stamp : ℕ) (h : Host) (p : Pair) →
-      IsApart m.flow.link.0 m.text (message_on m.flow.link.0 m.text) → Agrees (pair_with h s.peers) p →
+      (same_host h m.flow.source ≡ true → IsApart m.flow.link.0 m.text (message_on m.flow.link.0 m.text)) →
+      Agrees (pair_with h s.peers) p →
       Agrees (pair_with h (accepted s (inbound.Message m) stamp).0.peers)
       (pair_moved (part_of s.own h (event_of (crossing.In m))) p)
   -- where the pair isn't through a reset, any other text does nothing
@@ -126,22 +129,22 @@ pub record Worlds {C : Type 0} (calls : Calls C) : Type 0 where
 pub record CleanResets {C : Type 0} (calls : Calls C) : Type 0 where
   -- a host that is through a reset with a peer takes of it only what went out after its last clean point
   pub clean :
-      (hosts : List Host) (w : WorldState C) → IsLawful calls.seen hosts w →
+      (hosts : Network) (w : WorldState C) → IsLawfulAmong hosts.strange calls.seen hosts.all w →
       (newer older : List Crossing) (m : HostMessage) → w.kept.book.crossings ≡ newer ++ crossing.In m ∷ older →
-      IsText m → is_through m.flow.destination m.flow.source w.kept.book.contacts older ≡ true →
+      AreOurs hosts m.flow.source m.flow.destination → IsText m → is_through m.flow.destination m.flow.source w.kept.book.contacts older ≡ true →
       IsFresh m w.kept.book.contacts older
   -- link by link, what a host heard of its peer in its last stay is a prefix of what the peer said in its own
   pub stays :
-      (hosts : List Host) (w : WorldState C) → IsLawful calls.seen hosts w → (a b : Host) (link : ℕ) →
+      (hosts : Network) (w : WorldState C) → IsLawfulAmong hosts.strange calls.seen hosts.all w → (a b : Host) → AreOurs hosts a b → (link : ℕ) →
       IsPrefix (heard_in_stay a b link (events_in w.kept.book.contacts w.kept.book.crossings))
       (said_in_stay a b link (events_in w.kept.book.contacts w.kept.book.crossings))
   -- for the book is a run of the law of resets, and each program in a seat is, for each peer, where that law has it
   pub run :
-      (hosts : List Host) (w : WorldState C) → IsLawful calls.seen hosts w →
+      (hosts : Network) (w : WorldState C) → IsLawfulAmong hosts.strange calls.seen hosts.all w →
       runs.IsRun hosts (events_in w.kept.book.contacts w.kept.book.crossings)
   pub agrees :
-      (hosts : List Host) (w : WorldState C) → IsLawful calls.seen hosts w → w.stopped ≡ false →
-      (a b : Host) (s : NcpState) → seat_of a w.seats ≡ Some (record { host = a; program = Some s }) →
+      (hosts : Network) (w : WorldState C) → IsLawfulAmong hosts.strange calls.seen hosts.all w → w.stopped ≡ false →
+      (a b : Host) → AreOurs hosts a b → (s : NcpState) → seat_of a w.seats ≡ Some (record { host = a; program = Some s }) →
       Agrees (pair_with b s.peers) (pairs.pair a b (events_in w.kept.book.contacts w.kept.book.crossings))
 
 -- Both halves of a clean reset, over any list of moments: of whatever a host takes of a peer, except for RST and RRP,
@@ -149,17 +152,17 @@ pub record CleanResets {C : Type 0} (calls : Calls C) : Type 0 where
 -- as they were, and reports nothing.
 pub record CleanTakings {C : Type 0} (calls : Calls C) : Type 0 where
   pub stories :
-      (hosts : List Host) (newer older : List Moment) (m : HostMessage) → HaveAddresses hosts →
-      IsRun hosts (crossings_of (newer ++ Crossed (crossing.In m) ∷ older)) →
-      IsTimeline hosts (newer ++ Crossed (crossing.In m) ∷ older) → IsText m →
+      (hosts : Network) (newer older : List Moment) (m : HostMessage) → HaveAddresses hosts.all →
+      IsRun hosts.all (crossings_of (newer ++ Crossed (crossing.In m) ∷ older)) →
+      Happened hosts (newer ++ Crossed (crossing.In m) ∷ older) → AreOurs hosts m.flow.source m.flow.destination → IsText m →
       IsFresh m (contacts_of older) (crossings_of older) ⊎
       IsUnheard (story.program m.flow.destination older)
       (accepted (story.program m.flow.destination older) (inbound.Message m) (places older))
   -- so of the moments that the book of a world describes
   pub worlds :
-      (hosts : List Host) (w : WorldState C) → (lawful : IsLawful calls.seen hosts w) →
+      (hosts : Network) (w : WorldState C) → (lawful : IsLawfulAmong hosts.strange calls.seen hosts.all w) →
       (newer older : List Moment) (m : HostMessage) → lawful.whole.moments ≡ newer ++ Crossed (crossing.In m) ∷ older →
-      IsText m →
+      AreOurs hosts m.flow.source m.flow.destination → IsText m →
       IsFresh m (contacts_of older) (crossings_of older) ⊎
       IsUnheard (story.program m.flow.destination older)
       (accepted (story.program m.flow.destination older) (inbound.Message m) (places older))

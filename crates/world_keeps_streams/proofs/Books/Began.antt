@@ -1,5 +1,6 @@
 -- A sending life that isn't over where the receiving life has taken its CLS, then or later, closed first: its CLS has gone out, and it has taken none.
 use Rattle.world_keeps_streams.proofs.Common.{◌≡◌, inl, inr, ℕ, ◌+◌, ◌<◌, ◌≤◌, ◌&&◌, ◌==◌, Bool, true, false, List, [], ◌∷◌, ◌++◌, length, Option, Some, None, refl, ap, sym, subst, ◌∙◌, arith, eqb-true, length-append, Contains, Host, Crossing, is_send_socket, entry_at, has_cls, is_sent, Closing, Entry, both, gone_now, counted, has_heard, Sockets, receiver, sender, Asks, Mark, placed_event, Side, Joined, asks_said, count, place, begins_either, NcpState, pair_with, Match, Name, control_flow, last_out, Moment, event_in, events_of, program, crossings_of, Coupled, place_same, ClosesFirst, HasOpenEnd, live, law_events, origin_in, place_or, steps, Tie, all_says, all_tied, are_origins, at_texts, receiver_half, served_in, own_calls, IsClosedByPartner}
+use Rattle.reset_law.specs.Network.{all_ours}
 use Rattle.host_pairs.specs.declared.entry.Closing.TheVariants as closing
 use Rattle.pairing_law.specs.Links.{Receiver, Sender}
 use Rattle.pairing_law.specs.Marks.{closes}
@@ -149,8 +150,8 @@ module _ (hosts : List Host) (newer older : List Moment) (l : Lawful hosts (newe
 
   tie_r : Tie s pair Receiver r.host r.peer (origin_in (crossings_of older) r.host r.peer) older
   tie_r =
-      let c : Coupled hosts older = coupled_in hosts older old in
-      ((all_tied hosts (origin_in (crossings_of older)) older (are_origins 0 (crossings_of older) [] older refl) c.story c.run (served_in hosts older old.2)).tied r.host r.peer).receiver s pair
+      let c : Coupled (all_ours hosts) older = coupled_in hosts older old in
+      ((all_tied (all_ours hosts) (origin_in (crossings_of older)) older (are_origins 0 (crossings_of older) [] older refl) c.story c.run (served_in hosts older old.2)).tied r.host r.peer (refl, refl)).receiver s pair
 
   heard_it : closes (side_of s Receiver r.host r.peer older).heard ≡ g + 1
   heard_it =
@@ -193,8 +194,8 @@ module _ (hosts : List Host) (newer older : List Moment) (l : Lawful hosts (newe
 
   tie_s : Tie s pair Sender r.peer r.host (origin_in (crossings_of (newer ++ older)) r.peer r.host) (newer ++ older)
   tie_s =
-      let c : Coupled hosts (newer ++ older) = coupled_in hosts (newer ++ older) l in
-      ((all_tied hosts (origin_in (crossings_of (newer ++ older))) (newer ++ older) (are_origins 0 (crossings_of (newer ++ older)) [] (newer ++ older) refl) c.story c.run (served_in hosts (newer ++ older) l.2)).tied r.host r.peer).sender s pair
+      let c : Coupled (all_ours hosts) (newer ++ older) = coupled_in hosts (newer ++ older) l in
+      ((all_tied (all_ours hosts) (origin_in (crossings_of (newer ++ older))) (newer ++ older) (are_origins 0 (crossings_of (newer ++ older)) [] (newer ++ older) refl) c.story c.run (served_in hosts (newer ++ older) l.2)).tied r.host r.peer (refl, refl)).sender s pair
 
   found_s : entry_at r.foreign r.socket (pair_with r.host (program r.peer (newer ++ older)).peers).entries ≡ Some end.end
   found_s = found_tied s pair Sender r.peer r.host (newer ++ older) tie_s end.end among end_own end_foreign

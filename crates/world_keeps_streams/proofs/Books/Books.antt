@@ -1,5 +1,6 @@
 -- The clauses of a safe book that are about two hosts: what was taken has a source, and what was sent is granted.
 use Rattle.world_keeps_streams.proofs.Common.{◌≡◌, ◌⊎◌, inl, inr, ℕ, ◌+◌, ◌≤◌, Bool, true, List, [], length, take, drop, refl, ap, sym, subst, ◌∙◌, arith, Contains, Seen, Host, Crossing, IsLawful, IsGranted, Match, SafePartners, Source, own_request, Moment, crossings_of, WorldState, Coupled, book_lives, book_run, safe_partners, served_in}
+use Rattle.reset_law.specs.Network.{all_ours}
 use Rattle.std.proofs.lemmas.Option.{same_Some}
 use Rattle.promise.specs.Safe.{receives}
 use Rattle.promise.specs.declared.life.Life.{Life}
@@ -30,7 +31,7 @@ module _ (hosts : List Host) (Own Heard : Host → Host → List Moment → ℕ 
     -- ---- what was sent
 
     pub partners : SafePartners (crossings_of ms) (lives_in ms)
-    partners = let c : Coupled hosts ms = coupled_in hosts ms l in safe_partners hosts ms c.story c.run l.1 (served_in hosts ms l.2)
+    partners = let c : Coupled (all_ours hosts) ms = coupled_in hosts ms l in safe_partners hosts ms c.story c.run l.1 (served_in hosts ms l.2)
 
     -- a request is of one life
     pub one_own : (x y : Life) → IsOf x (lives_in ms) → IsOf y (lives_in ms) → own_request x ≡ own_request y → x ≡ y

@@ -1,5 +1,6 @@
 -- Lives whose hosts have nothing left to do agree.
-use Rattle.world_keeps_streams.proofs.Common.{◌≡◌, ℕ, ◌==◌, true, false, List, [], Option, Some, None, is_some, ap, sym, subst, ◌∙◌, eqb-true, Seen, Host, is_receive_socket, is_busy, is_mine_on, is_open, is_receiving, was_closed, next_of, sendable, Entry, both, boxes, kind_in, pair, sound_run, stays_ready, pair_with, next_in, IsLawful, Agrees, Moment, events_of, program, crossings_of, seen_box, WorldState, box_same, story_agrees, linked_end, book_run, send_odd, Agree, AreAtRest, AreSilent, NoneOut, NoneWaits}
+use Rattle.world_keeps_streams.proofs.Common.{◌≡◌, ℕ, ◌==◌, true, false, List, [], Option, Some, None, is_some, refl, ap, sym, subst, ◌∙◌, eqb-true, Seen, Host, is_receive_socket, is_busy, is_mine_on, is_open, is_receiving, was_closed, next_of, sendable, Entry, both, boxes, kind_in, pair, sound_run, stays_ready, pair_with, next_in, IsLawful, Agrees, Moment, events_of, program, crossings_of, seen_box, WorldState, box_same, story_agrees, linked_end, book_run, send_odd, Agree, AreAtRest, AreSilent, NoneOut, NoneWaits}
+use Rattle.reset_law.specs.Network.{all_ours}
 use Rattle.interface.specs.Mailboxes as mail
 use Rattle.ncp_control.specs.Phases as program_phases
 use Rattle.reset_law.specs.Stays as stay
@@ -23,15 +24,15 @@ use Rattle.reset_law.proofs.lemmas.{ready_phase}
 
 module _ (hosts : List Host) (ms : List Moment) (l : Lawful hosts ms) (h p : Host) (stays : stay.stays h p (events_of ms) ≡ true) (out : NoneOut h p (crossings_of ms)) (mute : next_out (program h ms) ≡ None) where
   agrees : Agrees (pair_with p (program h ms).peers) (pair h p (events_of ms))
-  agrees = story_agrees ms h p (coupled_in hosts ms l).story
+  agrees = story_agrees (all_ours hosts) ms h p (refl, refl) (coupled_in hosts ms l).story
 
   is_ready : program_phases.is_ready (pair_with p (program h ms).peers).phase ≡ true
-  is_ready = sym (ready_both h p ms (coupled_in hosts ms l).story) ∙ stays_ready (events_of ms) h p stays
+  is_ready = sym (ready_both hosts h p ms (coupled_in hosts ms l).story) ∙ stays_ready (events_of ms) h p stays
 
   pub free : (k : ℕ) → is_busy (pair_with p (program h ms).peers).busy k ≡ false
   free k =
       let up : (pair h p (events_of ms)).out k ≡ kind_in (boxes h p (events_of ms) k) =
-      (sound_run hosts (events_of ms) (coupled_in hosts ms l).run h p (up_ready hosts (events_of ms) (coupled_in hosts ms l).run h p (stays_ready (events_of ms) h p stays))).outstanding.boxed k in
+      (sound_run (all_ours hosts) (events_of ms) (coupled_in hosts ms l).run h p (refl, refl) (up_ready hosts (events_of ms) (coupled_in hosts ms l).run h p (stays_ready (events_of ms) h p stays))).outstanding.boxed k in
       sym (agrees.busy k) ∙ ap is_some (up ∙ ap kind_in (box_same h p ms k ∙ ap (seen_box k) (out k)))
 
   next : next_of (pair_with p (program h ms).peers) ≡ None

@@ -1,5 +1,6 @@
 -- As many messages came in on the link of a receiving life that isn't over, after both its requests, as the law counts in its connection.
 use Rattle.world_keeps_streams.proofs.Common.{◌≡◌, ◌⊎◌, inl, inr, ℕ, zero, suc, ◌+◌, ◌<◌, ◌≤◌, ◌==◌, Bool, false, if◌then◌else◌, List, [], ◌∷◌, ◌++◌, length, map, Option, Some, refl, ap, sym, subst, ◌∙◌, eq-eqb, arith, eqb-true, length-append, Host, same_host, Flow, HostMessage, same_flow-refl, same_flow-true, same_host-refl, header_of, is_receive_socket, DataHeader, IsSafe, safe_inv, waiting_of, waits_of, all_received, Takes, gone_now, name_now, numbered, receiver_now, data_received, numbered_tells, Fresh, begins_fresh, stays_ready, pair_with, texts_for, texts_of, Name, own_request, Asked, Crossed, Moment, event_in, events_of, program, crossings_of, texts_one, keeps, mail_below, calls_by, own_calls}
+use Rattle.reset_law.specs.Network.{all_ours}
 use Rattle.std.proofs.Common.{max, true}
 use Rattle.std.proofs.Math.Nat.{max-le}
 use Rattle.interface.specs.Flow.{same_flow}
@@ -68,7 +69,7 @@ module _ (hosts : List Host) (a b : Host) (m : HostMessage) (ms : List Moment) (
   end = ap (λ (s : Receiver). s.end) (sym (j.received_a stays)) ∙ waits_of j.x j.joint.inv_x boxed.connection boxed.size boxed.bits boxed.is
 
   ready : phases.is_ready (pair_with b (program a ms).peers).phase ≡ true
-  ready = sym (ready_both a b ms (coupled_in hosts ms older).story) ∙ stays_ready (events_of ms) a b stays
+  ready = sym (ready_both hosts a b ms (coupled_in hosts ms older).story) ∙ stays_ready (events_of ms) a b stays
 
   mine : same_host a m.flow.destination ≡ true
   mine = subst (λ (h : Host). same_host a h ≡ true) host (same_host-refl a)
@@ -168,7 +169,7 @@ module _ (hosts : List Host) where
 
   module _ (y : Moment) (ms : List Moment) (l : Lawful hosts (y ∷ ms)) (a b : Host) (link socket foreign own partner : ℕ) (t : Stands a b link socket foreign own (y ∷ ms)) where
     fresh : stay.begins a b (event_in y) (events_of ms) ≡ true → Fresh a b (event_in y) (events_of ms)
-    fresh new = begins_fresh hosts (event_in y) (events_of ms) (coupled_in hosts (y ∷ ms) l).run a b new
+    fresh new = begins_fresh (all_ours hosts) (event_in y) (events_of ms) (coupled_in hosts (y ∷ ms) l).run a b (refl, refl) new
 
     -- what both have done, where no stay begins
     module _ (none : stay.begins a b (event_in y) (events_of ms) ≡ false) where

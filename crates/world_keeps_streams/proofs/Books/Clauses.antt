@@ -1,5 +1,6 @@
 -- Of all lives of a book: what was taken has a source, and what was sent is granted.
 use Rattle.world_keeps_streams.proofs.Common.{◌≡◌, ◌⊎◌, inl, inr, ℕ, ◌≤◌, Bool, true, false, List, [], ◌∷◌, length, map, take, refl, ap, sym, subst, ◌∙◌, arith, Host, is_receive_socket, is_send_socket, Fresh, begins_fresh, IsGranted, Match, Moment, Crossed, Asked, event_in, events_of, crossings_of}
+use Rattle.reset_law.specs.Network.{all_ours}
 use Rattle.reset_law.specs.Stays as stay
 use Rattle.promise.specs.Safe as book
 use Rattle.promise.specs.Safe.{receives, sends}
@@ -106,7 +107,7 @@ module _ (hosts : List Host) (a b : Host) (Own Heard : List Moment → ℕ → �
   -- where both meet what was since they met before is settled
   module _ (y : Moment) (ms : List Moment) (l : Lawful hosts (y ∷ ms)) (new : stay.begins a b (event_in y) (events_of ms) ≡ true) where
     fresh : Fresh a b (event_in y) (events_of ms)
-    fresh = begins_fresh hosts (event_in y) (events_of ms) (coupled_in hosts (y ∷ ms) l).run a b new
+    fresh = begins_fresh (all_ours hosts) (event_in y) (events_of ms) (coupled_in hosts (y ∷ ms) l).run a b (refl, refl) new
 
     settle_r : (x : Life) → IsOf x (present_in a b ms) → x.host ≡ a → x.peer ≡ b → receives x ≡ true → SettledR ms x
     settle_r x i f g q =

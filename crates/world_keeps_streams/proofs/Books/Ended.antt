@@ -1,6 +1,7 @@
 -- A sending life whose CLS its partner has taken, and whose partner has said none, isn't over while its host stays: so it is there, or it was at the last
 -- moment before its host left.
 use Rattle.world_keeps_streams.proofs.Common.{◌≡◌, inl, inr, ℕ, suc, ◌+◌, ◌<◌, ◌≤◌, ◌&&◌, ◌||◌, not, if◌then◌else◌, Bool, true, false, List, [], ◌∷◌, ◌++◌, refl, ap, sym, subst, ◌∙◌, arith, Contains, Host, Crossing, is_receive_socket, is_send_socket, entry_at, gone_now, counted, has_heard, heard_from, Sockets, Who, receiver, sender, Asks, Mark, IsIn, Side, Joined, Stands, Stood, asks_once, asks_said, every_in, from_asks, begins_either, pair_with, life_ended, Asked, Crossed, Moment, event_in, events_of, program, crossings_of, Coupled, law_events, origin_in, life_of, openings, steps, even_odd, foreign_of, life_in, own_of, sender_half, served_in, own_calls}
+use Rattle.reset_law.specs.Network.{all_ours}
 use Rattle.pairing_law.specs.Links.{Receiver, Sender}
 use Rattle.pairing_law.specs.Marks.{closes}
 use Rattle.pairing_law.specs.Sides as law
@@ -172,7 +173,7 @@ module _ (hosts : List Host) (between last : List Moment) (l : Lawful hosts (bet
 
   in_sender : IsIn (life_of (origin_in (crossings_of (between ++ last)) b a) p) (sender (record { receive = receive; send = send }) (steps a b (law_events (between ++ last)))).lives
   in_sender =
-      let c : Coupled hosts (between ++ last) = coupled_in hosts (between ++ last) l in
+      let c : Coupled (all_ours hosts) (between ++ last) = coupled_in hosts (between ++ last) l in
       let there : IsIn (life_of (origin_in (crossings_of (between ++ last)) p.host p.peer) p) (openings p.host p.peer p.socket p.foreign (between ++ last)) =
       life_in hosts (between ++ last) c.story c.run l.1 (served_in hosts (between ++ last) l.2) 0 p (contains p (lives_in (between ++ last)) p_in) in
       let there_s : IsIn (life_of (origin_in (crossings_of (between ++ last)) p.host p.peer) p) (sender (record { receive = p.foreign; send = p.socket }) (steps p.peer p.host (law_events (between ++ last)))).lives =

@@ -1,6 +1,7 @@
 -- A receiving life that ended by CLS was closed by its partner: an open one is of a connection that no user has closed, and where its end goes, the sender's
 -- CLS was heard before.
 use Rattle.world_keeps_streams.proofs.Common.{◌≡◌, ◌⊎◌, inl, inr, ℕ, suc, ◌≤◌, ◌==◌, Bool, true, false, if◌then◌else◌, List, ◌∷◌, ◌++◌, map, drop, filter, Some, None, refl, ap, sym, subst, ◌∙◌, arith, eqb-true, Host, or_false, is_receive_socket, is_send_socket, Inv, some_is, has_cls, is_ending, is_mine_on, receives_on, Entry, both, AreReceiver, AreAllowed, HasClosed, IsHistory, gone_now, name_now, numbered, receiver_now, closed_first, numbered_tells, pair_with, begins_fresh, IsBeside, own_request, Fate, Asked, Moment, event_in, events_of, program, host_in, notices_by, Coupled, kept_fated, HasOpenEnd, live, keeps, life_paired, served_in, calls_by, own_calls, IsClosedByPartner, WasClosedByPartner}
+use Rattle.reset_law.specs.Network.{all_ours}
 use Rattle.std.proofs.Common.{[]}
 use Rattle.stream_law.specs.Receivers.{Receiver}
 use Rattle.host_keeps_streams.specs.Histories as calls
@@ -87,7 +88,7 @@ module _ (hosts : List Host) (y : Moment) (ms : List Moment) (l : Lawful hosts (
   none = by (stay.begins x.host x.peer (event_in y) (events_of ms)) refl where
     by : (v : Bool) → stay.begins x.host x.peer (event_in y) (events_of ms) ≡ v → v ≡ false
     by false e = refl
-    by true e = absurd (unlike (stay.stays x.host x.peer (events_of ms)) was (begins_fresh hosts (event_in y) (events_of ms) (coupled_in hosts (y ∷ ms) l).run x.host x.peer e).left)
+    by true e = absurd (unlike (stay.stays x.host x.peer (events_of ms)) was (begins_fresh (all_ours hosts) (event_in y) (events_of ms) (coupled_in hosts (y ∷ ms) l).run x.host x.peer (refl, refl) e).left)
 
   own_is : own_calls x.host x.peer (y ∷ ms) ≡ calls_by x.host x.peer y ms ++ own_calls x.host x.peer ms
   own_is = own_if (keeps x.host x.peer (event_in y) (events_of ms)) (calls_by x.host x.peer y ms ++ own_calls x.host x.peer ms) [] (stays_on x.host x.peer (event_in y) (events_of ms) on none).0
@@ -301,7 +302,7 @@ module _ (hosts : List Host) (y : Moment) (ms : List Moment) (l : Lawful hosts (
 
   sends : is_send_socket x.foreign ≡ true
   sends =
-      let c : Coupled hosts (y ∷ ms) = coupled_in hosts (y ∷ ms) l in
+      let c : Coupled (all_ours hosts) (y ∷ ms) = coupled_in hosts (y ∷ ms) l in
       other_sends x kind (life_paired hosts (y ∷ ms) c.story c.run l.1 (served_in hosts (y ∷ ms) l.2) x (contains x (lives_in (y ∷ ms)) i))
 
   abbrev its : ℕ
@@ -373,7 +374,7 @@ module _ (hosts : List Host) (y : Moment) (ms : List Moment) (l : Lawful hosts (
 
   z_sends : is_send_socket z.foreign ≡ true
   z_sends =
-      let c : Coupled hosts (y ∷ ms) = coupled_in hosts (y ∷ ms) l in
+      let c : Coupled (all_ours hosts) (y ∷ ms) = coupled_in hosts (y ∷ ms) l in
       other_sends z kind (life_paired hosts (y ∷ ms) c.story c.run l.1 (served_in hosts (y ∷ ms) l.2) z (contains z (lives_in (y ∷ ms)) z_in))
 
   fated_new : IsBegun (host_in y) (notices_by y ms) z g → IsFated hosts (y ∷ ms) z g

@@ -1,5 +1,6 @@
 -- A receiving life that its partner has closed, and no user of its host, has all that its partner sent, whatever becomes of both later.
 use Rattle.world_keeps_streams.proofs.Common.{◌≡◌, ◌⊎◌, inl, inr, ℕ, zero, suc, ◌+◌, ◌≤◌, Bool, true, false, List, [], ◌∷◌, ◌++◌, length, map, take, drop, Some, refl, ap, sym, subst, ◌∙◌, arith, Contains, Seen, Host, is_receive_socket, is_send_socket, Allocation, IsSafe, safe_inv, HasClosed, name_now, numbered, receiver_now, closed_first, numbered_tells, receiver, Fresh, asks_once, begins_fresh, IsLawful, Match, Name, own_request, partner_request, Asked, Crossed, Moment, event_in, events_of, crossings_of, WorldState, law_events, keeps, steps, book_run, calls_by, own_calls, IsClosedByPartner, WasClosedByPartner}
+use Rattle.reset_law.specs.Network.{all_ours}
 use Rattle.std.proofs.lemmas.Option.{same_Some}
 use Rattle.stream_law.specs.Receivers.{Receiver}
 use Rattle.host_keeps_streams.specs.Histories as calls
@@ -223,7 +224,7 @@ module _ (hosts : List Host) (a b : Host) where
       by (Crossed c) k = request_grows hosts ms k (c ∷ []) s (contains s (lives_in ms) i)
 
     pub fresh : stay.begins a b (event_in z) (events_of ms) ≡ true → Fresh a b (event_in z) (events_of ms)
-    fresh new = begins_fresh hosts (event_in z) (events_of ms) (coupled_in hosts (z ∷ ms) l).run a b new
+    fresh new = begins_fresh (all_ours hosts) (event_in z) (events_of ms) (coupled_in hosts (z ∷ ms) l).run a b (refl, refl) new
 
     -- a sending life of the peer that is of before both met last was over before, so it is as it was
     pub record Before (s : Life) : Type 0 where

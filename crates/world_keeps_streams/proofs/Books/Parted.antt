@@ -1,5 +1,6 @@
 -- How many CLS a host has said of a connection while it stays, and that it says none any more once it has left.
 use Rattle.world_keeps_streams.proofs.Common.{◌≡◌, ◌+◌, ◌≤◌, ◌&&◌, ◌||◌, not, if◌then◌else◌, Bool, List, [], ◌∷◌, ◌++◌, refl, ap, sym, subst, ◌∙◌, arith, Host, is_sent, Entry, Sockets, Who, Ask, Close, Mark, Side, hears, says, placed_event, Joined, count, stays_same, Contact, Event, Other, Out, are, begins_either, stays_ready, pair_with, Moment, event_in, events_of, program, crossings_of, Coupled, law_events, origin_in, keeps, all_hears, all_says, all_tied, are_origins, at_texts, hears_if, left_if, met_if, other, served_in}
+use Rattle.reset_law.specs.Network.{all_ours}
 use Rattle.std.proofs.Common.{true, false}
 use Rattle.pairing_law.specs.Links.{Receiver, Sender}
 use Rattle.pairing_law.specs.Marks.{closes}
@@ -137,9 +138,9 @@ module _ (hosts : List Host) (ms : List Moment) (l : Lawful hosts ms) (a b : Hos
 
   here : Counted (side_of s Receiver a b ms).said (side_of s Receiver a b ms).heard (is_sent e.closing) e.partner_closed
   here =
-      let c : Coupled hosts ms = coupled_in hosts ms l in
+      let c : Coupled (all_ours hosts) ms = coupled_in hosts ms l in
       counted hosts ms l s q Receiver a b
-      (((all_tied hosts (origin_in (crossings_of ms)) ms (are_origins 0 (crossings_of ms) [] ms refl) c.story c.run (served_in hosts ms l.2)).tied a b).receiver s q)
+      (((all_tied (all_ours hosts) (origin_in (crossings_of ms)) ms (are_origins 0 (crossings_of ms) [] ms refl) c.story c.run (served_in hosts ms l.2)).tied a b (refl, refl)).receiver s q)
       j.floor j.other (side_of s Sender b a ms) j.here mine e e_in own foreign
 
   unsent : is_sent e.closing ≡ false
@@ -173,9 +174,9 @@ module _ (hosts : List Host) (between last : List Moment) (l : Lawful hosts (bet
 
         there : Counted (side_of s Sender b a last).said (side_of s Sender b a last).heard (is_sent f.closing) f.partner_closed
         there =
-            let c : Coupled hosts last = coupled_in hosts last older in
+            let c : Coupled (all_ours hosts) last = coupled_in hosts last older in
             counted hosts last older s q Sender b a
-            (((all_tied hosts (origin_in (crossings_of last)) last (are_origins 0 (crossings_of last) [] last refl) c.story c.run (served_in hosts last older.2)).tied a b).sender s q)
+            (((all_tied (all_ours hosts) (origin_in (crossings_of last)) last (are_origins 0 (crossings_of last) [] last refl) c.story c.run (served_in hosts last older.2)).tied a b (refl, refl)).sender s q)
             k.other k.floor (side_of s Receiver a b last) k.there theirs f f_in f_own f_foreign
 
         up : closes (side_of s Receiver a b (between ++ last)).heard ≤ closes (side_of s Sender b a last).said

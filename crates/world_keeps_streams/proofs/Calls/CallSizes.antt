@@ -1,5 +1,6 @@
 -- Each call of a world's programs finds byte sizes that are octets and not zero.
 use Rattle.world_keeps_streams.proofs.Common.{◌≡◌, ℕ, ◌==◌, ◌&&◌, IsTrue, not, Bool, true, false, if◌then◌else◌, List, [], ◌∷◌, ◌++◌, take, Option, Some, None, refl, ap, sym, subst, ◌∙◌, Host, same_host, not_false, same_host-true, is_byte_size, is_receive_socket, is_send_socket, Command, desk_taken, Legal, Order, Wrong, error, orders_of, desk_of, listens_on, command_queued, is_busy, PairState, Parcel, command_gone, with_connections, is_ready, TurnState, order_taken, with_desk, Entry, Listener, AreOrders, AreSizes, IsRanged, pair_range, text_good, AreJoint, ready_when, AsksBack, Closes, Gives, Grants, Hears, OpensReceiver, OpensSender, Says, Takes, turn_of, NcpState, owner_of, pair_with, is_taken, next_in, Peer, Request, not_first, HaveAddresses, IsApart, message_on, Asked, Crossed, IsStory, Moment, event_in, events_of, places, program, Happens, IsTimeline, crossings_of, coupled, keeps, AText, AnRrp, AnRst, Sort, mail_below, plain_joint, programs_ranged, served_in, sort_of, calls_by, commands_said, message_calls, next_calls, orders_heard, own_calls, owner_calls, parcel_calls, request_calls}
+use Rattle.reset_law.specs.Network.{all_ours}
 use Rattle.interface.specs.Mailboxes as mail
 use Rattle.interface.specs.declared.crossing.Crossing.TheVariants as crossing
 use Rattle.host_pairs.specs.Parcels as parcel
@@ -101,14 +102,14 @@ module _ (hosts : List Host) (a b : Host) (moments : List Moment) (ranged : (h :
       let p : IsPair (pair_with b (program a moments).peers) = pair_range b (program a moments).peers (ranged a).pairs in
       record { ends = p.ends; commands = p.commands; sizes = (ranged a).sizes }
 
-  calls_sizes : (x : Moment) → IsStory (x ∷ moments) → Happens hosts x moments → AllSizes (calls_by a b x moments)
+  calls_sizes : (x : Moment) → IsStory (all_ours hosts) (x ∷ moments) → Happens hosts x moments → AllSizes (calls_by a b x moments)
   calls_sizes (Crossed (crossing.Out m)) story happens = by (same_host a m.flow.source) where
     by : (d : Bool) → AllSizes (if d then next_calls b (places moments) (program a moments).listening (next_in (program a moments).peers) else [])
     by true = next_sizes b (places moments) (program a moments).listening (next_in (program a moments).peers) (ranged a).sizes
     by false = tt
   calls_sizes (Crossed (crossing.In m)) story happens = by (same_host a m.flow.destination && same_host b m.flow.source) where
     by : (d : Bool) → AllSizes (if d then message_calls b (places moments) m.flow.link.0 m.text (turn_of (program a moments) b) else [])
-    by true = message_sizes b (places moments) m.flow.link.0 m.text (turn_of (program a moments) b) story.0 desk_ranged
+    by true = message_sizes b (places moments) m.flow.link.0 m.text (turn_of (program a moments) b) (story.0 (refl, refl)) desk_ranged
     by false = tt
   calls_sizes (Crossed (crossing.Answer kind f)) story happens = by (same_host a f.source && same_host b f.destination) (is_busy (pair_with b (program a moments).peers).busy f.link.0) where
     by : (d e : Bool) → AllSizes (if d then (if e then called (calls.Answered f.link.0) (pair_with b (program a moments).peers) (program a moments).listening ∷ [] else []) else [])
@@ -126,7 +127,7 @@ own_sizes : (hosts : List Host) → HaveAddresses hosts → (moments : List Mome
 own_sizes hosts addresses [] run time a b = tt
 own_sizes hosts addresses (x ∷ moments) run time a b = by (own_sizes hosts addresses moments (mail_below hosts x moments run) time.1 a b) (keeps a b (event_in x) (events_of moments)) where
   now : AllSizes (calls_by a b x moments)
-  now = calls_sizes hosts a b moments (programs_ranged moments (served_in hosts moments time.1)) x (coupled hosts addresses (x ∷ moments) run time).story time.0
+  now = calls_sizes hosts a b moments (λ h. programs_ranged (all_ours hosts) moments (served_in hosts moments time.1) h refl) x (coupled hosts addresses (x ∷ moments) run time).story time.0
 
   by : AllSizes (own_calls a b moments) → (k : Bool) → AllSizes (if k then calls_by a b x moments ++ own_calls a b moments else [])
   by old true = sizes_append (calls_by a b x moments) (own_calls a b moments) now old

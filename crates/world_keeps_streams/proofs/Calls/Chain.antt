@@ -1,5 +1,6 @@
 -- The calls of a host with a peer follow one another, and lead to the ends that its program has.
 use Rattle.world_keeps_streams.proofs.Common.{◌≡◌, ℕ, Bool, true, false, not, ◌&&◌, if◌then◌else◌, List, [], ◌∷◌, ◌++◌, None, refl, ap, sym, subst, ◌∙◌, Host, same_host, Flow, Answer, HostMessage, same_host-true, PairState, is_ready, IsHistory, ends_now, In, Message, Other, Pair, accepted, turn_of, opening_state, pair_with, refusal, served, next_in, offered, Request, answer_leaves, message_leaves, HaveAddresses, message_on, Asked, Crossed, IsStory, Moment, event_in, events_of, places, program, Happens, IsTimeline, crossings_of, Coupled, by_request, coupled, program_own, clash, mail_below, answer_calls, calls_by, message_calls, next_calls, own_calls, request_calls}
+use Rattle.reset_law.specs.Network.{all_ours}
 use Rattle.pairing_law.proofs.lemmas.{pair_same}
 use Rattle.interface.specs.Mailboxes as mail
 use Rattle.interface.specs.declared.crossing.Crossing.TheVariants as crossing
@@ -35,18 +36,18 @@ module _ (a b : Host) where
     by true = record { leads = λ n r. clash _ true refl (sym r); drops = λ f. clash _ true refl (sym f); idle = λ i j. (refl, refl) }
     by false = still b (pair_with b (program a moments).peers) (pair_with b (program a moments).peers) refl
 
-  module _ (hosts : List Host) (moments : List Moment) (c : Coupled hosts moments) where
+  module _ (hosts : List Host) (moments : List Moment) (c : Coupled (all_ours hosts) moments) where
     out_moved : (m : HostMessage) → Moves (Crossed (crossing.Out m)) moments
     out_moved m = by (same_host a m.flow.source) where
       by : (d : Bool) → Turned b false (pair_with b (program a moments).peers) (pair_with b (if d then (offered (program a moments) (places moments)).0 else program a moments).peers)
           (if d then next_calls b (places moments) (program a moments).listening (next_in (program a moments).peers) else [])
-      by true = offered_moved (program a moments) (places moments) b (c.order a)
+      by true = offered_moved (program a moments) (places moments) b (c.order a refl)
       by false = still b (pair_with b (program a moments).peers) (pair_with b (program a moments).peers) refl
 
     own_is : (h : Host) → same_host a h ≡ true → same_host (program a moments).own h ≡ true
     own_is h e = ap (λ (g : Host). same_host g h) (program_own a moments) ∙ e
 
-    in_moved : (m : HostMessage) → IsStory (Crossed (crossing.In m) ∷ moments) → Moves (Crossed (crossing.In m)) moments
+    in_moved : (m : HostMessage) → IsStory (all_ours hosts) (Crossed (crossing.In m) ∷ moments) → Moves (Crossed (crossing.In m)) moments
     in_moved m story = by (same_host a m.flow.destination) (same_host b m.flow.source) refl refl where
       by : (d e : Bool) → same_host a m.flow.destination ≡ d → same_host b m.flow.source ≡ e
           → Turned b (stay.takes_reset a b (event_in (Crossed (crossing.In m)))) (pair_with b (program a moments).peers) (pair_with b (if d then (accepted (program a moments) (inbound.Message m) (places moments)).0 else program a moments).peers)
@@ -57,7 +58,7 @@ module _ (a b : Host) where
           takes_by a b m.flow.source m.flow.destination m.flow.link.0 (message_on m.flow.link.0 m.text) true (ap (λ (u : Bool). u && same_host b m.flow.source) f ∙ g) in
           subst (λ (t : Bool). Turned b t (pair_with b (program a moments).peers) (pair_with b (accepted (program a moments) (inbound.Message m) (places moments)).0.peers) (message_calls b (places moments) m.flow.link.0 m.text (turn_of (program a moments) b))) (sym takes)
           (subst (λ (h : Host). Turned h (is_reset (message_on m.flow.link.0 m.text)) (pair_with h (program a moments).peers) (pair_with h (accepted (program a moments) (inbound.Message m) (places moments)).0.peers) (message_calls h (places moments) m.flow.link.0 m.text (turn_of (program a moments) h))) (sym is)
-          (message_moved (program a moments) (places moments) m (own_is m.flow.destination f) story.0))
+          (message_moved (program a moments) (places moments) m (own_is m.flow.destination f) (story.0 (refl, refl))))
       by true false f g =
           let takes : stay.takes_reset a b (event_in (Crossed (crossing.In m))) ≡ false =
           takes_by a b m.flow.source m.flow.destination m.flow.link.0 (message_on m.flow.link.0 m.text) false (ap (λ (u : Bool). u && same_host b m.flow.source) f ∙ g) in
@@ -87,10 +88,10 @@ module _ (a b : Host) where
         (sym (by_request (λ e. stay.takes_reset a b e ≡ false) h r (λ peer. refl) refl))
         (by (same_host a h) refl) where
           by : (d : Bool) → same_host a h ≡ d → Turned b false (pair_with b (program a moments).peers) (pair_with b (if d then served (program a moments) r else program a moments).peers) (if d then request_calls b (program a moments) r else [])
-          by true e = request_moved (program a moments) b r (c.order a) (subst (λ (g : Host). refusal (program g moments) r ≡ None) (sym (same_host-true a h e)) may)
+          by true e = request_moved (program a moments) b r (c.order a refl) (subst (λ (g : Host). refusal (program g moments) r ≡ None) (sym (same_host-true a h e)) may)
           by false e = still b (pair_with b (program a moments).peers) (pair_with b (program a moments).peers) refl
 
-    pub moved : (x : Moment) → IsStory (x ∷ moments) → Happens hosts x moments → Moves x moments
+    pub moved : (x : Moment) → IsStory (all_ours hosts) (x ∷ moments) → Happens hosts x moments → Moves x moments
     moved (Crossed (crossing.Out m)) story happens = out_moved m
     moved (Crossed (crossing.In m)) story happens = in_moved m story
     moved (Crossed (crossing.Answer kind f)) story happens = told_moved kind f
@@ -101,8 +102,8 @@ module _ (a b : Host) where
 -- ---- all moments
 
 -- a host is through a reset by its program where it is by the law
-pub ready_both : (a b : Host) (moments : List Moment) → IsStory moments → stay.ready a b (events_of moments) ≡ is_ready (pair_with b (program a moments).peers).phase
-ready_both a b moments story = ap (λ (p : Pair). is_ready p.phase) (sym (pair_same a b (events_of moments))) ∙ ready_is a b moments story
+pub ready_both : (hosts : List Host) (a b : Host) (moments : List Moment) → IsStory (all_ours hosts) moments → stay.ready a b (events_of moments) ≡ is_ready (pair_with b (program a moments).peers).phase
+ready_both hosts a b moments story = ap (λ (p : Pair). is_ready p.phase) (sym (pair_same a b (events_of moments))) ∙ ready_is (all_ours hosts) a b moments (refl, refl) story
 
 pub idle : (hosts : List Host) → HaveAddresses hosts → (moments : List Moment) → mail.IsRun hosts (crossings_of moments) → IsTimeline hosts moments → (a b : Host)
     → is_ready (pair_with b (program a moments).peers).phase ≡ false → ((pair_with b (program a moments).peers).entries ≡ []) × ((pair_with b (program a moments).peers).queue ≡ [])
@@ -121,7 +122,7 @@ chain hosts addresses (x ∷ moments) run time a b = by (chain hosts addresses m
   below : mail.IsRun hosts (crossings_of moments)
   below = mail_below hosts x moments run
 
-  story : IsStory (x ∷ moments)
+  story : IsStory (all_ours hosts) (x ∷ moments)
   story = (coupled hosts addresses (x ∷ moments) run time).story
 
   t : Moves a b x moments
@@ -133,5 +134,5 @@ chain hosts addresses (x ∷ moments) run time a b = by (chain hosts addresses m
   by : Chained a b moments → (r z : Bool) → stay.ready a b (events_of (x ∷ moments)) ≡ r → stay.takes_reset a b (event_in x) ≡ z
       → IsHistory b (if r && not z then calls_by a b x moments ++ own_calls a b moments else []) × (ends_now b (if r && not z then calls_by a b x moments ++ own_calls a b moments else []) ≡ (pair_with b (program a (x ∷ moments)).peers).entries)
   by old true true e f = none (t.drops f)
-  by old true false e f = t.leads f (sym (ready_both a b (x ∷ moments) story) ∙ e) (own_calls a b moments) old.0 old.1
-  by old false z e f = none (idle hosts addresses (x ∷ moments) run time a b (sym (ready_both a b (x ∷ moments) story) ∙ e)).0
+  by old true false e f = t.leads f (sym (ready_both hosts a b (x ∷ moments) story) ∙ e) (own_calls a b moments) old.0 old.1
+  by old false z e f = none (idle hosts addresses (x ∷ moments) run time a b (sym (ready_both hosts a b (x ∷ moments) story) ∙ e)).0

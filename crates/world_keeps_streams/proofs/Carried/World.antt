@@ -50,7 +50,7 @@ module _ (number : ℕ → ℕ → ℕ → ℕ) (tells : IsTelling number) (host
   keeping (Crossed (crossing.Out m)) ms run time on c = by (same_host a m.flow.source && same_host b m.flow.destination) refl where
     by : (t : Bool) → (same_host a m.flow.source && same_host b m.flow.destination) ≡ t → Carries number a b (Crossed (crossing.Out m) ∷ ms)
     by true e = keeps_out number tells hosts addresses a b allowed m ms run time on e c
-    by false e = still (Crossed (crossing.Out m)) ms run time on (out_none a b m ms (coupled hosts addresses (Crossed (crossing.Out m) ∷ ms) run time).story.0 e) e c
+    by false e = still (Crossed (crossing.Out m)) ms run time on (out_none a b m ms ((coupled hosts addresses (Crossed (crossing.Out m) ∷ ms) run time).story.0 refl) e) e c
   keeping (Crossed (crossing.In m)) ms run time on c = by (same_host a m.flow.destination && same_host b m.flow.source) refl where
     by : (t : Bool) → (same_host a m.flow.destination && same_host b m.flow.source) ≡ t → Carries number a b (Crossed (crossing.In m) ∷ ms)
     by true e = keeps_in number tells hosts addresses a b allowed m ms run time on e c

@@ -1,6 +1,7 @@
 -- What is outstanding on a connection's link is of an end that opened and hasn't closed, or no end is opened before a
 -- reset.
 use Rattle.world_keeps_streams.proofs.Common.{◌≡◌, ◌⊎◌, inl, inr, ℕ, zero, suc, ◌==◌, ◌&&◌, not, Bool, true, false, if◌then◌else◌, List, [], ◌∷◌, ◌++◌, Option, Some, None, is_some, refl, ap, sym, subst, ◌∙◌, eqb-true, eq-eqb, Host, same_host, Flow, Answer, HostMessage, same_host-true, has_cls, is_busy, is_link, is_receiving, PairState, Parcel, may_send_on, Entry, both, has_opened, AreAllowed, IsHistory, Answered, ends_now, numbered, is_ready, Phase, Pair, pair, pair_moved, pair_with, turn_of, Request, Asked, Crossed, IsNext, Moment, events_of, event_in, places, program, Agrees, story_agrees, calls_by, message_calls, own_calls, request_calls, MaySend, next_calls, next_of, Message, message_on, when, Send, Take, Hear, Begin, Other, MayGo, what_goes, open_parts, next_is, next_in, is_ending, same_host-refl, link_for, answer_calls}
+use Rattle.reset_law.specs.Network.{all_ours}
 use Rattle.reset_law.specs.Pairs.{Plain}
 use Rattle.host_keeps_streams.specs.Histories as calls
 use Rattle.host_pairs.specs.Parcels.{link_of}
@@ -76,7 +77,7 @@ module _ (hosts : List Host) (a b : Host) (l : ℕ) (off_zero : (l == 0) ≡ fal
       ⊎ Has (holds l) (pair_with b (program a ms).peers).entries
 
   agrees : (ms : List Moment) → Lawful hosts ms → Agrees (pair_with b (program a ms).peers) (pair a b (events_of ms))
-  agrees ms lawful = story_agrees ms a b (coupled_in hosts ms lawful).story
+  agrees ms lawful = story_agrees (all_ours hosts) ms a b (refl, refl) (coupled_in hosts ms lawful).story
 
   on_now : (ms : List Moment) → Lawful hosts ms → is_some ((pair a b (events_of ms)).out l) ≡ true
       → is_busy (pair_with b (program a ms).peers).busy l ≡ true
@@ -154,15 +155,15 @@ module _ (hosts : List Host) (a b : Host) (l : ℕ) (off_zero : (l == 0) ≡ fal
 
     n : IsNext (program a ms) m
     n =
-        subst (λ (h : Host). IsNext (program h ms) m) (sym from) (coupled_in hosts
-        (Crossed (crossing.Out m) ∷ ms) lawful).story.0
+        subst (λ (h : Host). IsNext (program h ms) m) (sym from)
+        ((coupled_in hosts (Crossed (crossing.Out m) ∷ ms) lawful).story.0 refl)
 
     may : MaySend (pair a b (events_of ms)) m.flow.link.0 (message_on m.flow.link.0 m.text)
     may =
         subst (λ (h : Host). MaySend (pair h b (events_of ms)) m.flow.link.0 (message_on m.flow.link.0 m.text))
         (sym from)
         (subst (λ (h : Host). MaySend (pair m.flow.source h (events_of ms)) m.flow.link.0
-        (message_on m.flow.link.0 m.text)) (sym to) (coupled_in hosts (Crossed (crossing.Out m) ∷ ms) lawful).run.1)
+        (message_on m.flow.link.0 m.text)) (sym to) ((coupled_in hosts (Crossed (crossing.Out m) ∷ ms) lawful).run.1 (refl, refl)))
 
     on : AllOn l (calls_by a b (Crossed (crossing.Out m)) ms)
     on =

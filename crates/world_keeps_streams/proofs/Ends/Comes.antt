@@ -1,5 +1,6 @@
 -- What a message that a host takes of its peer is for a life.
 use Rattle.world_keeps_streams.proofs.Common.{◌≡◌, inl, inr, ℕ, ◌==◌, ◌&&◌, Bool, true, false, if◌then◌else◌, List, [], ◌∷◌, refl, ap, sym, subst, ◌∙◌, Host, same_host, HostMessage, same_host-refl, Legal, Order, orders_of, data_taken, is_sent, if_ready, message_taken, orders_taken, reply_notices, Entry, Notice, is_ready, Phase, End, HasEnd, at, AreJoint, with_openings, AllFit, marks_in, eqb-sym, plain, Message, after_turn, turn_of, pair_with, AllPlain, IsApart, Crossed, Moment, places, program, crossings_of, new_life, notices_by, Coupled, program_own, Course, each, heard, TakesFreeAt, origin_in, AText, AllBare, AllTied, AnRrp, AnRst, AreOrigins, Sort, all_bare, all_tied, are_origins, plain_joint, programs_ranged, served_in, sort_of, takes}
+use Rattle.reset_law.specs.Network.{all_ours}
 use Rattle.interface.specs.declared.crossing.Crossing.TheVariants as crossing
 use Rattle.interface.specs.declared.crossing.Inbound.TheVariants as inbound
 use Rattle.host_pairs.specs.Entries.{is_over}
@@ -31,7 +32,7 @@ module _ (hosts : List Host) (m : HostMessage) (ms : List Moment) (l : Lawful ho
   lower_in : Lawful hosts ms
   lower_in = below hosts (Crossed (crossing.In m)) ms l
 
-  c : Coupled hosts (Crossed (crossing.In m) ∷ ms)
+  c : Coupled (all_ours hosts) (Crossed (crossing.In m) ∷ ms)
   c = coupled_in hosts (Crossed (crossing.In m) ∷ ms) l
 
   mine : same_host (program m.flow.destination ms).own m.flow.destination ≡ true
@@ -85,17 +86,17 @@ module _ (hosts : List Host) (m : HostMessage) (ms : List Moment) (l : Lawful ho
   sources : AreOrigins (origin_in (crossings_of (Crossed (crossing.In m) ∷ ms))) (Crossed (crossing.In m) ∷ ms)
   sources = are_origins 0 (crossings_of (Crossed (crossing.In m) ∷ ms)) [] (Crossed (crossing.In m) ∷ ms) refl
 
-  tied : AllTied (origin_in (crossings_of (Crossed (crossing.In m) ∷ ms))) ms
-  tied = all_tied hosts (origin_in (crossings_of (Crossed (crossing.In m) ∷ ms))) ms sources.1 c.story.1 c.run.2 (served_in hosts ms lower_in.2)
+  tied : AllTied (all_ours hosts) (origin_in (crossings_of (Crossed (crossing.In m) ∷ ms))) ms
+  tied = all_tied (all_ours hosts) (origin_in (crossings_of (Crossed (crossing.In m) ∷ ms))) ms sources.1 c.story.1 c.run.2 (served_in hosts ms lower_in.2)
 
-  next_tied : AllTied (origin_in (crossings_of (Crossed (crossing.In m) ∷ ms))) (Crossed (crossing.In m) ∷ ms)
-  next_tied = all_tied hosts (origin_in (crossings_of (Crossed (crossing.In m) ∷ ms))) (Crossed (crossing.In m) ∷ ms) sources c.story c.run (served_in hosts (Crossed (crossing.In m) ∷ ms) l.2)
+  next_tied : AllTied (all_ours hosts) (origin_in (crossings_of (Crossed (crossing.In m) ∷ ms))) (Crossed (crossing.In m) ∷ ms)
+  next_tied = all_tied (all_ours hosts) (origin_in (crossings_of (Crossed (crossing.In m) ∷ ms))) (Crossed (crossing.In m) ∷ ms) sources c.story c.run (served_in hosts (Crossed (crossing.In m) ∷ ms) l.2)
 
-  bare : AllBare (origin_in (crossings_of (Crossed (crossing.In m) ∷ ms))) ms
-  bare = all_bare hosts (origin_in (crossings_of (Crossed (crossing.In m) ∷ ms))) ms sources.1 c.story.1 c.run.2 lower_in.1 (served_in hosts ms lower_in.2)
+  bare : AllBare (all_ours hosts) (origin_in (crossings_of (Crossed (crossing.In m) ∷ ms))) ms
+  bare = all_bare (all_ours hosts) (origin_in (crossings_of (Crossed (crossing.In m) ∷ ms))) ms sources.1 c.story.1 c.run.2 lower_in.1 (served_in hosts ms lower_in.2)
 
-  free : TakesFreeAt (Crossed (crossing.In m)) ms
-  free = takes (origin_in (crossings_of (Crossed (crossing.In m) ∷ ms))) hosts programs_ranged (Crossed (crossing.In m)) ms c.story c.run (programs_ranged ms (served_in hosts ms lower_in.2)) sources.0 tied
+  free : TakesFreeAt (all_ours hosts) (Crossed (crossing.In m)) ms
+  free = takes (all_ours hosts) (origin_in (crossings_of (Crossed (crossing.In m) ∷ ms))) (Crossed (crossing.In m)) ms c.story c.run (programs_ranged (all_ours hosts) ms (served_in hosts ms lower_in.2)) sources.0 tied
 
   fit_text : (m.flow.link.0 == 0) ≡ true → is_ready (pair_with m.flow.source (program m.flow.destination ms).peers).phase ≡ true → AreJoint (orders_of m.text)
       → AllFit (marks_in (places ms) foreign socket (orders_of m.text)) (law_end m.flow.destination m.flow.source socket foreign ms)
@@ -121,9 +122,9 @@ module _ (hosts : List Host) (m : HostMessage) (ms : List Moment) (l : Lawful ho
         ∙ all_heard_early it (places ms) (orders_of m.text) (course_in it ms) plain;
     once = in_once hosts m ms l zero foreign socket (places ms);
     ends = in_ends (all_taken (marks_in (places ms) foreign socket (orders_of m.text)) (law_end m.flow.destination m.flow.source socket foreign ms))
-        (message_hears itself socket foreign (program m.flow.destination ms) m (places ms) (law_end m.flow.destination m.flow.source socket foreign ms) mine zero ready joint (free ready zero) (fit_text zero ready joint) has_in);
+        (message_hears itself socket foreign (program m.flow.destination ms) m (places ms) (law_end m.flow.destination m.flow.source socket foreign ms) mine zero ready joint (free (refl, refl) ready zero) (fit_text zero ready joint) has_in);
     fit = fit_text zero ready joint;
-    opens = message_tells itself socket foreign (program m.flow.destination ms) m (places ms) (law_end m.flow.destination m.flow.source socket foreign ms) [] [] mine zero ready joint (free ready zero) (fit_text zero ready joint) has_in tt;
+    opens = message_tells itself socket foreign (program m.flow.destination ms) m (places ms) (law_end m.flow.destination m.flow.source socket foreign ms) [] [] mine zero ready joint (free (refl, refl) ready zero) (fit_text zero ready joint) has_in tt;
     unreset = λ e t. kept_resets (Unit {0}) it (notices_by (Crossed (crossing.In m)) ms) (kept_text (Unit {0}) (λ x. false) test_any zero joint (spare_any it m.flow.source (places ms) (orders_of m.text)) (off_any it hosts ms lower_in)) t;
     unsent = λ u e t. kept_ends it (notices_by (Crossed (crossing.In m)) ms) (kept_text ⊥ (λ x. is_sent x.closing) test_sent zero joint (spare_sent it m.flow.source (places ms) (orders_of m.text)) (off_sent it hosts ms lower_in u)) t;
     unheard = λ u none e t. kept_ends it (notices_by (Crossed (crossing.In m)) ms) (kept_text ⊥ (λ x. x.partner_closed) test_taken zero joint (spare_taken it m.flow.source (places ms) (orders_of m.text) none) (off_taken it hosts ms lower_in u)) t;
@@ -167,7 +168,7 @@ module _ (hosts : List Host) (m : HostMessage) (ms : List Moment) (l : Lawful ho
   }) where
     told : notices_by (Crossed (crossing.In m)) ms ≡ reply_notices m.flow.source (pair_with m.flow.source (program m.flow.destination ms).peers).phase
     told = notes_by true zero ∙ ap (λ (os : List Order). (orders_taken m.flow.source (places ms) os (turn_of (program m.flow.destination ms) m.flow.source)).notices) orders
-  sort_kind (AText is) true on = text_kind on (subst (λ (t : Message). IsApart m.flow.link.0 m.text t) is c.story.0 on) (is_ready (pair_with m.flow.source (program m.flow.destination ms).peers).phase) refl
+  sort_kind (AText is) true on = text_kind on (subst (λ (t : Message). IsApart m.flow.link.0 m.text t) is (c.story.0 (refl, refl)) on) (is_ready (pair_with m.flow.source (program m.flow.destination ms).peers).phase) refl
 
   pub in_here : Kind it (Crossed (crossing.In m)) ms
   in_here = sort_kind (sort_of m.flow.link.0 m.text) (m.flow.link.0 == 0) refl

@@ -1,5 +1,6 @@
 -- What goes out next to a host with which a contact was asked for is an RST.
 use Rattle.world_keeps_streams.proofs.Common.{◌≡◌, ℕ, suc, ◌<◌, ◌≤◌, ◌==◌, ◌&&◌, ◌||◌, not, Bool, true, false, if◌then◌else◌, List, [], ◌∷◌, ◌++◌, length, Some, refl, ap, sym, subst, ◌∙◌, arith, list_any, Seen, Host, same_host, Answer, Crossing, HostMessage, same_host-true, Legal, orders_of, PairState, Parcel, what_goes, both, not_is, MayGo, Phase, Message, Begin, Hear, Send, Take, Other, when, Pair, pair, pair_moved, pair_with, Asked, Crossed, IsNext, Moment, events_of, places, program, contacts_of, crossings_of, message_on, story_agrees, Called, is_contact, IsLawful, WorldState, book_run}
+use Rattle.reset_law.specs.Network.{all_ours}
 use Rattle.std.proofs.lemmas.List.{append-nil}
 use Rattle.interface.specs.declared.crossing.Answer.TheVariants as answer
 use Rattle.interface.specs.declared.crossing.Crossing.TheVariants as crossing
@@ -151,7 +152,7 @@ module _ (hosts : List Host) (h p : Host) where
   wants (Asked g (request.Contact q) ∷ ms) l e =
       by (same_host h g && same_host p q) refl e (wants ms (below hosts (Asked g (request.Contact q)) ms l)) where
         up : is_up hosts g (events_of ms) ≡ true
-        up = (coupled_in hosts (Asked g (request.Contact q) ∷ ms) l).run.0
+        up = (coupled_in hosts (Asked g (request.Contact q) ∷ ms) l).run.1 refl
 
         by : (v : Bool) → (same_host h g && same_host p q) ≡ v → (v || calling h p ms) ≡ true
             → (calling h p ms ≡ true → Wants ms) → Wants (Asked g (request.Contact q) ∷ ms)
@@ -197,14 +198,14 @@ module _ (hosts : List Host) where
     lower = below hosts (Crossed (crossing.Out m)) ms l
 
     n : IsNext (program m.flow.source ms) m
-    n = (coupled_in hosts (Crossed (crossing.Out m) ∷ ms) l).story.0
+    n = (coupled_in hosts (Crossed (crossing.Out m) ∷ ms) l).story.0 refl
 
     wanted : n.peer.pair.phase ≡ phase.Want
     wanted =
         ap (λ (q : PairState). q.phase) (sym (pair_is hosts ms lower m.flow.source m n))
         ∙ ap (λ (x : Host). (pair_with x (program m.flow.source ms).peers).phase)
         (ap (λ (y : HostMessage). y.flow.destination) (sym n.message))
-        ∙ sym (story_agrees ms m.flow.source m.flow.destination (coupled_in hosts ms lower).story).phase
+        ∙ sym (story_agrees (all_ours hosts) ms m.flow.source m.flow.destination (refl, refl) (coupled_in hosts ms lower).story).phase
         ∙ (wants hosts m.flow.source m.flow.destination ms lower t).0
 
     go : (x : Parcel) → n.parcel ≡ x → MayGo n.peer.pair x

@@ -26,7 +26,7 @@ module _ (hosts : List Host) (x : Life) where
         (course_in (key_of x) ms) else course_in (key_of x) ms)) e
 
     own : same_host x.host m.flow.source ≡ true → IsNext (program x.host ms) m
-    own e = subst (λ (h : Host). IsNext (program h ms) m) (sym (same_host-true x.host m.flow.source e)) (coupled_in hosts (Crossed (crossing.Out m) ∷ ms) l).story.0
+    own e = subst (λ (h : Host). IsNext (program h ms) m) (sym (same_host-true x.host m.flow.source e)) ((coupled_in hosts (Crossed (crossing.Out m) ∷ ms) l).story.0 refl)
 
     by : (v w : Bool) → same_host x.host m.flow.source ≡ v → same_host x.peer m.flow.destination ≡ w → Kind (key_of x) (Crossed (crossing.Out m)) ms
     by true true e f = out_here (key_of x) hosts m ms l e f
@@ -38,7 +38,7 @@ module _ (hosts : List Host) (x : Life) where
         (ap (λ (v : Bool). end_in (at x.socket x.foreign (pair_with x.peer (if v then (offered (program x.host ms) (places ms)).0 else program x.host ms).peers).entries)) e
         ∙ ap (λ (q : PairState). end_in (at x.socket x.foreign q.entries)) (offer_leaves (program x.host ms) (places ms) (own e).peer (own e).parcel x.peer (own e).next (ap (λ (y : HostMessage). same_host x.peer y.flow.destination) (sym (own e).message) ∙ f))) (λ d. d) where
           next : IsNext (program m.flow.source ms) m
-          next = (coupled_in hosts (Crossed (crossing.Out m) ∷ ms) l).story.0
+          next = (coupled_in hosts (Crossed (crossing.Out m) ∷ ms) l).story.0 refl
     by false w e f =
         away (key_of x) (Crossed (crossing.Out m)) ms (off_host x.host m.flow.source e)
         (same_pace true (first_off (same_host x.host m.flow.source) (same_host x.peer m.flow.destination)

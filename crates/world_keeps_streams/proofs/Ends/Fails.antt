@@ -1,5 +1,6 @@
 -- What an answer, a stop, a start or a request of its user is for a life.
 use Rattle.world_keeps_streams.proofs.Common.{◌≡◌, inl, inr, ℕ, ◌==◌, ◌&&◌, ◌||◌, not, Bool, true, false, if◌then◌else◌, List, [], ◌∷◌, ◌++◌, Some, None, refl, ap, sym, subst, ◌∙◌, Host, same_host, Flow, Answer, same_host-refl, same_host-true, is_busy, TurnState, answered_turn, failed_by, freed, is_gone, settled_turn, Notice, failed_phase, is_ready, rfnm_phase, Phase, End, HasEnd, at, Hear, when, pair, pair_moved, after_turn, turn_of, NcpState, opening_state, pair_with, refusal, served, Request, Agrees, Asked, Crossed, Moment, events_of, places, program, new_life, notices_by, story_agrees, Course, Dropped, Stopped, cut, ended_by, fails}
+use Rattle.reset_law.specs.Network.{all_ours}
 use Rattle.interface.specs.declared.crossing.Answer.TheVariants as answer
 use Rattle.interface.specs.declared.crossing.Crossing.TheVariants as crossing
 use Rattle.interface.specs.declared.crossing.Inbound.TheVariants as inbound
@@ -54,13 +55,13 @@ module _ (hosts : List Host) (kind : Answer) (f : Flow) (ms : List Moment) (l : 
   phase_is : (pair_moved (Some (Hear f.link.0 kind)) (pair f.source f.destination (events_of ms))).phase ≡ (pair_with f.destination (accepted (program f.source ms) (inbound.Answer kind f) (places ms)).0.peers).phase
   phase_is =
       ap (λ (v : Bool). (pair_moved (when v (Hear f.link.0 kind)) (pair f.source f.destination (events_of ms))).phase) (sym both_refl)
-      ∙ (story_agrees (Crossed (crossing.Answer kind f) ∷ ms) f.source f.destination (coupled_in hosts (Crossed (crossing.Answer kind f) ∷ ms) l).story).phase
+      ∙ (story_agrees (all_ours hosts) (Crossed (crossing.Answer kind f) ∷ ms) f.source f.destination (refl, refl) (coupled_in hosts (Crossed (crossing.Answer kind f) ∷ ms) l).story).phase
       ∙ ap (λ (v : Bool). (pair_with f.destination (if v then (accepted (program f.source ms) (inbound.Answer kind f) (places ms)).0 else program f.source ms).peers).phase) (same_host-refl f.source) where
         both_refl : (same_host f.source f.source && same_host f.destination f.destination) ≡ true
         both_refl = let a : same_host f.source f.source ≡ true = same_host-refl f.source in let b : same_host f.destination f.destination ≡ true = same_host-refl f.destination in rw (a, b) refl
 
   was : Agrees (pair_with f.destination (program f.source ms).peers) (pair f.source f.destination (events_of ms))
-  was = story_agrees ms f.source f.destination (coupled_in hosts ms lower_told).story
+  was = story_agrees (all_ours hosts) ms f.source f.destination (refl, refl) (coupled_in hosts ms lower_told).story
 
 -- notices of an answer that leaves the pair ready: none
 rfnm_notices : (s : NcpState) (f : Flow) (stamp : ℕ) → (accepted s (inbound.Answer answer.Rfnm f) stamp).1 ≡ []

@@ -303,7 +303,7 @@ module _ (k : Life) where
       lower = below hosts (Crossed (crossing.Out m)) ms l
 
       n : IsNext (program k.host ms) m
-      n = subst (λ (h : Host). IsNext (program h ms) m) (sym (same_host-true k.host m.flow.source from)) (coupled_in hosts (Crossed (crossing.Out m) ∷ ms) l).story.0
+      n = subst (λ (h : Host). IsNext (program h ms) m) (sym (same_host-true k.host m.flow.source from)) ((coupled_in hosts (Crossed (crossing.Out m) ∷ ms) l).story.0 refl)
 
       there : n.peer.host ≡ k.peer
       there = sym (same_host-true k.peer m.flow.destination to ∙ ap (λ (x : HostMessage). x.flow.destination) n.message)

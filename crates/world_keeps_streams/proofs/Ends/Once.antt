@@ -66,7 +66,7 @@ module _ (hosts : List Host) (m : HostMessage) (ms : List Moment) (l : Lawful ho
   lower = below hosts (Crossed (crossing.Out m)) ms l
 
   n : IsNext (program m.flow.source ms) m
-  n = (coupled_in hosts (Crossed (crossing.Out m) ∷ ms) l).story.0
+  n = (coupled_in hosts (Crossed (crossing.Out m) ∷ ms) l).story.0 refl
 
   several : (count : ℕ) → n.parcel ≡ parcel.Commands count → OnceIn (map Legal (take count n.peer.pair.queue))
   several count is own foreign place =

@@ -1,5 +1,6 @@
 -- A life that begins: no user of its host has closed its end before.
 use Rattle.world_keeps_streams.proofs.Common.{◌≡◌, ◌⊎◌, inl, inr, ℕ, ◌==◌, ◌&&◌, ◌||◌, not, Bool, true, false, List, [], ◌∷◌, filter, length, Option, Some, None, is_some, refl, ap, sym, subst, ◌∙◌, eq-eqb, list_any, Host, same_host, or_false, same_host-true, has_cls, is_answered, is_at, is_busy, is_called_off, is_due, is_ending, is_link, is_mine_on, is_receiving, sends_on, Closing, Entry, has_opened, name_now, numbered, sender_now, marks, pair_with, Moment, program, mine_on, held, own_calls, story_agrees}
+use Rattle.reset_law.specs.Network.{all_ours}
 use Rattle.host_keeps_streams.specs.Ends.{AreSender}
 use Rattle.host_pairs.specs.declared.entry.Closing.TheVariants as closing
 use Rattle.ncp_control.specs.declared.phase.Phase.TheVariants as phase
@@ -151,8 +152,7 @@ module _ (hosts : List Host) (ms : List Moment) (l : Lawful hosts ms) (x : Life)
       away : (k : ℕ) → e.link ≡ Some k → (k == 0) ≡ false
       away k is =
           ap on_control (sym is) ∙ any_off (λ f. on_control f.link) (pair_with x.peer
-          (program x.host ms).peers).entries e (story_agrees ms x.host x.peer
-          (coupled_in hosts ms l).story).linked there
+          (program x.host ms).peers).entries e (story_agrees (all_ours hosts) ms x.host x.peer (refl, refl) (coupled_in hosts ms l).story).linked there
 
       answered : is_receiving e ≡ false → (o : Option ℕ) → e.link ≡ o → is_answered
           (pair_with x.peer (program x.host ms).peers).busy o ≡ true

@@ -1,5 +1,6 @@
 -- Whether a life's host owes its peer an RRP, by what crosses and by its program.
 use Rattle.world_keeps_streams.proofs.Common.{◌≡◌, ℕ, ◌==◌, ◌&&◌, not, Bool, true, false, if◌then◌else◌, List, [], ◌∷◌, map, take, Some, refl, ap, sym, subst, ◌∙◌, eq-eqb, Host, same_host, Answer, HostMessage, same_host-true, MayGo, Legal, Order, Wrong, orders_of, PairState, Parcel, link_for, next_of, text_for, Entry, IsReadBack, what_goes, Command, offer_read, eqb-sym, Begin, Hear, Message, Other, Send, Take, are, when, Pair, pair, pair_moved, pair_with, next_is, next_pair, Agrees, AllPlain, ArePlain, IsApart, control_message, is_rrp, is_rst, message_on, Asked, Crossed, IsNext, Moment, events_of, places, program, data_away, plain_take, story_agrees, Course, Dropped, Stopped, cut, each, ended_by, fails, heard, own_asked, own_closed, partner_asked, partner_closed, said, AText, AnRrp, AnRst, Sort, programs_ranged, served_in, sort_of}
+use Rattle.reset_law.specs.Network.{all_ours}
 use Rattle.interface.specs.declared.crossing.Answer.TheVariants as answer
 use Rattle.interface.specs.declared.crossing.Crossing.TheVariants as crossing
 use Rattle.host_pairs.specs.Parcels as parcel
@@ -29,7 +30,7 @@ module _ (hosts : List Host) (ms : List Moment) (l : Lawful hosts ms) (h : Host)
   pair_is = next_pair (program h ms).peers n.peer n.parcel n.order n.next
 
   agrees : Agrees (pair_with n.peer.host (program h ms).peers) (pair h n.peer.host (events_of ms))
-  agrees = story_agrees ms h n.peer.host (coupled_in hosts ms l).story
+  agrees = story_agrees (all_ours hosts) ms h n.peer.host (refl, refl) (coupled_in hosts ms l).story
 
   pub queue_plain : ArePlain n.peer.pair.queue
   queue_plain = subst (λ (q : PairState). ArePlain q.queue) pair_is agrees.plain
@@ -40,7 +41,7 @@ module _ (hosts : List Host) (ms : List Moment) (l : Lawful hosts ms) (h : Host)
   pub outs : Outs n.peer.pair n.parcel m
   outs = by n.parcel refl where
     back : IsReadBack n.peer.pair n.parcel
-    back = offer_read (program h ms) n.peer n.parcel (programs_ranged ms (served_in hosts ms l.2) h) n.next
+    back = offer_read (program h ms) n.peer n.parcel (programs_ranged (all_ours hosts) ms (served_in hosts ms l.2) h refl) n.next
 
     link_is : (p : Parcel) → n.parcel ≡ p → m.flow.link.0 ≡ link_for p
     link_is p e = ap (λ (x : HostMessage). x.flow.link.0) n.message ∙ ap link_for e
@@ -123,7 +124,7 @@ module _ (hosts : List Host) (x : Life) where
       lower = below hosts (Crossed (crossing.Out m)) ms l
 
       n : IsNext (program x.host ms) m
-      n = subst (λ (h : Host). IsNext (program h ms) m) (sym (same_host-true x.host m.flow.source e)) (coupled_in hosts (Crossed (crossing.Out m) ∷ ms) l).story.0
+      n = subst (λ (h : Host). IsNext (program h ms) m) (sym (same_host-true x.host m.flow.source e)) ((coupled_in hosts (Crossed (crossing.Out m) ∷ ms) l).story.0 refl)
 
       zero_is : m.flow.link.0 ≡ 0 → (0 == m.flow.link.0) ≡ true
       zero_is z = eq-eqb 0 m.flow.link.0 (sym z)
@@ -163,7 +164,7 @@ module _ (hosts : List Host) (x : Life) where
         ∙ ap (λ (t : Message). (took t (pair x.host x.peer (events_of ms))).owed) (sym is)
     on (AText is) = text (m.flow.link.0 == 0) refl ∙ old ∙ ap (λ (t : Message). (took t (pair x.host x.peer (events_of ms))).owed) (sym is) where
       plain : (m.flow.link.0 == 0) ≡ true → AllPlain (orders_of m.text)
-      plain = subst (λ (t : Message). IsApart m.flow.link.0 m.text t) is (coupled_in hosts (Crossed (crossing.In m) ∷ ms) l).story.0
+      plain = subst (λ (t : Message). IsApart m.flow.link.0 m.text t) is ((coupled_in hosts (Crossed (crossing.In m) ∷ ms) l).story.0 (refl, refl))
 
       text : (v : Bool) → (m.flow.link.0 == 0) ≡ v → (if 0 == m.flow.link.0 then each (heard x (places ms)) (orders_of m.text) (course_in x ms) else course_in x ms).owes ≡ (course_in x ms).owes
       text true zero =
@@ -210,4 +211,4 @@ module _ (hosts : List Host) (x : Life) where
 
   -- so it is in the program
   pub owes_is : (ms : List Moment) → Lawful hosts ms → (course_in x ms).owes ≡ (pair_with x.peer (program x.host ms).peers).owed
-  owes_is ms l = owes_law ms l ∙ (story_agrees ms x.host x.peer (coupled_in hosts ms l).story).owed
+  owes_is ms l = owes_law ms l ∙ (story_agrees (all_ours hosts) ms x.host x.peer (refl, refl) (coupled_in hosts ms l).story).owed

@@ -1,5 +1,6 @@
 -- The end of two sockets in a host's program as the law of pairing has it, where a partner's request is named by the place at which it was taken.
 use Rattle.world_keeps_streams.proofs.Common.{◌≡◌, ℕ, ◌==◌, Bool, true, false, not, ◌&&◌, ◌||◌, if◌then◌else◌, List, [], ◌∷◌, ◌++◌, filter, Option, Some, None, is_some, refl, ap, sym, subst, ◌∙◌, eq-eqb, eqb-true, Host, Legal, Order, Wrong, is_at, is_mine_on, is_sent, PairState, Entry, both, Command, End, mark_taken, Ask, Close, Mark, HasEnd, Stand, Standing, at, came_from, end_of, is_past, standing, AllFit, mark_of, marks, marks_in, live_end, plain, pair_with, Moment, program, crossings_of, Coupled, HasOpenEnd, origin_in, AllBare, AllTied, all_bare, all_tied, are_origins, served_in}
+use Rattle.reset_law.specs.Network.{all_ours}
 use Rattle.ncp_control.specs.declared.command.Command.TheVariants as command
 use Rattle.pairing_law.specs.Ends.{nothing}
 use Rattle.promise.specs.declared.life.Life.{Life}
@@ -151,14 +152,14 @@ pub record IsGoing (x : Life) (e : End) : Type 0 where
 module _ (hosts : List Host) (ms : List Moment) (l : Lawful hosts ms) where
   pub has_now : (h p : Host) (own foreign : ℕ) → HasEnd itself own foreign (pair_with p (program h ms).peers) (law_end h p own foreign ms)
   has_now h p own foreign = has_in (origin_in (crossings_of ms) h p) own foreign (pair_with p (program h ms).peers) found.0 found.1 where
-    c : Coupled hosts ms
+    c : Coupled (all_ours hosts) ms
     c = coupled_in hosts ms l
 
-    tied : AllTied (origin_in (crossings_of ms)) ms
-    tied = all_tied hosts (origin_in (crossings_of ms)) ms (are_origins 0 (crossings_of ms) [] ms refl) c.story c.run (served_in hosts ms l.2)
+    tied : AllTied (all_ours hosts) (origin_in (crossings_of ms)) ms
+    tied = all_tied (all_ours hosts) (origin_in (crossings_of ms)) ms (are_origins 0 (crossings_of ms) [] ms refl) c.story c.run (served_in hosts ms l.2)
 
-    bare : AllBare (origin_in (crossings_of ms)) ms
-    bare = all_bare hosts (origin_in (crossings_of ms)) ms (are_origins 0 (crossings_of ms) [] ms refl) c.story c.run l.1 (served_in hosts ms l.2)
+    bare : AllBare (all_ours hosts) (origin_in (crossings_of ms)) ms
+    bare = all_bare (all_ours hosts) (origin_in (crossings_of ms)) ms (are_origins 0 (crossings_of ms) [] ms refl) c.story c.run l.1 (served_in hosts ms l.2)
 
     found : (x : End) × HasEnd (origin_in (crossings_of ms) h p) own foreign (pair_with p (program h ms).peers) x
     found = has_end hosts (origin_in (crossings_of ms)) ms tied bare h p own foreign

@@ -1,5 +1,6 @@
 -- The lives of a host that leaves its peer, or has left, end and do nothing else.
 use Rattle.world_keeps_streams.proofs.Common.{◌≡◌, ◌⊎◌, inl, inr, ℕ, ◌==◌, ◌&&◌, Bool, true, false, List, [], ◌∷◌, filter, Option, Some, None, refl, ap, sym, subst, ◌∙◌, eq-eqb, Host, same_host, HostMessage, same_host-true, is_receive_socket, is_send_socket, is_at, is_ready, Entry, both, HasEnd, at, end_of, is_past, standing, marks, End, takes_in_stay, Event, Idle, In, Message, Other, Out, Send, Take, are, when, MaySend, pair_moved, pair, ready_phase, stays_ready, pair_with, Request, life_ended, IsApart, message_on, Moment, Crossed, Asked, event_in, events_of, places, program, crossings_of, host_in, notices_by, Coupled, clash, origin_in, keeps, AText, AnRrp, AnRst, IsUnpaired, Sort, all_bare, are_origins, served_in, sort_of}
+use Rattle.reset_law.specs.Network.{all_ours}
 use Rattle.interface.specs.declared.crossing.Crossing.TheVariants as crossing
 use Rattle.pairing_law.specs.Ends.{nothing}
 use Rattle.reset_law.specs.Events.{Reply, Reset}
@@ -24,9 +25,9 @@ use Rattle.world_keeps_streams.proofs.Stays.Resets.{leaves_by}
 
 unpaired_none : (hosts : List Host) (ms : List Moment) → Lawful hosts ms → (h p : Host) (e : Entry) (t : ℕ) → Among e (pair_with p (program h ms).peers).entries → IsUnpaired e.own e.foreign → e.partner ≡ Some t → ⊥
 unpaired_none hosts ms l h p e t there u partner =
-    let c : Coupled hosts ms = coupled_in hosts ms l in
+    let c : Coupled (all_ours hosts) ms = coupled_in hosts ms l in
     let bare : HasEnd (origin_in (crossings_of ms) h p) e.own e.foreign (pair_with p (program h ms).peers) nothing
-    = ((all_bare hosts (origin_in (crossings_of ms)) ms (are_origins 0 (crossings_of ms) [] ms refl) c.story c.run l.1 (served_in hosts ms l.2)).bare h p e.own e.foreign u).0 in
+    = ((all_bare (all_ours hosts) (origin_in (crossings_of ms)) ms (are_origins 0 (crossings_of ms) [] ms refl) c.story c.run l.1 (served_in hosts ms l.2)).bare h p (refl, refl) e.own e.foreign u).0 in
     let own : (e.own == e.own) ≡ true = eq-eqb e.own e.own refl in
     let foreign : (e.foreign == e.foreign) ≡ true = eq-eqb e.foreign e.foreign refl in
     let here : is_at e.own e.foreign e ≡ true = (rw (own, foreign) refl) in
@@ -63,8 +64,8 @@ module _ (h p : Host) (events : List Event) (ready : stay.ready h p events ≡ t
     by false = ready
 
   -- its next RST waits for a contact
-  pub keeps_out : (hosts : List Host) (y : Host) (l : ℕ) (m : Message) → IsRun hosts (Out h y l m ∷ events) → keeps h p (Out h y l m) events ≡ true
-  keeps_out hosts y l m run = still (Out h y l m) (by (are h p h y) refl m run.1) refl where
+  pub keeps_out : (hosts : List Host) (y : Host) (l : ℕ) (m : Message) → IsRun (all_ours hosts) (Out h y l m ∷ events) → keeps h p (Out h y l m) events ≡ true
+  keeps_out hosts y l m run = still (Out h y l m) (by (are h p h y) refl m (run.1 (refl, refl))) refl where
     by : (v : Bool) → are h p h y ≡ v → (n : Message) → MaySend (pair h y events) l n → is_ready (pair_moved (when v (Send l n)) (pair h p events)).phase ≡ true
     by false e n may = ready
     by true e Reply may = ready
@@ -83,13 +84,13 @@ module _ (hosts : List Host) (p : Host) where
   out_here : (calm : Bool) (m : HostMessage) (ms : List Moment) → Lawful hosts (Crossed (crossing.Out m) ∷ ms) → stay.stays m.flow.source p (events_of (Crossed (crossing.Out m) ∷ ms)) ≡ false → stay.stays m.flow.source p (events_of ms) ≡ calm
       → IsFine calm (Crossed (crossing.Out m)) ms
   out_here true m ms l left before =
-      let c : Coupled hosts (Crossed (crossing.Out m) ∷ ms) = coupled_in hosts (Crossed (crossing.Out m) ∷ ms) l in
+      let c : Coupled (all_ours hosts) (Crossed (crossing.Out m) ∷ ms) = coupled_in hosts (Crossed (crossing.Out m) ∷ ms) l in
       clash _ (keeps m.flow.source p (event_in (Crossed (crossing.Out m))) (events_of ms))
       (keeps_out m.flow.source p (events_of ms) (stays_ready (events_of ms) m.flow.source p before) hosts m.flow.destination m.flow.link.0 (message_on m.flow.link.0 m.text) c.run)
       (leaves_by m.flow.source p (event_in (Crossed (crossing.Out m))) (events_of ms) before left)
   out_here false m ms l left before =
       let old : Lawful hosts ms = below hosts (Crossed (crossing.Out m)) ms l in
-      (tt, offer_fine false p (program m.flow.source ms) (places ms) refl ((coupled_in hosts ms old).order m.flow.source) (unasked hosts ms old m.flow.source p before))
+      (tt, offer_fine false p (program m.flow.source ms) (places ms) refl ((coupled_in hosts ms old).order m.flow.source refl) (unasked hosts ms old m.flow.source p before))
 
   text_here : (calm : Bool) (m : HostMessage) (ms : List Moment) → Lawful hosts (Crossed (crossing.In m) ∷ ms) → stay.stays m.flow.destination p (events_of (Crossed (crossing.In m) ∷ ms)) ≡ false → stay.stays m.flow.destination p (events_of ms) ≡ calm
       → message_on m.flow.link.0 m.text ≡ Other m.text → IsFine calm (Crossed (crossing.In m)) ms
@@ -100,18 +101,18 @@ module _ (hosts : List Host) (p : Host) where
   text_here false m ms l left before is = (tt, by (same_host m.flow.source p) refl (is_ready (pair_with m.flow.source (program m.flow.destination ms).peers).phase) refl) where
     in_stay : same_host m.flow.source p ≡ true → is_ready (pair_with m.flow.source (program m.flow.destination ms).peers).phase ≡ true → ⊥
     in_stay e r =
-        let c : Coupled hosts (Crossed (crossing.In m) ∷ ms) = coupled_in hosts (Crossed (crossing.In m) ∷ ms) l in
-        let run : IsRun hosts (In m.flow.source m.flow.destination m.flow.link.0 (Other m.text) ∷ events_of ms) = subst (λ (n : Message). IsRun hosts (In m.flow.source m.flow.destination m.flow.link.0 n ∷ events_of ms)) is c.run in
-        let ready : stay.ready m.flow.destination m.flow.source (events_of ms) ≡ true = ready_both m.flow.destination m.flow.source ms c.story.1 ∙ r in
+        let c : Coupled (all_ours hosts) (Crossed (crossing.In m) ∷ ms) = coupled_in hosts (Crossed (crossing.In m) ∷ ms) l in
+        let run : IsRun (all_ours hosts) (In m.flow.source m.flow.destination m.flow.link.0 (Other m.text) ∷ events_of ms) = subst (λ (n : Message). IsRun (all_ours hosts) (In m.flow.source m.flow.destination m.flow.link.0 n ∷ events_of ms)) is c.run in
+        let ready : stay.ready m.flow.destination m.flow.source (events_of ms) ≡ true = ready_both hosts m.flow.destination m.flow.source ms c.story.1 ∙ r in
         let stays : stay.stays m.flow.destination m.flow.source (events_of ms) ≡ true
-        = takes_in_stay hosts (events_of ms) m.flow.source m.flow.destination m.flow.link.0 m.text run (ready_phase (pair m.flow.destination m.flow.source (events_of ms)).phase ready) in
+        = takes_in_stay (all_ours hosts) (events_of ms) m.flow.source m.flow.destination m.flow.link.0 m.text (refl, refl) run (ready_phase (pair m.flow.destination m.flow.source (events_of ms)).phase ready) in
         clash ⊥ (stay.stays m.flow.destination p (events_of ms)) (subst (λ (g : Host). stay.stays m.flow.destination g (events_of ms) ≡ true) (same_host-true m.flow.source p e) stays) before
 
     by : (v : Bool) → same_host m.flow.source p ≡ v → (r : Bool) → is_ready (pair_with m.flow.source (program m.flow.destination ms).peers).phase ≡ r → AllFine false p (notices_by (Crossed (crossing.In m)) ms)
     by false e r f = away_message false p (program m.flow.destination ms) (places ms) refl m e
     by true e true f = absurd (in_stay e f)
     by true e false f =
-        let apart : IsApart m.flow.link.0 m.text (message_on m.flow.link.0 m.text) = (coupled_in hosts (Crossed (crossing.In m) ∷ ms) l).story.0 in
+        let apart : IsApart m.flow.link.0 m.text (message_on m.flow.link.0 m.text) = (coupled_in hosts (Crossed (crossing.In m) ∷ ms) l).story.0 (refl, refl) in
         idle_fine false p (program m.flow.destination ms) (places ms) m (subst (λ (n : Message). IsApart m.flow.link.0 m.text n) is apart) f
 
   in_here : (calm : Bool) (m : HostMessage) (ms : List Moment) → Lawful hosts (Crossed (crossing.In m) ∷ ms) → stay.stays m.flow.destination p (events_of (Crossed (crossing.In m) ∷ ms)) ≡ false → stay.stays m.flow.destination p (events_of ms) ≡ calm

@@ -1,5 +1,6 @@
 -- What a program reports by a moment with which its host leaves a peer: of no end with that peer that it is over.
 use Rattle.world_keeps_streams.proofs.Common.{◌≡◌, inl, inr, ℕ, ◌==◌, ◌||◌, not, Bool, true, false, if◌then◌else◌, List, [], ◌∷◌, ◌++◌, refl, sym, subst, Host, same_host, Flow, Answer, HostMessage, Legal, orders_of, is_busy, is_ready, Phase, TurnState, answered_turn, failed_by, freed, is_gone, message_taken, reply_notices, reset_notices, settled_turn, Notice, In, Message, Other, stays_ready, after_turn, turn_of, NcpState, pair_with, Request, message_on, Asked, Crossed, Moment, event_in, events_of, places, program, host_in, notices_by, Coupled, clash, keeps, AText, AnRrp, AnRst, Sort, sort_of}
+use Rattle.reset_law.specs.Network.{all_ours}
 use Rattle.interface.specs.declared.crossing.Answer.TheVariants as answer
 use Rattle.interface.specs.declared.crossing.Crossing.TheVariants as crossing
 use Rattle.interface.specs.declared.crossing.Inbound.TheVariants as inbound
@@ -97,7 +98,7 @@ module _ (hosts : List Host) (p : Host) where
   out_quiet : (m : HostMessage) (ms : List Moment) → Lawful hosts (Crossed (crossing.Out m) ∷ ms) → stay.stays m.flow.source p (events_of (Crossed (crossing.Out m) ∷ ms)) ≡ false → stay.stays m.flow.source p (events_of ms) ≡ true
       → AreQuiet (notices_by (Crossed (crossing.Out m)) ms)
   out_quiet m ms l left before =
-      let c : Coupled hosts (Crossed (crossing.Out m) ∷ ms) = coupled_in hosts (Crossed (crossing.Out m) ∷ ms) l in
+      let c : Coupled (all_ours hosts) (Crossed (crossing.Out m) ∷ ms) = coupled_in hosts (Crossed (crossing.Out m) ∷ ms) l in
       clash _ (keeps m.flow.source p (event_in (Crossed (crossing.Out m))) (events_of ms))
       (keeps_out m.flow.source p (events_of ms) (stays_ready (events_of ms) m.flow.source p before) hosts m.flow.destination m.flow.link.0 (message_on m.flow.link.0 m.text) c.run)
       (leaves_by m.flow.source p (event_in (Crossed (crossing.Out m))) (events_of ms) before left)

@@ -1,5 +1,6 @@
 -- The lives of a host that doesn't stay with a peer have all ended: it has taken no request of the peer since it left.
 use Rattle.world_keeps_streams.proofs.Common.{◌≡◌, ◌⊎◌, inl, inr, ℕ, ◌==◌, Bool, false, List, [], ◌∷◌, filter, find, map, Option, Some, None, refl, ap, sym, subst, ◌∙◌, eq-eqb, Contains, eqb-true, Host, is_receive_socket, is_send_socket, entry_at, is_at, is_mine_on, Entry, both, Stand, Standing, at, end_of, is_past, standing, marks, End, Sockets, Who, Mark, stays_same, pair_with, Moment, events_of, program, crossings_of, Coupled, HasOpenEnd, mine_on, live, law_events, origin_in, Side_of, Tie, all_tied, are_origins, at_texts, foreign_of, life_paired, other, own_of, served_in}
+use Rattle.reset_law.specs.Network.{all_ours}
 use Rattle.std.proofs.Common.{true}
 use Rattle.pairing_law.specs.Links.{Receiver, Sender}
 use Rattle.reset_law.specs.Stays as stay
@@ -89,20 +90,20 @@ module _ (hosts : List Host) (ms : List Moment) (l : Lawful hosts ms) (h p : Hos
   pub no_partner : (own foreign : ℕ) → ((is_receive_socket own ≡ true) × (is_send_socket foreign ≡ true)) ⊎ ((is_send_socket own ≡ true) × (is_receive_socket foreign ≡ true)) → (e : Entry) (t : ℕ)
       → Among e (pair_with p (program h ms).peers).entries → e.own ≡ own → e.foreign ≡ foreign → e.partner ≡ Some t → ⊥
   no_partner own foreign (inl q) e t there f g partner =
-      let c : Coupled hosts ms = coupled_in hosts ms l in
+      let c : Coupled (all_ours hosts) ms = coupled_in hosts ms l in
       unpartnered (record { receive = own; send = foreign }) (q.0, q.1) Receiver
-      (((all_tied hosts (origin_in (crossings_of ms)) ms (are_origins 0 (crossings_of ms) [] ms refl) c.story c.run (served_in hosts ms l.2)).tied h p).receiver (record { receive = own; send = foreign }) (q.0, q.1)) e t there f g partner
+      (((all_tied (all_ours hosts) (origin_in (crossings_of ms)) ms (are_origins 0 (crossings_of ms) [] ms refl) c.story c.run (served_in hosts ms l.2)).tied h p (refl, refl)).receiver (record { receive = own; send = foreign }) (q.0, q.1)) e t there f g partner
   no_partner own foreign (inr q) e t there f g partner =
-      let c : Coupled hosts ms = coupled_in hosts ms l in
+      let c : Coupled (all_ours hosts) ms = coupled_in hosts ms l in
       unpartnered (record { receive = foreign; send = own }) (q.1, q.0) Sender
-      (((all_tied hosts (origin_in (crossings_of ms)) ms (are_origins 0 (crossings_of ms) [] ms refl) c.story c.run (served_in hosts ms l.2)).tied p h).sender (record { receive = foreign; send = own }) (q.1, q.0)) e t there f g partner
+      (((all_tied (all_ours hosts) (origin_in (crossings_of ms)) ms (are_origins 0 (crossings_of ms) [] ms refl) c.story c.run (served_in hosts ms l.2)).tied p h (refl, refl)).sender (record { receive = foreign; send = own }) (q.1, q.0)) e t there f g partner
 
   -- so each life of it with the peer has ended
   pub over_when_left : (x : Life) → IsOf x (lives_in ms) → x.host ≡ h → x.peer ≡ p → x.ended ≡ true
   over_when_left x i f g = by x.ended refl where
     goes : x.ended ≡ false → ⊥
     goes e =
-        let c : Coupled hosts ms = coupled_in hosts ms l in
+        let c : Coupled (all_ours hosts) ms = coupled_in hosts ms l in
         let there : Contains (lives_in ms) x = contains x (lives_in ms) i in
         let o : HasOpenEnd (program x.host ms) x = live hosts ms l.0 l.1 l.2 x there e in
         let in_mine : Among o.end (mine_on x.socket (pair_with x.peer (program x.host ms).peers).entries) = subst (λ (es : List Entry). Among o.end es) (sym o.one) (inl refl) in

@@ -1,5 +1,6 @@
 -- The lives of two hosts that stay, as a safe book asks for them.
 use Rattle.world_keeps_streams.proofs.Common.{◌≡◌, inl, inr, ℕ, zero, suc, ◌≤◌, ◌==◌, true, false, List, [], ◌∷◌, drop, refl, sym, subst, arith, Host, is_receive_socket, AreAllowed, gone_now, numbered, receiver_now, sender_now, Sockets, Who, Asks, Mark, Side, pair_with, Moment, events_of, program, crossings_of, Coupled, law_events, origin_in, are_origins, at_texts, even_odd, foreign_of, half, life_paired, other, own_of, receiver_half, sender_half, served_in, own_calls, numbered_by_peer}
+use Rattle.reset_law.specs.Network.{all_ours}
 use Rattle.world_keeps_pairing.specs.Lives.{ArePaired}
 use Rattle.pairing_law.specs.Links.{Receiver, Sender}
 use Rattle.reset_law.specs.Stays as stay
@@ -49,7 +50,7 @@ module _ (hosts : List Host) (ms : List Moment) (l : Lawful hosts ms) (h p : Hos
 
 life_pair : (hosts : List Host) (ms : List Moment) → Lawful hosts ms → (x : Life) → IsOf x (lives_in ms) → ArePaired x
 life_pair hosts ms l x i =
-    let c : Coupled hosts ms = coupled_in hosts ms l in
+    let c : Coupled (all_ours hosts) ms = coupled_in hosts ms l in
     life_paired hosts ms c.story c.run l.1 (served_in hosts ms l.2) x (contains x (lives_in ms) i)
 
 foreign_receives : (x : Life) → sends x ≡ true → ArePaired x → is_receive_socket x.foreign ≡ true

@@ -1,5 +1,6 @@
 -- The lives of a host that stays: those since it dropped its ends last are those since both met.
 use Rattle.world_keeps_streams.proofs.Common.{◌≡◌, inl, inr, ℕ, zero, suc, ◌≤◌, ◌&&◌, ◌||◌, not, Bool, if◌then◌else◌, List, [], ◌∷◌, ◌++◌, length, map, drop, refl, ap, sym, subst, ◌∙◌, arith, Host, both, Fresh, begins_fresh, Contact, Event, In, Other, pair, begins_either, contradicts, ready_phase, Moment, event_in, events_of, keeps}
+use Rattle.reset_law.specs.Network.{all_ours}
 use Rattle.std.proofs.Common.{true, false}
 use Rattle.reset_law.specs.Events.{Reply, Reset}
 use Rattle.reset_law.specs.Runs.{IsRun}
@@ -18,14 +19,14 @@ use Rattle.world_keeps_streams.proofs.Stays.Resets.{goes_on}
 -- ---- where both meet, each keeps its ends
 
 -- who takes an RST has a peer that waits for the RRP
-reset_alone : (hosts : List Host) (e : Event) (events : List Event) → IsRun hosts (e ∷ events) → (a b : Host) → stay.takes_reset a b e ≡ true → stay.ready b a (e ∷ events) ≡ true → ⊥
+reset_alone : (hosts : List Host) (e : Event) (events : List Event) → IsRun (all_ours hosts) (e ∷ events) → (a b : Host) → stay.takes_reset a b e ≡ true → stay.ready b a (e ∷ events) ≡ true → ⊥
 reset_alone hosts (Contact x y) events r a b takes ready = absurd (cc)
-reset_alone hosts (In x y l Reset) events r a b takes ready = reset_unready hosts events x y l r a b takes (ready_phase (pair b a (In x y l Reset ∷ events)).phase ready)
+reset_alone hosts (In x y l Reset) events r a b takes ready = reset_unready (all_ours hosts) events x y l r a b (refl, refl) takes (ready_phase (pair b a (In x y l Reset ∷ events)).phase ready)
 reset_alone hosts (In x y l Reply) events r a b takes ready = absurd (cc)
 reset_alone hosts (In x y l (Other text)) events r a b takes ready = absurd (cc)
 reset_alone hosts e events r a b takes ready = absurd (cc)
 
-begins_keeps : (hosts : List Host) (e : Event) (events : List Event) → IsRun hosts (e ∷ events) → (a b : Host) → stay.begins a b e events ≡ true → keeps a b e events ≡ true
+begins_keeps : (hosts : List Host) (e : Event) (events : List Event) → IsRun (all_ours hosts) (e ∷ events) → (a b : Host) → stay.begins a b e events ≡ true → keeps a b e events ≡ true
 begins_keeps hosts e events r a b begun = by (stay.takes_reset a b e) refl where
   now : (stay.ready a b (e ∷ events) ≡ true) × (stay.ready b a (e ∷ events) ≡ true)
   now = both (stay.ready a b (e ∷ events)) (stay.ready b a (e ∷ events)) (both (stay.joint a b (e ∷ events)) (not (stay.joint a b events)) begun).0
@@ -89,7 +90,7 @@ module _ (hosts : List Host) (h p : Host) (none : NoneBegin hosts h p) where
           (subst (λ (z : Life). IsOf z (map (grown y ms).change (drop (since h p ms) (lives_in ms)))) (sym is) (of_map (grown y ms).change v (drop (since h p ms) (lives_in ms)) old.1)))
 
       at : (t : Bool) → stay.begins h p (event_in y) (events_of ms) ≡ t → IsOf x (present_in h p (y ∷ ms))
-      at true new = let fresh : Fresh h p (event_in y) (events_of ms) = begins_fresh hosts (event_in y) (events_of ms) (coupled_in hosts (y ∷ ms) l).run h p new in absurd (contradicts (stay.stays h p (events_of ms)) old.0 fresh.left)
+      at true new = let fresh : Fresh h p (event_in y) (events_of ms) = begins_fresh (all_ours hosts) (event_in y) (events_of ms) (coupled_in hosts (y ∷ ms) l).run h p (refl, refl) new in absurd (contradicts (stay.stays h p (events_of ms)) old.0 fresh.left)
       at false still = subst (λ (n : ℕ). IsOf x (drop n (lives_in (y ∷ ms)))) (sym (since_on h p y ms still)) moved
 
     -- a new one

@@ -1,5 +1,6 @@
 -- The lives of a host with one peer are carried by its calls at a moment at which an answer comes back.
 use Rattle.world_keeps_streams.proofs.Common.{◌≡◌, ℕ, ◌==◌, Bool, true, false, not, ◌&&◌, ◌||◌, if◌then◌else◌, List, [], ◌∷◌, ◌++◌, is_some, refl, ap, sym, subst, ◌∙◌, Host, same_host, Flow, Answer, same_host-true, is_busy, PairState, TurnState, answered_turn, failed, failed_by, freed, is_gone, settled_turn, Notice, Phase, put, Answered, AreAllowed, IsTelling, ends_after, ends_now, pair, turn_of, NcpState, pair_with, all_told, crossed, HaveAddresses, Agrees, Crossed, IsStory, Moment, event_in, events_of, places, program, IsTimeline, crossings_of, coupled, program_own, story_agrees, keeps, mail_below, calls_by, own_calls, both}
+use Rattle.reset_law.specs.Network.{all_ours}
 use Rattle.interface.specs.Mailboxes as mail
 use Rattle.interface.specs.declared.crossing.Answer.TheVariants as answer
 use Rattle.interface.specs.declared.crossing.Crossing.TheVariants as crossing
@@ -53,7 +54,7 @@ module _ (number : ℕ → ℕ → ℕ → ℕ) (tells : IsTelling number) (host
     (allowed : (ms : List Moment) → mail.IsRun hosts (crossings_of ms) → IsTimeline hosts ms → (link : ℕ) → (link == 0) ≡ false → AreAllowed number b link (own_calls a b ms)) where
   module _ (kind : Answer) (f : Flow) (ms : List Moment) (run : mail.IsRun hosts (crossings_of (Crossed (crossing.Answer kind f) ∷ ms))) (time : IsTimeline hosts (Crossed (crossing.Answer kind f) ∷ ms))
       (on : keeps a b (event_in (Crossed (crossing.Answer kind f))) (events_of ms) ≡ true) (mine : same_host a f.source ≡ true) (theirs : same_host b f.destination ≡ true) where
-    story : IsStory (Crossed (crossing.Answer kind f) ∷ ms)
+    story : IsStory (all_ours hosts) (Crossed (crossing.Answer kind f) ∷ ms)
     story = (coupled hosts addresses (Crossed (crossing.Answer kind f) ∷ ms) run time).story
 
     below : mail.IsRun hosts (crossings_of ms)
@@ -71,9 +72,9 @@ module _ (number : ℕ → ℕ → ℕ → ℕ) (tells : IsTelling number) (host
     -- an answer is about a message that is outstanding
     outstanding : is_busy (pair_with b (program a ms).peers).busy f.link.0 ≡ true
     outstanding =
-        let agrees : Agrees (pair_with b (program a ms).peers) (pair a b (events_of ms)) = story_agrees ms a b story.1 in
+        let agrees : Agrees (pair_with b (program a ms).peers) (pair a b (events_of ms)) = story_agrees (all_ours hosts) ms a b (refl, refl) story.1 in
         sym (agrees.busy f.link.0) ∙ subst (λ (g : Host). is_some ((pair g b (events_of ms)).out f.link.0) ≡ true) (sym own_host)
-        (subst (λ (g : Host). is_some ((pair f.source g (events_of ms)).out f.link.0) ≡ true) (sym peer_host) story.0)
+        (subst (λ (g : Host). is_some ((pair f.source g (events_of ms)).out f.link.0) ≡ true) (sym peer_host) (story.0 (refl, refl)))
 
     abbrev Call : calls.Moment
     Call = called (Answered f.link.0) (pair_with b (program a ms).peers) (program a ms).listening
@@ -87,7 +88,7 @@ module _ (number : ℕ → ℕ → ℕ → ℕ) (tells : IsTelling number) (host
     -- the host keeps its ends, so it is ready after the answer
     ready_by : program_phases.is_ready (pair_with b (program a (Crossed (crossing.Answer kind f) ∷ ms)).peers).phase ≡ true
     ready_by =
-        sym (ready_both a b (Crossed (crossing.Answer kind f) ∷ ms) story)
+        sym (ready_both hosts a b (Crossed (crossing.Answer kind f) ∷ ms) story)
         ∙ (both (stay.ready a b (events_of (Crossed (crossing.Answer kind f) ∷ ms))) (not (stay.takes_reset a b (event_in (Crossed (crossing.Answer kind f))))) on).0
 
     ready_now : program_phases.is_ready (answered_turn f.destination kind f.link.0 (turn_of (program a ms) f.destination)).pair.phase ≡ true

@@ -117,7 +117,7 @@ module _ (number : ℕ → ℕ → ℕ → ℕ) (tells : IsTelling number) (host
           let away : same_host g y.peer ≡ false = ap (λ (p : Host). same_host g p) peer ∙ same_host-sym g b ∙ other in
           let empty : mine_on socket (pair_with g s.peers).entries ≡ [] =
           subst (λ (n : ℕ). mine_on n (pair_with g s.peers).entries ≡ []) (eqb-true y.socket socket socket_is) (subst (λ (p : Host). mine_on y.socket (pair_with g (program p ms).peers).entries ≡ []) host (h.others g away)) in
-          absurd (none_found (is_mine_on socket) (pair_with g s.peers).entries e (owner_found socket s.peers g e ((coupled hosts addresses ms run time.1).order a) f) empty) where
+          absurd (none_found (is_mine_on socket) (pair_with g s.peers).entries e (owner_found socket s.peers g e ((coupled hosts addresses ms run time.1).order a refl) f) empty) where
             goes : (v : Bool) → not v ≡ true → v ≡ false
             goes true t = absurd (cc)
             goes false t = refl
@@ -132,7 +132,7 @@ module _ (number : ℕ → ℕ → ℕ → ℕ) (tells : IsTelling number) (host
     grant_kept socket messages bits same g e f true t is =
         one (Grants socket messages bits e) tt is (same ∙ grant_same socket messages bits e own) where
           found : find (is_mine_on socket) (pair_with g s.peers).entries ≡ Some e
-          found = owner_found socket s.peers g e ((coupled hosts addresses ms run time.1).order a) f
+          found = owner_found socket s.peers g e ((coupled hosts addresses ms run time.1).order a refl) f
 
           own : e.own ≡ socket
           own = eqb-true e.own socket (both e.mine (e.own == socket) (found_among (is_mine_on socket) (pair_with g s.peers).entries e found).1).1

@@ -71,7 +71,7 @@ module _ (number : ℕ → ℕ → ℕ → ℕ) (tells : IsTelling number) (host
     own_is = ap (λ (g : Host). same_host g m.flow.destination) (program_own a ms) ∙ mine
 
     apart : IsApart m.flow.link.0 m.text (message_on m.flow.link.0 m.text)
-    apart = (coupled hosts addresses (Crossed (crossing.In m) ∷ ms) run time).story.0
+    apart = (coupled hosts addresses (Crossed (crossing.In m) ∷ ms) run time).story.0 (refl, refl)
 
     -- ---- the program and the book after it
 

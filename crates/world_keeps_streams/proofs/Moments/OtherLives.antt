@@ -201,17 +201,17 @@ module _ (a b : Host) where
       → AreAlike a b (kept_in ms).book.lives (all_lives (host_in x) (notices_by x ms) (kept_by x (kept_in ms)).book.lives)
   moment_alike hosts addresses (Crossed (crossing.Out m)) ms run time off =
       acts m.flow.source (λ h. (offered (program h ms) (places ms)).1) (kept_in ms).book.lives (λ h. (kept_in ms).book.lives)
-      (λ e. offered_alike a b (program a ms) (kept_in ms) (λ k. held a k hosts addresses ms run.1 time.1) ((coupled hosts addresses ms run.1 time.1).order a) (places ms) m
+      (λ e. offered_alike a b (program a ms) (kept_in ms) (λ k. held a k hosts addresses ms run.1 time.1) ((coupled hosts addresses ms run.1 time.1).order a refl) (places ms) m
       (subst (λ (g : Host). next_out (program g ms) ≡ Some m) (sym (same_host-true a m.flow.source e)) time.0) (second_off (same_host a m.flow.source) (same_host b m.flow.destination) off e))
       (λ f. alike_same a b (kept_in ms).book.lives)
   moment_alike hosts addresses (Crossed (crossing.In m)) ms run time off =
       acts m.flow.destination (λ h. (accepted (program h ms) (inbound.Message m) (places ms)).1) (kept_in ms).book.lives (λ h. (kept_in ms).book.lives)
-      (λ e. message_here a b (program a ms) (kept_in ms) (λ k. held a k hosts addresses ms run.1 time.1) ((coupled hosts addresses ms run.1 time.1).order a) m (places ms)
+      (λ e. message_here a b (program a ms) (kept_in ms) (λ k. held a k hosts addresses ms run.1 time.1) ((coupled hosts addresses ms run.1 time.1).order a refl) m (places ms)
       (second_off (same_host a m.flow.destination) (same_host b m.flow.source) off e))
       (λ f. alike_same a b (kept_in ms).book.lives)
   moment_alike hosts addresses (Crossed (crossing.Answer kind f)) ms run time off =
       acts f.source (λ h. (accepted (program h ms) (inbound.Answer kind f) (places ms)).1) (kept_in ms).book.lives (λ h. (kept_in ms).book.lives)
-      (λ e. answer_here a b (program a ms) (kept_in ms) (λ k. held a k hosts addresses ms run.1 time.1) ((coupled hosts addresses ms run.1 time.1).order a) kind f (places ms)
+      (λ e. answer_here a b (program a ms) (kept_in ms) (λ k. held a k hosts addresses ms run.1 time.1) ((coupled hosts addresses ms run.1 time.1).order a refl) kind f (places ms)
       (second_off (same_host a f.source) (same_host b f.destination) off e))
       (λ g. alike_same a b (kept_in ms).book.lives)
   moment_alike hosts addresses (Crossed (crossing.Down h)) ms run time off =
@@ -219,7 +219,7 @@ module _ (a b : Host) where
   moment_alike hosts addresses (Crossed (crossing.Up h)) ms run time off = alike_same a b (kept_in ms).book.lives
   moment_alike hosts addresses (Asked h r) ms run time off =
       acts h (λ g. served_notices (program g ms) r) (kept_in ms).book.lives (λ g. lives_asked g r (kept_in ms).book.lives)
-      (λ e. asked_alike a b (program a ms) (kept_in ms) (λ k. held a k hosts addresses ms run time.1) ((coupled hosts addresses ms run time.1).order a) r
+      (λ e. asked_alike a b (program a ms) (kept_in ms) (λ k. held a k hosts addresses ms run time.1) ((coupled hosts addresses ms run time.1).order a refl) r
       (subst (λ (g : Host). refusal (program g ms) r ≡ None) (sym (same_host-true a h e)) time.0.2) (off e))
       (λ f. asked_away h f r (kept_in ms).book.lives)
 

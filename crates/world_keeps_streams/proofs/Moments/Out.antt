@@ -1,5 +1,6 @@
 -- The lives of a host with one peer are carried by its calls at a moment at which a message goes out to the peer.
 use Rattle.world_keeps_streams.proofs.Common.{◌≡◌, ℕ, ◌==◌, true, false, ◌&&◌, List, [], ◌∷◌, ◌++◌, take, drop, Some, refl, ap, sym, subst, ◌∙◌, Host, same_host, HostMessage, same_host-true, Command, DeskState, desk_of, PairState, Parcel, next_of, parcel_gone, with_connections, Entry, Listener, Notice, pair_range, AreAllowed, IsHistory, IsTelling, Says, Sends, turn_of, NcpState, pair_with, next_in, Peer, next_is, next_pair, all_told, crossed, HaveAddresses, Crossed, IsNext, IsStory, Moment, event_in, events_of, places, program, IsTimeline, crossings_of, coupled, GoodTurn, Place, has_ends, held, origin_in, keeps, mail_below, offered_pair, programs_ranged, served_in, calls_by, commands_said, own_calls, parcel_calls, both}
+use Rattle.reset_law.specs.Network.{all_ours}
 use Rattle.interface.specs.Mailboxes as mail
 use Rattle.interface.specs.declared.crossing.Crossing.TheVariants as crossing
 use Rattle.host_pairs.specs.Parcels as parcel
@@ -50,7 +51,7 @@ module _ (number : ℕ → ℕ → ℕ → ℕ) (tells : IsTelling number) (host
 
   module _ (m : HostMessage) (ms : List Moment) (run : mail.IsRun hosts (crossings_of (Crossed (crossing.Out m) ∷ ms))) (time : IsTimeline hosts (Crossed (crossing.Out m) ∷ ms))
       (on : keeps a b (event_in (Crossed (crossing.Out m))) (events_of ms) ≡ true) (mine : same_host a m.flow.source ≡ true) (theirs : same_host b m.flow.destination ≡ true) where
-    story : IsStory (Crossed (crossing.Out m) ∷ ms)
+    story : IsStory (all_ours hosts) (Crossed (crossing.Out m) ∷ ms)
     story = (coupled hosts addresses (Crossed (crossing.Out m) ∷ ms) run time).story
 
     below : mail.IsRun hosts (crossings_of ms)
@@ -60,7 +61,7 @@ module _ (number : ℕ → ℕ → ℕ → ℕ) (tells : IsTelling number) (host
     own_host = same_host-true a m.flow.source mine
 
     n : IsNext (program a ms) m
-    n = subst (λ (g : Host). IsNext (program g ms) m) (sym own_host) story.0
+    n = subst (λ (g : Host). IsNext (program g ms) m) (sym own_host) (story.0 refl)
 
     to_peer : same_host b n.peer.host ≡ true
     to_peer = ap (λ (k : HostMessage). same_host b k.flow.destination) (sym n.message) ∙ theirs
@@ -118,7 +119,7 @@ module _ (number : ℕ → ℕ → ℕ → ℕ) (tells : IsTelling number) (host
         (subst (λ (ls : List Life). CarryIn a b number (Said count) (Gone (parcel.Commands count)).entries ls) (sym (ap (λ (ls : List Life). drop (since a b ms) ls) (told ∙ sym (told_lives a (Gone (parcel.Commands count)).notices (kept_in ms)))))
         (said_all number tells a b (kept_in ms) (since a b ms) (origin_in (crossings_of ms) a b) (places ms) (take count (pair_with b (program a ms).peers).queue) (drop count (pair_with b (program a ms).peers).queue)
         (pair_with b (program a ms).peers) (program a ms).listening [] (own_calls a b ms)
-        (some_commands count (pair_with b (program a ms).peers).queue (pair_range b (program a ms).peers (programs_ranged ms (served_in hosts ms time.1) a).pairs).commands)
+        (some_commands count (pair_with b (program a ms).peers).queue (pair_range b (program a ms).peers (programs_ranged (all_ours hosts) ms (served_in hosts ms time.1) a refl).pairs).commands)
         (waits (origin_in (crossings_of ms) a b) (pair_with b (program a ms).peers) count (has_ends hosts ms addresses below time.1 a b)) placed (since_within a b ms) history may c)))) where
           all : calls_by a b (Crossed (crossing.Out m)) ms ++ own_calls a b ms ≡ Said count
           all =

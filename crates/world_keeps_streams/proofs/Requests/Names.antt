@@ -1,5 +1,6 @@
 -- A life's partner's request stays the same while more crosses; and two lives of one connection match.
 use Rattle.world_keeps_streams.proofs.Common.{◌≡◌, ℕ, suc, true, false, List, [], ◌++◌, Option, Some, None, refl, ap, sym, subst, ◌∙◌, Contains, Host, Crossing, events_at, IsIn, run_at, Match, SafePartners, control_flow, last_out, own_request, partner_request, Moment, crossings_of, Coupled, law_events, origin_in, place_or, life_of, openings, steps, all_tied, are_origins, safe_partners, served_in}
+use Rattle.reset_law.specs.Network.{all_ours}
 use Rattle.std.proofs.Common.{IsSome}
 use Rattle.pairing_law.specs.Partners.{OwnOnce}
 use Rattle.pairing_law.specs.Sides.{Life}
@@ -8,7 +9,8 @@ use Rattle.promise.specs.declared.life.Life as book
 use Rattle.promise.specs.Safe.{before, named, receives}
 use Rattle.world_keeps_pairing.specs.Free.{origin_or}
 use Rattle.world_keeps_pairing.specs.Lives.{with_lives}
-use Rattle.world_keeps_pairing.proofs.lemmas.{between_itself, by_sockets, in_among, life_matches, lives_among, one_own, partner_named, place_there, told_in}
+use Rattle.world_keeps_pairing.proofs.lemmas.AllOurs.{life_matches, lives_among, partner_named}
+use Rattle.world_keeps_pairing.proofs.lemmas.{between_itself, by_sockets, in_among, one_own, place_there, told_in}
 use Rattle.world_keeps_streams.proofs.Requests.Sides.{Lawful, Own, Heard, coupled_in, lives_in, same_request}
 
 some_place : (x : book.Life) (o : Option ℕ) → IsSome (named x o) → (p : ℕ) × (o ≡ Some p)
@@ -22,18 +24,18 @@ same_place o m f some = place_there some.0 m (f (suc some.0) ∙ ap (place_or (s
 module _ (hosts : List Host) (ms : List Moment) (l : Lawful hosts ms) where
   owns : (h p : Host) (own foreign : ℕ) → OwnOnce (openings h p own foreign ms)
   owns h p own foreign =
-      let c : Coupled hosts ms = coupled_in hosts ms l in
+      let c : Coupled (all_ours hosts) ms = coupled_in hosts ms l in
       by_sockets OwnOnce h p own foreign ms
       (λ q. (safe_run (events_at (record { receive = own; send = foreign }) (steps h p (law_events ms)))
-      (run_at (record { receive = own; send = foreign }) (steps h p (law_events ms)) ((all_tied hosts (origin_in (crossings_of ms)) ms (are_origins 0 (crossings_of ms) [] ms refl) c.story c.run (served_in hosts ms l.2)).tied h p).steps)).own_once.0)
+      (run_at (record { receive = own; send = foreign }) (steps h p (law_events ms)) ((all_tied (all_ours hosts) (origin_in (crossings_of ms)) ms (are_origins 0 (crossings_of ms) [] ms refl) c.story c.run (served_in hosts ms l.2)).tied h p (refl, refl)).steps)).own_once.0)
       (λ q. (safe_run (events_at (record { receive = foreign; send = own }) (steps p h (law_events ms)))
-      (run_at (record { receive = foreign; send = own }) (steps p h (law_events ms)) ((all_tied hosts (origin_in (crossings_of ms)) ms (are_origins 0 (crossings_of ms) [] ms refl) c.story c.run (served_in hosts ms l.2)).tied p h).steps)).own_once.1)
+      (run_at (record { receive = foreign; send = own }) (steps p h (law_events ms)) ((all_tied (all_ours hosts) (origin_in (crossings_of ms)) ms (are_origins 0 (crossings_of ms) [] ms refl) c.story c.run (served_in hosts ms l.2)).tied p h (refl, refl)).steps)).own_once.1)
       (λ u. tt)
 
   -- a life is an opening by any longer log too
   opening_by : (none : ℕ) (newer : List Crossing) (x : book.Life) → Contains (lives_in ms) x → IsIn (life_of (origin_or none (newer ++ crossings_of ms) x.host x.peer) x) (openings x.host x.peer x.socket x.foreign ms)
   opening_by none newer x there =
-      let c : Coupled hosts ms = coupled_in hosts ms l in
+      let c : Coupled (all_ours hosts) ms = coupled_in hosts ms l in
       in_among (life_of (origin_or none (newer ++ crossings_of ms) x.host x.peer) x) (with_lives (origin_or none (newer ++ crossings_of ms) x.host x.peer) x.host x.peer x.socket x.foreign (lives_in ms) [])
       (openings x.host x.peer x.socket x.foreign ms)
       (lives_among hosts (origin_or none (newer ++ crossings_of ms)) ms (are_origins none (newer ++ crossings_of ms) newer ms refl) c.story c.run l.1 (served_in hosts ms l.2) x.host x.peer x.socket x.foreign)
@@ -41,7 +43,7 @@ module _ (hosts : List Host) (ms : List Moment) (l : Lawful hosts ms) where
 
   out_place : (x : book.Life) → Contains (lives_in ms) x → (p : ℕ) × (last_out (control_flow x.peer x.host) (before x.partner_stamp (crossings_of ms)) ≡ Some p)
   out_place x there =
-      let c : Coupled hosts ms = coupled_in hosts ms l in
+      let c : Coupled (all_ours hosts) ms = coupled_in hosts ms l in
       some_place x (last_out (control_flow x.peer x.host) (before x.partner_stamp (crossings_of ms))) (partner_named hosts ms c.story c.run l.1 (served_in hosts ms l.2) x there)
 
   last_grows : (newer : List Crossing) (x : book.Life) → Contains (lives_in ms) x
@@ -64,7 +66,7 @@ module _ (hosts : List Host) (ms : List Moment) (l : Lawful hosts ms) where
   matched_by : (a b : Host) (x s : book.Life) → Contains (lives_in ms) x → Contains (lives_in ms) s → (s.host ≡ b) × (s.peer ≡ a) → (x.socket ≡ s.foreign) × (x.foreign ≡ s.socket) → receives x ≡ true
       → origin_in (crossings_of ms) b a s.partner_stamp ≡ x.own_stamp → Match (crossings_of ms) x s
   matched_by a b x s here there of_b ends receiving place =
-      let c : Coupled hosts ms = coupled_in hosts ms l in
+      let c : Coupled (all_ours hosts) ms = coupled_in hosts ms l in
       let out : (p : ℕ) × (last_out (control_flow s.peer s.host) (before s.partner_stamp (crossings_of ms)) ≡ Some p) = out_place s there in
       let origin : origin_in (crossings_of ms) s.host s.peer s.partner_stamp ≡ out.0 = ap (place_or 0) out.1 in
       let same : out.0 ≡ x.own_stamp = sym origin ∙ ap (λ (h : Host). origin_in (crossings_of ms) h s.peer s.partner_stamp) of_b.0 ∙ ap (λ (h : Host). origin_in (crossings_of ms) b h s.partner_stamp) of_b.1 ∙ place in

@@ -1,5 +1,6 @@
 -- The requests of an end that is there, in a host that stays: those of the connection that its sockets' gone ones count.
 use Rattle.world_keeps_streams.proofs.Common.{◌≡◌, ℕ, ◌+◌, ◌==◌, ◌&&◌, ◌||◌, Bool, true, false, List, [], ◌∷◌, Option, Some, None, refl, ap, sym, subst, ◌∙◌, arith, eqb-true, Host, entry_at, is_at, Entry, both, end_of, is_past, standing, gone_now, counted, has_heard, heard_from, End, Sockets, Who, receiver, Mark, Asks, Side, hears, says, Half, Joined, count, stays_same, Event, pair_with, Moment, events_of, program, crossings_of, Coupled, law_events, origin_in, keeps, steps, Tie, all_hears, all_says, all_tied, are_origins, at_texts, foreign_of, half, hears_if, left_if, met_if, other, own_of, receiver_half, sender_half, served_in, own_calls}
+use Rattle.reset_law.specs.Network.{all_ours}
 use Rattle.pairing_law.specs.Links.{Receiver, Sender}
 use Rattle.pairing_law.specs.Marks.{closes}
 use Rattle.pairing_law.proofs.lemmas.{Balanced}
@@ -117,28 +118,28 @@ module _ (hosts : List Host) (ms : List Moment) (l : Lawful hosts ms) (a b : Hos
   pub heard_there : Counts a b ms → stay.stays a b (events_of ms) ≡ true → (f : Entry) → entry_at s.receive s.send (pair_with b (program a ms).peers).entries ≡ Some f → (t : ℕ) → f.partner ≡ Some t
       → Asks (gone_now b (own_calls a b ms) s.receive s.send) (origin_in (crossings_of ms) a b t) (half a b (at_texts s Receiver) (at_texts s Sender) (law_events ms)).heard
   heard_there counts stays f found t partner =
-      let c : Coupled hosts ms = coupled_in hosts ms l in
+      let c : Coupled (all_ours hosts) ms = coupled_in hosts ms l in
       let j : Joined (half a b (at_texts s Receiver) (at_texts s Sender) (law_events ms)) (half b a (at_texts s Sender) (at_texts s Receiver) (law_events ms)) = joined_halves in
       partner_here hosts ms l s q Receiver a b counts stays
-      (((all_tied hosts (origin_in (crossings_of ms)) ms (are_origins 0 (crossings_of ms) [] ms refl) c.story c.run (served_in hosts ms l.2)).tied a b).receiver s q)
+      (((all_tied (all_ours hosts) (origin_in (crossings_of ms)) ms (are_origins 0 (crossings_of ms) [] ms refl) c.story c.run (served_in hosts ms l.2)).tied a b (refl, refl)).receiver s q)
       (half b a (at_texts s Sender) (at_texts s Receiver) (law_events ms)) j.floor j.other j.here f found t partner
 
   -- and the sender hasn't said that of an end which has none
   pub unsaid_there : Counts b a ms → stay.stays b a (events_of ms) ≡ true → (e : Entry) → entry_at s.send s.receive (pair_with a (program b ms).peers).entries ≡ Some e → e.asked ≡ None
       → (n : ℕ) → Asks (gone_now a (own_calls b a ms) s.send s.receive) n (half b a (at_texts s Sender) (at_texts s Receiver) (law_events ms)).said → ⊥
   unsaid_there counts stays e found none =
-      let c : Coupled hosts ms = coupled_in hosts ms l in
+      let c : Coupled (all_ours hosts) ms = coupled_in hosts ms l in
       let j : Joined (half a b (at_texts s Receiver) (at_texts s Sender) (law_events ms)) (half b a (at_texts s Sender) (at_texts s Receiver) (law_events ms)) = joined_halves in
       unasked_here hosts ms l s q Sender b a counts stays
-      (((all_tied hosts (origin_in (crossings_of ms)) ms (are_origins 0 (crossings_of ms) [] ms refl) c.story c.run (served_in hosts ms l.2)).tied a b).sender s q)
+      (((all_tied (all_ours hosts) (origin_in (crossings_of ms)) ms (are_origins 0 (crossings_of ms) [] ms refl) c.story c.run (served_in hosts ms l.2)).tied a b (refl, refl)).sender s q)
       (half a b (at_texts s Receiver) (at_texts s Sender) (law_events ms)) j.other j.floor j.there e found none
 
   pub heard_now : Counts b a ms → stay.stays b a (events_of ms) ≡ true → (e : Entry) → entry_at s.send s.receive (pair_with a (program b ms).peers).entries ≡ Some e → (t : ℕ) → e.partner ≡ Some t
       → Heard a b ms s.receive s.send t (gone_now a (own_calls b a ms) s.send s.receive)
   heard_now counts stays e found t partner =
-      let c : Coupled hosts ms = coupled_in hosts ms l in
+      let c : Coupled (all_ours hosts) ms = coupled_in hosts ms l in
       let j : Joined (half a b (at_texts s Receiver) (at_texts s Sender) (law_events ms)) (half b a (at_texts s Sender) (at_texts s Receiver) (law_events ms)) = joined_halves in
       subst (λ (x : Side). Asks (gone_now a (own_calls b a ms) s.send s.receive) (origin_in (crossings_of ms) b a t) x.heard) (sym (sender_half s a b (law_events ms)))
       (partner_here hosts ms l s q Sender b a counts stays
-      (((all_tied hosts (origin_in (crossings_of ms)) ms (are_origins 0 (crossings_of ms) [] ms refl) c.story c.run (served_in hosts ms l.2)).tied a b).sender s q)
+      (((all_tied (all_ours hosts) (origin_in (crossings_of ms)) ms (are_origins 0 (crossings_of ms) [] ms refl) c.story c.run (served_in hosts ms l.2)).tied a b (refl, refl)).sender s q)
       (half a b (at_texts s Receiver) (at_texts s Sender) (law_events ms)) j.other j.floor j.there e found t partner)

@@ -1,5 +1,6 @@
 -- The own request of a receiving life: it is that of the connection whose partner's request its host took.
 use Rattle.world_keeps_streams.proofs.Common.{◌≡◌, inl, inr, ℕ, ◌<◌, ◌≤◌, ◌&&◌, Bool, true, if◌then◌else◌, List, [], ap, sym, subst, ◌∙◌, arith, Contains, Host, is_receive_socket, is_send_socket, receiver, sender, Asks, IsIn, Side, Joined, Stands, Stood, asks_once, asks_said, every_in, from_asks, Moment, crossings_of, Coupled, law_events, origin_in, life_of, openings, steps, life_in, life_paired, served_in}
+use Rattle.reset_law.specs.Network.{all_ours}
 use Rattle.pairing_law.specs.Sides as law
 use Rattle.promise.specs.declared.life.Life.{Life}
 use Rattle.promise.specs.Safe.{receives}
@@ -35,7 +36,7 @@ Took a b ms receive send stamp g = Asks g (origin_in (crossings_of ms) a b stamp
 module _ (hosts : List Host) (ms : List Moment) (l : Lawful hosts ms) where
   own_at : (x : Life) (g : ℕ) → Contains (lives_in ms) x → receives x ≡ true → Took x.host x.peer ms x.socket x.foreign x.partner_stamp g → Own x.host x.peer ms x.socket x.foreign x.own_stamp g
   own_at x g there r took =
-      let c : Coupled hosts ms = coupled_in hosts ms l in
+      let c : Coupled (all_ours hosts) ms = coupled_in hosts ms l in
       stood_own (receiver (record { receive = x.socket; send = x.foreign }) (steps x.host x.peer (law_events ms))) (sender (record { receive = x.socket; send = x.foreign }) (steps x.host x.peer (law_events ms)))
       (life_of (origin_in (crossings_of ms) x.host x.peer) x) g (law_joined hosts ms l x.host x.peer (record { receive = x.socket; send = x.foreign }))
       (receiver_in (life_of (origin_in (crossings_of ms) x.host x.peer) x) x ms r (other_sends x r (life_paired hosts ms c.story c.run l.1 (served_in hosts ms l.2) x there))

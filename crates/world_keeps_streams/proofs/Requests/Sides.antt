@@ -1,5 +1,6 @@
 -- Requests of two hosts beside the law of pairing: each is where this many connections of its sockets were closed before it.
 use Rattle.world_keeps_streams.proofs.Common.{◌≡◌, inr, ℕ, ◌&&◌, not, Bool, true, false, List, [], ◌∷◌, if◌then◌else◌, refl, sym, subst, ◌∙◌, Host, Sockets, events_at, receiver, sender, Mark, Ask, Close, Asks, placed_event, Side, hears, says, Joined, asks_said, run_at, Event, begins_either, HaveAddresses, Moment, event_in, events_of, IsTimeline, crossings_of, Coupled, coupled, law_events, origin_in, keeps, steps, all_hears, all_says, all_tied, are_origins, at_texts, half, hears_if, left_if, met_if, receiver_half, sender_half, served_in}
+use Rattle.reset_law.specs.Network.{all_ours}
 use Rattle.interface.specs.Mailboxes as mail
 use Rattle.pairing_law.specs.Links.{Receiver, Sender}
 use Rattle.pairing_law.specs.Places.{placed}
@@ -111,14 +112,14 @@ module _ (a b : Host) (y : Moment) (ms : List Moment) (none : stay.begins a b (e
 
 -- ---- the law of pairing
 
-pub coupled_in : (hosts : List Host) (ms : List Moment) → Lawful hosts ms → Coupled hosts ms
+pub coupled_in : (hosts : List Host) (ms : List Moment) → Lawful hosts ms → Coupled (all_ours hosts) ms
 coupled_in hosts ms l = coupled hosts l.0 ms l.1 l.2
 
 pub law_joined : (hosts : List Host) (ms : List Moment) → Lawful hosts ms → (a b : Host) (s : Sockets) → Joined (receiver s (steps a b (law_events ms))) (sender s (steps a b (law_events ms)))
 law_joined hosts ms l a b s =
-    let c : Coupled hosts ms = coupled_in hosts ms l in
+    let c : Coupled (all_ours hosts) ms = coupled_in hosts ms l in
     joined_run (events_at s (steps a b (law_events ms)))
-    (run_at s (steps a b (law_events ms)) ((all_tied hosts (origin_in (crossings_of ms)) ms (are_origins 0 (crossings_of ms) [] ms refl) c.story c.run (served_in hosts ms l.2)).tied a b).steps)
+    (run_at s (steps a b (law_events ms)) ((all_tied (all_ours hosts) (origin_in (crossings_of ms)) ms (are_origins 0 (crossings_of ms) [] ms refl) c.story c.run (served_in hosts ms l.2)).tied a b (refl, refl)).steps)
 
 -- what the receiver asked for and the sender heard of one connection is one request
 pub same_request : (hosts : List Host) (ms : List Moment) → Lawful hosts ms → (a b : Host) (receive send stamp taken g : ℕ) → Own a b ms receive send stamp g → Heard a b ms receive send taken g

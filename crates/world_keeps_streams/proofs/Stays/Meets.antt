@@ -1,5 +1,6 @@
 -- Where two hosts of a world meet both streams begin.
 use Rattle.world_keeps_streams.proofs.Common.{◌≡◌, ℕ, ◌==◌, Bool, true, false, not, ◌&&◌, if◌then◌else◌, List, [], ◌∷◌, ◌++◌, refl, ap, sym, subst, ◌∙◌, Host, same_host, HostMessage, same_host-true, Command, PairState, ends_now, Message, In, pair, begins, ready, takes_reset, begins_either, contradicts, Fresh, begins_fresh, accepted, pair_with, HaveAddresses, Asked, Crossed, Moment, event_in, events_of, places, program, IsTimeline, crossings_of, Coupled, by_request, coupled, program_own, keeps, AText, AnRrp, AnRst, Sort, mail_below, sort_of, calls_by, own_calls}
+use Rattle.reset_law.specs.Network.{all_ours}
 use Rattle.interface.specs.Mailboxes as mail
 use Rattle.interface.specs.declared.crossing.Crossing.TheVariants as crossing
 use Rattle.interface.specs.declared.crossing.Inbound.TheVariants as inbound
@@ -52,7 +53,7 @@ module _ (hosts : List Host) (addresses : HaveAddresses hosts) (a b : Host) wher
     by : (r t : Bool) → ready a b (events_of (x ∷ moments)) ≡ r → takes_reset a b (event_in x) ≡ t → (r && not t) ≡ false → (pair_with b (program a (x ∷ moments)).peers).queue ≡ []
     by true true e f g = drops a b x moments f
     by true false e f g = absurd (let no : true ≡ false = g in cc)
-    by false t e f g = (idle hosts addresses (x ∷ moments) run time a b (sym (ready_both a b (x ∷ moments) (coupled hosts addresses (x ∷ moments) run time).story) ∙ e)).1
+    by false t e f g = (idle hosts addresses (x ∷ moments) run time a b (sym (ready_both hosts a b (x ∷ moments) (coupled hosts addresses (x ∷ moments) run time).story) ∙ e)).1
 
   none_left : (x : Moment) (moments : List Moment) → mail.IsRun hosts (crossings_of (x ∷ moments)) → IsTimeline hosts (x ∷ moments) → keeps a b (event_in x) (events_of moments) ≡ false → Solo (x ∷ moments)
   none_left x moments run time left =
@@ -81,7 +82,7 @@ module _ (hosts : List Host) (addresses : HaveAddresses hosts) (a b : Host) wher
     below : mail.IsRun hosts (crossings_of moments)
     below = mail_below hosts x moments run
 
-    now : Coupled hosts (x ∷ moments)
+    now : Coupled (all_ours hosts) (x ∷ moments)
     now = coupled hosts addresses (x ∷ moments) run time
 
     by : (k : Bool) → keeps a b (event_in x) (events_of moments) ≡ k → Solo (x ∷ moments)
@@ -110,8 +111,8 @@ module _ (hosts : List Host) (addresses : HaveAddresses hosts) (a b : Host) wher
   alone_there : (x : Moment) (moments : List Moment) (link : ℕ) → (link == 0) ≡ false → mail.IsRun hosts (crossings_of (x ∷ moments)) → IsTimeline hosts (x ∷ moments) → begins a b (event_in x) (events_of moments) ≡ true
       → Alone a b link (x ∷ moments)
   alone_there x moments link off run time begun =
-      let law : IsRun hosts (events_of (x ∷ moments)) = (coupled hosts addresses (x ∷ moments) run time).run in
-      let f : Fresh a b (event_in x) (events_of moments) = begins_fresh hosts (event_in x) (events_of moments) law a b begun in
+      let law : IsRun (all_ours hosts) (events_of (x ∷ moments)) = (coupled hosts addresses (x ∷ moments) run time).run in
+      let f : Fresh a b (event_in x) (events_of moments) = begins_fresh (all_ours hosts) (event_in x) (events_of moments) law a b (refl, refl) begun in
       record {
         stays = begins_stays a b (event_in x) (events_of moments) begun;
         solo = solo_there x moments run time f.left f.silent;

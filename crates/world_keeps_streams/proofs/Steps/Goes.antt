@@ -1,5 +1,6 @@
 -- A moment in which no stay begins keeps two programs beside two streams of a link; and so they are at all lawful moments.
 use Rattle.world_keeps_streams.proofs.Common.{◌≡◌, ℕ, ◌==◌, Bool, true, false, if◌then◌else◌, List, [], ◌∷◌, ◌++◌, refl, ap, sym, subst, ◌∙◌, eqb-true, Host, HostMessage, Command, Stream, opening_stream, IsRanged, AreAllowed, IsTelling, gone_now, numbered, name_of, numbered_tells, Joint, NotTaken, Party, Steps, Fetch, posted, boxes, Event, Message, Other, Out, are, place, when, begins_either, carry, pair_with, Request, HaveAddresses, event_by, message_on, Moment, Crossed, Asked, IsStory, event_in, events_of, program, IsTimeline, crossings_of, Coupled, by_request, coupled, mail_below, programs_ranged, served_in, calls_by, own_calls}
+use Rattle.reset_law.specs.Network.{all_ours}
 use Rattle.interface.specs.Mailboxes as mail
 use Rattle.interface.specs.declared.crossing.Crossing.TheVariants as crossing
 use Rattle.reset_law.specs.Boxes.{Box, Empty, fetched}
@@ -64,8 +65,8 @@ AloneFor h p stays x moments = Unit {0}
 
 module _ (number other : ℕ → ℕ → ℕ → ℕ) (tells : IsTelling number) (others : IsTelling other) (link : ℕ) (off : (link == 0) ≡ false) (steps : Steps number other tells others link) (hosts : List Host) (h p : Host) (moments : List Moment) (rest : List Command) (b : Party) (x y : Stream)
     (held : Held number other tells others link h p moments (commands_in (boxes h p (events_of moments) 0)) rest (post_in (boxes h p (events_of moments) link)) b x y)
-    (ranged : IsRanged (program h moments)) (story : IsStory moments) (run : IsRun hosts (events_of moments)) where
-  half : (m : Moment) → NotIn m → IsStory (m ∷ moments) → IsRun hosts (events_of (m ∷ moments)) → AloneFor h p b.stays m moments → stay.begins h p (event_in m) (events_of moments) ≡ false → OfOut m (FindsNone number other h p moments b)
+    (ranged : IsRanged (program h moments)) (story : IsStory (all_ours hosts) moments) (run : IsRun (all_ours hosts) (events_of moments)) where
+  half : (m : Moment) → NotIn m → IsStory (all_ours hosts) (m ∷ moments) → IsRun (all_ours hosts) (events_of (m ∷ moments)) → AloneFor h p b.stays m moments → stay.begins h p (event_in m) (events_of moments) ≡ false → OfOut m (FindsNone number other h p moments b)
       → MayCalls (calls_by h p m moments)
       → Acted number other tells others link h p (m ∷ moments) (commands_in (boxes h p (events_of (m ∷ moments)) 0)) (post_in (boxes h p (events_of (m ∷ moments)) link)) b x y
   half (Crossed (crossing.Out m)) other_kind now law alone old none may =
@@ -84,25 +85,25 @@ module _ (number other : ℕ → ℕ → ℕ → ℕ) (tells : IsTelling number)
 -- ---- both
 
 out_run : (hosts : List Host) (h p : Host) (m : HostMessage) (events : List Event) (text : List Bool) → are h p m.flow.source m.flow.destination ≡ true → message_on m.flow.link.0 m.text ≡ Other text
-    → IsRun hosts (Out m.flow.source m.flow.destination m.flow.link.0 (message_on m.flow.link.0 m.text) ∷ events) → IsRun hosts (Out h p m.flow.link.0 (Other text) ∷ events)
+    → IsRun (all_ours hosts) (Out m.flow.source m.flow.destination m.flow.link.0 (message_on m.flow.link.0 m.text) ∷ events) → IsRun (all_ours hosts) (Out h p m.flow.link.0 (Other text) ∷ events)
 out_run hosts h p m events text same is run =
-    carry (λ i j. IsRun hosts (Out i j m.flow.link.0 (Other text) ∷ events)) h p m.flow.source m.flow.destination same
-    (subst (λ (n : Message). IsRun hosts (Out m.flow.source m.flow.destination m.flow.link.0 n ∷ events)) is run)
+    carry (λ i j. IsRun (all_ours hosts) (Out i j m.flow.link.0 (Other text) ∷ events)) h p m.flow.source m.flow.destination same
+    (subst (λ (n : Message). IsRun (all_ours hosts) (Out m.flow.source m.flow.destination m.flow.link.0 n ∷ events)) is run)
 
-alone_first : (hosts : List Host) (a b : Host) (x : Moment) (moments : List Moment) → IsRun hosts (events_of (x ∷ moments)) → AloneFor a b (stay.stays b a (events_of moments)) x moments
+alone_first : (hosts : List Host) (a b : Host) (x : Moment) (moments : List Moment) → IsRun (all_ours hosts) (events_of (x ∷ moments)) → AloneFor a b (stay.stays b a (events_of moments)) x moments
 alone_first hosts a b (Crossed (crossing.Out m)) moments run = λ same text is left. out_alone hosts a b m.flow.link.0 text (events_of moments) (out_run hosts a b m (events_of moments) text same is run) left
 alone_first hosts a b (Crossed c) moments run = tt
 alone_first hosts a b (Asked g r) moments run = tt
 
-alone_second : (hosts : List Host) (a b : Host) (x : Moment) (moments : List Moment) → IsRun hosts (events_of (x ∷ moments)) → stay.begins a b (event_in x) (events_of moments) ≡ false → AloneFor b a (stay.stays a b (events_of (x ∷ moments))) x moments
+alone_second : (hosts : List Host) (a b : Host) (x : Moment) (moments : List Moment) → IsRun (all_ours hosts) (events_of (x ∷ moments)) → stay.begins a b (event_in x) (events_of moments) ≡ false → AloneFor b a (stay.stays a b (events_of (x ∷ moments))) x moments
 alone_second hosts a b (Crossed (crossing.Out m)) moments run old = λ same text is left.
     stays_out a b (event_in (Crossed (crossing.Out m))) (events_of moments) (out_alone hosts b a m.flow.link.0 text (events_of moments) (out_run hosts b a m (events_of moments) text same is run) left) old
 alone_second hosts a b (Crossed c) moments run old = tt
 alone_second hosts a b (Asked g r) moments run old = tt
 
 module _ (link : ℕ) (off : (link == 0) ≡ false) (steps : Steps numbered numbered_by_peer numbered_tells turned_tells link) (back : Steps numbered_by_peer numbered turned_tells numbered_tells link) (mirrors : Mirrors link) (hosts : List Host) (a b : Host) where
-  module _ (moments : List Moment) (ranged : (h : Host) → IsRanged (program h moments)) (story : IsStory moments) (run : IsRun hosts (events_of moments)) (old : Joined a b link moments) where
-    own_goes : (x : Moment) → NotIn x → IsStory (x ∷ moments) → IsRun hosts (events_of (x ∷ moments)) → ((h p : Host) → MayCalls (calls_by h p x moments)) → stay.begins a b (event_in x) (events_of moments) ≡ false → Finds link a b x moments → Goes a b link x moments old
+  module _ (moments : List Moment) (ranged : (h : Host) → IsRanged (program h moments)) (story : IsStory (all_ours hosts) moments) (run : IsRun (all_ours hosts) (events_of moments)) (old : Joined a b link moments) where
+    own_goes : (x : Moment) → NotIn x → IsStory (all_ours hosts) (x ∷ moments) → IsRun (all_ours hosts) (events_of (x ∷ moments)) → ((h p : Host) → MayCalls (calls_by h p x moments)) → stay.begins a b (event_in x) (events_of moments) ≡ false → Finds link a b x moments → Goes a b link x moments old
     own_goes x other_kind now law may none finds =
         both_act link mirrors a b x moments old (boxes a b (events_of (x ∷ moments))) (boxes b a (events_of moments))
         (half numbered numbered_by_peer numbered_tells turned_tells link off steps hosts a b moments old.rest_a (party b a link old.rest_b moments) old.x old.y (old_held link mirrors a b x moments old (boxes a b (events_of (x ∷ moments))) (boxes b a (events_of moments)))
@@ -111,7 +112,7 @@ module _ (link : ℕ) (off : (link == 0) ≡ false) (steps : Steps numbered numb
         (side a b (x ∷ moments) (commands_in (boxes a b (events_of (x ∷ moments)) 0) ++ rest) (post_in (boxes a b (events_of (x ∷ moments)) link))) second first held
         (ranged b) story run x other_kind now law (alone_second hosts a b x moments law none) (sym (begins_either a b (event_in x) (events_of moments)) ∙ none) (finds.second allowed) (may b a))
 
-    in_goes : (m : HostMessage) → IsStory (Crossed (crossing.In m) ∷ moments) → IsRun hosts (events_of (Crossed (crossing.In m) ∷ moments)) → ((h p : Host) → MayCalls (calls_by h p (Crossed (crossing.In m)) moments))
+    in_goes : (m : HostMessage) → IsStory (all_ours hosts) (Crossed (crossing.In m) ∷ moments) → IsRun (all_ours hosts) (events_of (Crossed (crossing.In m) ∷ moments)) → ((h p : Host) → MayCalls (calls_by h p (Crossed (crossing.In m)) moments))
         → stay.begins a b (event_in (Crossed (crossing.In m))) (events_of moments) ≡ false → Goes a b link (Crossed (crossing.In m)) moments old
     in_goes m now law may none =
         both_act link mirrors a b (Crossed (crossing.In m)) moments old (boxes a b (events_of moments)) (boxes b a (events_of (Crossed (crossing.In m) ∷ moments)))
@@ -125,7 +126,7 @@ module _ (link : ℕ) (off : (link == 0) ≡ false) (steps : Steps numbered numb
         (sym (begins_either a b (event_in (Crossed (crossing.In m))) (events_of moments)) ∙ none) (λ k s. may b a))
 
     -- a moment in which no stay begins
-    pub goes : (x : Moment) → IsStory (x ∷ moments) → IsRun hosts (events_of (x ∷ moments)) → ((h p : Host) → MayCalls (calls_by h p x moments)) → stay.begins a b (event_in x) (events_of moments) ≡ false → Finds link a b x moments → Goes a b link x moments old
+    pub goes : (x : Moment) → IsStory (all_ours hosts) (x ∷ moments) → IsRun (all_ours hosts) (events_of (x ∷ moments)) → ((h p : Host) → MayCalls (calls_by h p x moments)) → stay.begins a b (event_in x) (events_of moments) ≡ false → Finds link a b x moments → Goes a b link x moments old
     goes (Crossed (crossing.In m)) now law may none finds = in_goes m now law may none
     goes (Crossed c) now law may none finds = own_goes (Crossed c) tt now law may none finds
     goes (Asked g r) now law may none finds = own_goes (Asked g r) tt now law may none finds
@@ -143,9 +144,9 @@ module _ (link : ℕ) (off : (link == 0) ≡ false) (steps : Steps numbered numb
       → Goes a b link x moments old
   next_goes addresses may finds x moments run time old none =
       let below : mail.IsRun hosts (crossings_of moments) = mail_below hosts x moments run in
-      let now : Coupled hosts (x ∷ moments) = coupled hosts addresses (x ∷ moments) run time in
-      let before : Coupled hosts moments = coupled hosts addresses moments below time.1 in
-      goes moments (programs_ranged moments (served_in hosts moments time.1)) before.story before.run old x now.story now.run (may x moments run time) none (finds x moments run time none old)
+      let now : Coupled (all_ours hosts) (x ∷ moments) = coupled hosts addresses (x ∷ moments) run time in
+      let before : Coupled (all_ours hosts) moments = coupled hosts addresses moments below time.1 in
+      goes moments (λ h. programs_ranged (all_ours hosts) moments (served_in hosts moments time.1) h refl) before.story before.run old x now.story now.run (may x moments run time) none (finds x moments run time none old)
 
   pub joined : HaveAddresses hosts → CallsMay → AllFind link hosts a b → HaveMet → Joint numbered numbered_by_peer numbered_tells turned_tells link opening_stream opening_stream (party a b link [] []) (party b a link [] [])
       → (moments : List Moment) → mail.IsRun hosts (crossings_of moments) → IsTimeline hosts moments → Joined a b link moments

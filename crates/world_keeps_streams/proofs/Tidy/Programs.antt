@@ -107,7 +107,7 @@ all_tidy hosts addresses (x ∷ moments) run time a b = by x time.0 (λ p. all_t
   below = mail_below hosts x moments run
 
   order : AreInOrder (program a moments).peers
-  order = (coupled hosts addresses moments below time.1).order a
+  order = (coupled hosts addresses moments below time.1).order a refl
 
   by : (y : Moment) → Happens hosts y moments → AreTidy (program a moments) → AreTidy (program a (y ∷ moments))
   by (Crossed (crossing.Out m)) happens old = tidy_if (same_host a m.flow.source) (offered (program a moments) (places moments)).0 (program a moments) (λ e. offered_tidy (program a moments) old (places moments) order) old

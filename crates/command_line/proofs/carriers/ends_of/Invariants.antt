@@ -1,4 +1,5 @@
-use Rattle.command_line.proofs.Common.{◌≡◌, take, ends_of}
+use Rattle.command_line.proofs.Common.{◌≡◌, take}
+use Rattle.command_line.specs.Carriers.{ends_of}
 use Rattle.command_line.proofs.carriers.ends_of.Given as goal
 
 abbrev pub invariant-loop-line : goal.invariant-loop-line

@@ -1,5 +1,4 @@
 use Rattle.command_line.proofs.Joins.{tell_the_same}
-use Rattle.command_line.proofs.Recorded.{prints_trace}
 use Rattle.command_line.proofs.Replayed.Determined.{either_options}
 use Rattle.command_line.proofs.law.one_replay.Goals as goal
 
@@ -7,5 +6,4 @@ pub returns : goal.returns
 returns c = record {
   options = either_options;
   log = tell_the_same;
-  trace = prints_trace;
 }

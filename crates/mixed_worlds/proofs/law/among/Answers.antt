@@ -19,7 +19,7 @@ returns c =
     } in
     let promise : (strange : Host → Bool) (hosts : List Host) (moments : List Moment) → IsMixed strange hosts moments
     → Promises hosts (masked_moments strange hosts moments) = λ strange hosts moments mixed.
-    promised c.lives.ensures c.programs.ensures c.lives-2.ensures hosts (masked_moments strange hosts moments)
+    promised c.programs.ensures c.lives.ensures hosts (masked_moments strange hosts moments)
     mixed.addresses (c.masked.ensures.run strange hosts moments mixed)
     (c.masked.ensures.timeline strange hosts moments mixed) in
     record {
@@ -51,10 +51,10 @@ returns c =
       told = λ strange hosts moments mixed.
           told_real orders strange hosts moments mixed (promise strange hosts moments mixed).told;
       joined = λ strange hosts moments mixed reports backed.
-          joins orders c.lives-3.ensures strange hosts moments mixed reports backed;
+          joins orders c.lives-2.ensures strange hosts moments mixed reports backed;
       settled = λ strange hosts moments mixed settled.
           settles orders c.masked_logs.ensures strange hosts moments mixed
-          (c.lives-2.ensures.calm hosts (masked_moments strange hosts moments) mixed.addresses
+          (c.lives.ensures.calm hosts (masked_moments strange hosts moments) mixed.addresses
           (c.masked.ensures.run strange hosts moments mixed)
           (c.masked.ensures.timeline strange hosts moments mixed)) settled;
     }

@@ -7,9 +7,9 @@ returns g c =
     let calls : Calls g.row.C.Denot = g.C.Carrier.calls in
     record {
       clean =
-          λ hosts w lawful newer older m parts plain through.
-          book_clean calls.seen hosts w lawful newer older m parts plain through;
-      stays = λ hosts w lawful a b link. book_front calls.seen hosts w lawful a b link;
+          λ hosts w lawful newer older m parts ours plain through.
+          book_clean calls.seen hosts w lawful newer older m parts ours plain through;
+      stays = λ hosts w lawful a b ours link. book_front calls.seen hosts w lawful a b ours link;
       run = λ hosts w lawful. book_run calls.seen hosts w lawful;
-      agrees = λ hosts w lawful running a b s is. seat_agrees calls.seen hosts w lawful running a b s is;
+      agrees = λ hosts w lawful running a b ours s is. seat_agrees calls.seen hosts w lawful running a b ours s is;
     }

@@ -5,6 +5,6 @@ use Rattle.pairing_law.proofs.law.resets.Goals as goal
 pub returns : goal.returns
 returns c = record {
   in_stay = takes_in_stay;
-  silent = λ hosts event events a b r begun. let f : Fresh a b event events = begins_fresh hosts event events r a b begun in (f.silent, f.silent_peer);
-  left = λ hosts event events a b r begun. let f : Fresh a b event events = begins_fresh hosts event events r a b begun in (f.left, f.peer_left);
+  silent = λ hosts event events a b ours r begun. let f : Fresh a b event events = begins_fresh hosts event events r a b ours begun in (f.silent, f.silent_peer);
+  left = λ hosts event events a b ours r begun. let f : Fresh a b event events = begins_fresh hosts event events r a b ours begun in (f.left, f.peer_left);
 }

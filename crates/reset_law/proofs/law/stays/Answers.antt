@@ -7,15 +7,15 @@ use Rattle.reset_law.proofs.law.stays.Goals as goal
 pub returns : goal.returns
 returns c = record {
   front = heard_front;
-  waiting = λ hosts events r a b link stay. (stay_run hosts events r a b link stay).front;
+  waiting = λ hosts events r a b ours link stay. (stay_run hosts events r a b ours link stay).front;
   whole =
-      λ hosts events r a b link together.
-      (stay_run hosts events r a b link
-      (joint_stays hosts events r b a (joint_either a b events together))).whole together;
+      λ hosts events r a b ours link together.
+      (stay_run hosts events r a b ours link
+      (joint_stays hosts events r b a (ours.1, ours.0) (joint_either a b events together))).whole together;
   together = joint_stays;
   beginning =
-      λ hosts e events r a b link begun. (
-        nothing_waits (boxes a b (e ∷ events) link) ((begin_quiet hosts e events r a b begun).0 link),
-        nothing_waits (boxes b a (e ∷ events) link) ((begin_quiet hosts e events r a b begun).1 link),
+      λ hosts e events r a b ours link begun. (
+        nothing_waits (boxes a b (e ∷ events) link) ((begin_quiet hosts e events r a b ours begun).0 link),
+        nothing_waits (boxes b a (e ∷ events) link) ((begin_quiet hosts e events r a b ours begun).1 link),
       );
 }

@@ -20,14 +20,14 @@ pub overflow_add-passed : goal.overflow_add-passed
 overflow_add-passed c =
     let before : c.lines.passed < length (lines_of c.args.script.now) = length_next c.lines.passed (lines_of c.args.script.now) (lines_after c.first_line.result.1) c.first_line.result.0.now (c.lines.invariant.0 ∙ ap lines_after c.in-Some.is ∙ c.first_line.ensures.lines) in
     let most : length (lines_of c.args.script.now) ≤ length c.args.script.now + 1 = line_count c.args.script.now in
-    let few : length c.args.script.now ≤ 1048576 = c.lines.invariant.2 in
+    let few : length c.args.script.now ≤ 268435456 = c.lines.invariant.2 in
     omega arith
 
 pub overflow_add-passed-in-Some : goal.overflow_add-passed-in-Some
 overflow_add-passed-in-Some c =
     let before : c.lines.passed < length (lines_of c.args.script.now) = length_next c.lines.passed (lines_of c.args.script.now) (lines_after c.first_line.result.1) c.first_line.result.0.now (c.lines.invariant.0 ∙ ap lines_after c.in-Some.is ∙ c.first_line.ensures.lines) in
     let most : length (lines_of c.args.script.now) ≤ length c.args.script.now + 1 = line_count c.args.script.now in
-    let few : length c.args.script.now ≤ 1048576 = c.lines.invariant.2 in
+    let few : length c.args.script.now ≤ 268435456 = c.lines.invariant.2 in
     omega arith
 
 pub lines-preserved : goal.lines-preserved

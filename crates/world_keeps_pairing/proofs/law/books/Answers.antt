@@ -1,4 +1,4 @@
-use Rattle.world_keeps_pairing.proofs.Worlds.{world_alone, world_matches, world_named, world_partners}
+use Rattle.world_keeps_pairing.proofs.AllOurs.{world_alone, world_matches, world_named, world_partners}
 use Rattle.world_keeps_pairing.proofs.law.books.Goals as goal
 
 pub returns : goal.returns

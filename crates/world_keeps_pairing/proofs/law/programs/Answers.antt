@@ -1,4 +1,4 @@
-use Rattle.world_keeps_pairing.proofs.Common.{List, [], refl, sym, subst, Host, HaveAddresses, Moment, program, IsTimeline, crossings_of, Coupled, coupled, pair_with, HasEnd, Side, events_at, run_at, safe_run, steps, law_events, origin_in}
+use Rattle.world_keeps_pairing.proofs.Common.{Bool, List, [], refl, sym, subst, Host, HaveAddresses, Moment, program, crossings_of, Coupled, coupled, pair_with, HasEnd, Side, events_at, run_at, safe_run, steps, law_events, origin_in}
 use Rattle.interface.specs.Mailboxes as mail
 use Rattle.world_keeps_pairing.proofs.Served.{served_in}
 use Rattle.world_keeps_pairing.proofs.LinkRun.{all_tied}
@@ -6,21 +6,23 @@ use Rattle.world_keeps_pairing.proofs.Origins.{are_origins}
 use Rattle.world_keeps_pairing.proofs.Sides.{receiver_half, sender_half}
 use Rattle.world_keeps_pairing.proofs.Tied.{Tied}
 use Rattle.world_keeps_pairing.proofs.law.programs.Goals as goal
+use Rattle.reset_law.specs.Network.{AreOurs, Network}
+use Rattle.net_sim.specs.Mixed.{Happened}
 
-tied : (hosts : List Host) (moments : List Moment) → HaveAddresses hosts → mail.IsRun hosts (crossings_of moments) → IsTimeline hosts moments → (a b : Host) → Tied (origin_in (crossings_of moments)) a b moments
-tied hosts moments addresses run time a b =
+tied : (hosts : Network) (moments : List Moment) → HaveAddresses hosts.all → mail.IsRun hosts.all (crossings_of moments) → Happened hosts moments → (a b : Host) → AreOurs hosts a b → Tied (origin_in (crossings_of moments)) a b moments
+tied hosts moments addresses run time a b ours =
     let c : Coupled hosts moments = coupled hosts addresses moments run time in
-    (all_tied hosts (origin_in (crossings_of moments)) moments (are_origins 0 (crossings_of moments) [] moments refl) c.story c.run (served_in hosts moments time)).tied a b
+    (all_tied hosts (origin_in (crossings_of moments)) moments (are_origins 0 (crossings_of moments) [] moments refl) c.story c.run (served_in hosts moments time)).tied a b ours
 
 pub returns : goal.returns
 returns c = record {
-  steps = λ hosts moments addresses run time a b. (tied hosts moments addresses run time a b).steps;
-  receiver = λ hosts moments addresses run time a b s even odd.
+  steps = λ hosts moments addresses run time a b ours. (tied hosts moments addresses run time a b ours).steps;
+  receiver = λ hosts moments addresses run time a b ours s even odd.
       subst (λ (x : Side). HasEnd (origin_in (crossings_of moments) a b) s.receive s.send (pair_with b (program a moments).peers) x.end) (sym (receiver_half s a b (law_events moments)))
-      ((tied hosts moments addresses run time a b).receiver s (even, odd));
-  sender = λ hosts moments addresses run time a b s even odd.
+      ((tied hosts moments addresses run time a b ours).receiver s (even, odd));
+  sender = λ hosts moments addresses run time a b ours s even odd.
       subst (λ (x : Side). HasEnd (origin_in (crossings_of moments) b a) s.send s.receive (pair_with a (program b moments).peers) x.end) (sym (sender_half s a b (law_events moments)))
-      ((tied hosts moments addresses run time a b).sender s (even, odd));
-  partners = λ hosts moments addresses run time a b s.
-      safe_run (events_at s (steps a b (law_events moments))) (run_at s (steps a b (law_events moments)) (tied hosts moments addresses run time a b).steps);
+      ((tied hosts moments addresses run time a b ours).sender s (even, odd));
+  partners = λ hosts moments addresses run time a b ours s.
+      safe_run (events_at s (steps a b (law_events moments))) (run_at s (steps a b (law_events moments)) (tied hosts moments addresses run time a b ours).steps);
 }

@@ -4,7 +4,7 @@ use Rattle.world_script.specs.WorldScript.{AskFor}
 use Rattle.world_script.proofs.events.read_world_script.Given as goal
 
 abbrev pub invariant-lines : goal.invariant-lines
-invariant-lines l = (drop l.passed (lines_of l.text) ≡ lines_after l.rest) × AskFor l.events.items (take l.passed (lines_of l.text)) × (length l.text ≤ 1048576)
+invariant-lines l = (drop l.passed (lines_of l.text) ≡ lines_after l.rest) × AskFor l.events.items (take l.passed (lines_of l.text)) × (length l.text ≤ 268435456)
 
 abbrev pub decreases-lines : goal.decreases-lines
 decreases-lines l = length (lines_after l.rest)

@@ -16,7 +16,7 @@ pub overflow_add-result : goal.overflow_add-result
 overflow_add-result c =
     let before : c.lines.passed < length (lines_of c.args.text.now) = length_next c.lines.passed (lines_of c.args.text.now) (lines_after c.first_line.result.1) c.first_line.result.0.now (c.lines.invariant.0 ∙ ap lines_after c.in-Some.is ∙ c.first_line.ensures.lines) in
     let most : length (lines_of c.args.text.now) ≤ length c.args.text.now + 1 = line_count c.args.text.now in
-    let few : length c.args.text.now ≤ 1048576 = c.lines.invariant.2 in
+    let few : length c.args.text.now ≤ 268435456 = c.lines.invariant.2 in
     omega arith
 
 pub returns-in_default-2 : goal.returns-in_default-2
@@ -27,7 +27,7 @@ pub overflow_add-passed : goal.overflow_add-passed
 overflow_add-passed c =
     let before : c.lines.passed < length (lines_of c.args.text.now) = length_next c.lines.passed (lines_of c.args.text.now) (lines_after c.first_line.result.1) c.first_line.result.0.now (c.lines.invariant.0 ∙ ap lines_after c.in-Some.is ∙ c.first_line.ensures.lines) in
     let most : length (lines_of c.args.text.now) ≤ length c.args.text.now + 1 = line_count c.args.text.now in
-    let few : length c.args.text.now ≤ 1048576 = c.lines.invariant.2 in
+    let few : length c.args.text.now ≤ 268435456 = c.lines.invariant.2 in
     omega arith
 
 pub lines-preserved : goal.lines-preserved

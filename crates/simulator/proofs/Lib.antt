@@ -1,0 +1,6 @@
+pub mod Common
+mod InCalm
+mod Jobs
+mod Recorded
+mod Traces
+mod WorkedPrograms

@@ -1,0 +1,15 @@
+use Rattle.simulator.proofs.Common.{ap, ◌∙◌, IsScriptOf, length}
+use Rattle.simulator.proofs.Traces.MixedTraced.{mixed_fit}
+use Rattle.simulator.proofs.mixed_tracing.read_mixed_scripted.Goals as goal
+
+pub returns-clause-read : goal.returns-clause-read
+returns-clause-read c =
+    let script = c.in-Some.script.now in
+    let parted : IsScriptOf c.args.octets.now script = record { document = _; parted = c.in-Some.ensures.parted } in
+    record {
+      script = script;
+      input = c.in-Ok.ensures.read;
+      parted = parted;
+      numbered = c.in-Ok-event_lines.ensures;
+      fits = ap length c.in-Ok-event_lines.ensures ∙ mixed_fit c.args.octets.now script c.in-Ok.input.network c.in-Ok.input.events.items c.in-Ok.ensures.read parted;
+    }

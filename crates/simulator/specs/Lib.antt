@@ -1,0 +1,6 @@
+pub mod Traced
+pub mod MixedTraced
+pub mod Recorded
+pub mod Program
+pub mod WorkedSides
+pub mod Laws

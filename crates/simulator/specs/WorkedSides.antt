@@ -1,0 +1,40 @@
+-- Words for worked rows of the whole program: what its reader and its writer show, and ends that it doesn't have.
+use Rattle.std.specs.Prelude.{true, false, List, [], ◌∷◌, ℕ, Option, Some, Result, Err, codes}
+use Rattle.simulator.specs.Program.{EndsTask, Sides, sides}
+use Rattle.command_line.specs.declared.fault.ScriptFault.TheVariants as script
+use Rattle.command_line.specs.declared.options.Options.{Options}
+use Rattle.command_line.specs.declared.options.Task.{Task}
+use Rattle.simulator.specs.declared.program.Done.{Done}
+use Rattle.simulator.specs.declared.program.ProgramFault.{ProgramFault}
+use Rattle.simulator.specs.declared.program.ProgramFault.TheVariants as fault
+
+-- nothing was to be read, and these octets are written
+abbrev pub wrote : List ℕ → Sides
+wrote octets = sides (Some []) (Some []) false (Some []) (Some octets)
+
+-- these octets are left to be read, and nothing is written
+abbrev pub unread : List ℕ → Sides
+unread octets = sides (Some octets) (Some octets) false (Some []) (Some [])
+
+-- this octet is read, and nothing is written
+abbrev pub drained : ℕ → Sides
+drained x = sides (Some (x ∷ [])) (Some []) false (Some []) (Some [])
+
+-- no option, and only `--check`
+abbrev pub no_options : Options
+no_options = record { book = false; check = false; texts = false }
+
+abbrev pub only_check : Options
+only_check = record { book = false; check = true; texts = false }
+
+-- memory ran out
+abbrev pub out_of_memory : Result Done ProgramFault
+out_of_memory = Err (fault.Script script.OutOfMemory)
+
+-- the task never ends so, whatever else the words are
+abbrev pub Never : Task → Sides → Result Done ProgramFault → Type 0
+Never task s r = (options : Option Options) → EndsTask (Some task) options s r → ⊥
+
+-- the output of a host that starts
+abbrev pub starts : List ℕ
+starts = codes "up 0/1\nend\n"

@@ -1,0 +1,77 @@
+//! What traces and the whole program promise, as laws over their definitions. The functions here do
+//! nothing: their clauses are the laws.
+
+ghost use Rattle.std.specs.Prelude.{◌≡◌, ℕ, Bool, true, false, List, [], ◌∷◌, length};
+ghost use Rattle.std.specs.Prelude.{Ok, Err, Some, None, codes};
+ghost use Rattle.simulator.specs.Laws.{OneTrace};
+ghost use Rattle.simulator.specs.Program.{Closes, EndsTask, Sides};
+ghost use Rattle.simulator.specs.Recorded.{PrintsTrace, recorded_text, unforgotten};
+ghost use Rattle.simulator.specs.WorkedSides.{Never, starts};
+ghost use Rattle.simulator.specs.WorkedSides.{drained, no_options, only_check, out_of_memory, unread, wrote};
+ghost use Rattle.command_line.specs.declared.auditing.AuditFault.TheVariants as unlogged;
+ghost use Rattle.command_line.specs.declared.fault.ScriptFault.TheVariants as script;
+ghost use Rattle.command_line.specs.declared.options.Task.TheVariants as task;
+ghost use Rattle.simulator.specs.declared.program.Done.TheVariants as did;
+ghost use Rattle.simulator.specs.declared.program.ProgramFault.TheVariants as fault;
+ghost use Rattle.command_line.specs.declared.verdict.Verdict.{Verdict};
+
+/// The input determines its trace, of which a part is written where memory runs out; and a plain output has the lines
+/// that its trace has as printed.
+pub fn one_trace()
+    ensures { OneTrace }
+{}
+
+/// Outputs that a trace does not have.
+pub fn worked_traces()
+    // the line of a crossing, where the trace has its first line only
+    ensures swallowed { (book : Bool) (opening trace : List ℕ) → PrintsTrace book starts trace (opening ∷ []) → ⊥ }
+
+    // a trace without its first line
+    ensures none { (book : Bool) (out trace : List ℕ) → PrintsTrace book out trace [] → ⊥ }
+
+    // no line of an event that printed something, where the trace has one
+    ensures left_out { (book : Bool) (opening trace : List ℕ) → PrintsTrace book (codes "end\n") trace (opening ∷ recorded_text unforgotten ∷ []) → ⊥ }
+
+    // whatever the output: no line of the trace has swallowed another one
+    ensures one_each { (book : Bool) (out opening trace : List ℕ) (lines : List (List ℕ)) (h : PrintsTrace book out trace (opening ∷ lines)) → length h.recorded ≡ length lines }
+{}
+
+/// Ends that the program does not have.
+pub fn worked_programs()
+    // memory ran out, and something is written of a log, of an audit, or of an input that is only read
+    ensures log_memory { (x : ℕ) → Never task.Log (wrote (x ∷ [])) out_of_memory }
+    ensures audit_memory { (x : ℕ) → Never task.Audit (wrote (x ∷ [])) (Err (fault.Audit unlogged.OutOfMemory)) }
+    ensures check_memory { (x : ℕ) → EndsTask None (Some only_check) (wrote (x ∷ [])) out_of_memory → ⊥ }
+
+    // an input that is only read, of which something else is written
+    ensures not_ok { EndsTask None (Some only_check) (wrote (codes "end\n")) (Ok did.Written) → ⊥ }
+
+    // a log and a trace that are not written, and an audit that leaves octets
+    ensures no_log { Never task.Log (wrote []) (Ok did.Written) }
+    ensures no_trace { Never task.Trace (wrote []) (Ok did.Written) }
+    ensures left { (v : Verdict) (x : ℕ) → Never task.Audit (unread (x ∷ [])) (Ok (did.Audited v)) }
+
+    // help that is not written, and words that ask for nothing taken for a replay
+    ensures no_help { Never task.Help (wrote []) (Ok did.Written) }
+    ensures not_refused { (s : Sides) → EndsTask None None s (Ok did.Written) → ⊥ }
+
+    // what was written is held back when memory runs out, and something is written before a bad line is found
+    ensures held_back { Closes out_of_memory false false false ⊥ → ⊥ }
+    ensures left_written { (line : ℕ) → Closes (Err (fault.Script (script.BadLine line))) false false true ⊥ → ⊥ }
+{}
+
+/// Ends that report no failure, or a wrong one.
+pub fn worked_failures()
+    // a read and a write failed, and the program ends as if it were done; and none failed, and one is reported
+    ensures unread { Closes (Ok did.Written) true false true ⊥ → ⊥ }
+    ensures unwritten { Closes (Ok did.Written) false true true ⊥ → ⊥ }
+    ensures no_read { Closes (Err (fault.Script script.CannotRead)) false false true (Unit {0}) → ⊥ }
+    ensures no_write { Closes (Err (fault.Audit unlogged.CannotWrite)) false false true (Unit {0}) → ⊥ }
+
+    // help after something was read, and a replay that prints nothing
+    ensures reads_first { (x : ℕ) → Never task.Help (drained x) (Err (fault.Script script.CannotWrite)) }
+    ensures no_output { EndsTask None (Some no_options) (wrote []) (Ok did.Written) → ⊥ }
+
+    // options that were read are not refused
+    ensures good_words { (s : Sides) → EndsTask None (Some no_options) s (Err (fault.Script script.BadOptions)) → ⊥ }
+{}
