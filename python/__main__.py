@@ -21,6 +21,7 @@ COMMANDS = {
     "export": "dorydate.export.command:main",
     "keep-unproved": "workshop.builds.keeping:main",
     "keep-wasm": "workshop.builds.pages:main",
+    "keeps": "dorydate.contract.command:main",
     "live": "dorydate.live.command:main",
     "measure": "workshop.commands:measure",
     "optimised": "workshop.builds.optimised:main",

@@ -24,7 +24,7 @@ SECONDS = 10.0  # so long may a program take to answer a line, whatever it says 
 MOST_LINES = 100  # messages that it answers to one thing that it hears, and to refusals of these
 MOST_ANSWERS = 1_000  # lines of an answer
 MOST_OCTETS = 20_000  # of a line: the longest message has some 2,050
-MOST_TAKEN = 1_000  # things that it takes one after the other
+MOST_TAKEN = 200  # things that it takes one after the other
 
 
 class Speaks(Protocol):

@@ -33,6 +33,6 @@ def reached(imp: int, printed: Iterable[str]) -> set[int]:
 
 
 def before_a_start(imp: int, unanswered: Iterable[Flow], known: Iterable[int]) -> list[Event]:
-    """What is given up and forgotten before an IMP may start: what waits for hosts there, and its numbers at IMPs that know them."""
+    """What is given up and forgotten before an IMP may start: what waits for its hosts, and its numbers elsewhere."""
     asked: list[Event] = [GiveUp(flow) for flow in unanswered if flow.destination.imp == imp]
     return asked + [Forget(other, imp) for other in sorted(known)]

@@ -26,6 +26,7 @@ from dorydate.where import found
 from dorydate.script import BadLine, Calm, Flow, Script, Text
 from dorydate.state import folded
 from dorydate.trace import records
+from workshop.tools import absence
 
 ROOT = Path(__file__).resolve().parents[2]
 REFUSED = {"a-bad-line", "an-unknown-event"}  # examples of scripts that the program refuses
@@ -136,7 +137,7 @@ def texts() -> list[str]:
     return [*map(control, COMMANDS), *(message(*it) for it in DATA), *(f"0 {it}" for it in WRONG), "7 40 0008000100", "7 47 000800010000"]
 
 
-@unittest.skipUnless(shutil.which("tshark"), "tshark is not installed (apt-get install tshark)")
+@unittest.skipUnless(shutil.which("tshark"), absence("tshark"))
 class Dissected(unittest.TestCase):
     """What Wireshark's tshark says, with the dissector of this package."""
 

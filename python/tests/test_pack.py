@@ -11,6 +11,7 @@ from typing import Dict
 
 from dorydate.explain.page import opened
 from workshop.parts import ROOT
+from workshop.tools import absence
 from workshop.wasm.pack import Refused, bare_style, hash_of, joined, page, read_octets, spell_octets, title_of
 
 NODE = shutil.which("node") or shutil.which("nodejs")
@@ -31,7 +32,7 @@ class Joined(unittest.TestCase):
                 file.write(text)
         return joined(f"{self.room.name}/main.js")
 
-    @unittest.skipUnless(NODE, "Node is absent")
+    @unittest.skipUnless(NODE, absence("Node"))
     def test_names_of_two_modules_never_meet(self) -> None:
         script = self.joined(
             {
@@ -58,7 +59,7 @@ class Joined(unittest.TestCase):
         self.assertIn('function f(){\nreturn 1;\n}\nf("/** kept */");\n', script)
         self.assertNotIn("Answers one", script)
 
-    @unittest.skipUnless(NODE, "Node is absent")
+    @unittest.skipUnless(NODE, absence("Node"))
     def test_spaces_in_texts_and_expressions_are_kept(self) -> None:
         texts = ['"a , b"', '"\\" = " + " ; "', "'a , b'", "`a , ${[1, 2]} ( b`", '"a , b,c".split(/ , | = /)', '"/ , "']
         others = ["1 > 0 ? .5 : [1, 2]", "3 - -1 + +1", '{ a: "b : c" }.a', "8 / 2 * 2", "((a, b = 2) => a * b)(3)"]
@@ -83,7 +84,7 @@ class Octets(unittest.TestCase):
         self.assertNotRegex(spell_octets(octets), "[<`]")
         self.assertEqual(read_octets(spell_octets(octets)), octets)
 
-    @unittest.skipUnless(NODE, "Node is absent")
+    @unittest.skipUnless(NODE, absence("Node"))
     def test_the_page_reads_what_is_spelled(self) -> None:
         rows = [random.Random(size).randbytes(size) for size in [*range(12), 3000]] + [b"\xff" * 7, bytes(7)]
         texts = json.dumps([spell_octets(it) for it in rows])

@@ -21,6 +21,7 @@ from dorydate.program import NoProgram, Program, TookTooLong
 from workshop.builds.manual import as_roff, manual, worded
 from workshop.builds.packages import archive
 from workshop.parts import ROOT
+from workshop.tools import absence
 
 BY_NODE = f"{ROOT}/web/run/arpasim.mjs"
 NOTHING = "[[imp]]\nid = 1\nhosts = 0\n%\n"
@@ -193,7 +194,7 @@ class Clones(unittest.TestCase):
         self.assertIn("nothing is released of these sources", line)
 
 
-@unittest.skipUnless(shutil.which("node"), "there is no Node")
+@unittest.skipUnless(shutil.which("node"), absence("Node"))
 class ByNodeTests(unittest.TestCase):
     """Runs of the released module, whatever sources it is of."""
 

@@ -54,7 +54,8 @@ class Read(unittest.TestCase):
         first, second = blocks_of(TEXT)
         self.assertEqual([row.call for row in first.rows()], ["route"])
         self.assertEqual(second.opening.answers, ["listen 7 32"])
-        self.assertEqual([(times, [row.line for row in rows]) for times, rows in second.parts], [(1, []), (3, [10]), (1, [13])])
+        lines = [(times, [row.line for row in rows]) for times, rows in second.parts]
+        self.assertEqual(lines, [(1, []), (3, [10]), (1, [13])])
 
     def test_a_call_without_an_answer_is_refused(self) -> None:
         self.assertEqual(unanswered("some", TEXT), ["some.rows, line 13: nothing is said of refused"])

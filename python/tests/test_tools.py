@@ -10,6 +10,7 @@ from contextlib import redirect_stdout
 from pathlib import Path
 from unittest import mock
 
+from workshop.builds import one
 from workshop.checks.edits import options, status_of
 from workshop.measure import gate
 from workshop.tools import NOTED, TOOLS, lacking, left_out
@@ -75,3 +76,14 @@ class EditsOfTheGate(unittest.TestCase):
     def test_none_tried_is_no_success(self) -> None:
         with redirect_stdout(io.StringIO()):
             self.assertEqual([status_of(it) for it in ([(2, 0)], [(2, 1)], [(0, 0)])], [0, 1, 1])
+
+
+class CheckOne(unittest.TestCase):
+    def test_what_stands_on_sources_is_read_from_sources(self) -> None:
+        lines: dict[str, list[str]] = {"a": [], "b": ["a"], "c": ["b"], "d": ["a", "std"]}
+        kept = mock.Mock(is_of_sources=lambda: True)
+        with mock.patch.object(one, "store", lambda: "/"), mock.patch.object(
+            one, "libraries_of", lambda crate: [] if crate == "b" else [kept]
+        ):
+            self.assertEqual([*one.chosen(lines, ["a", "b", "c", "d"], set())], ["a", "d"])
+            self.assertEqual([*one.chosen(lines, ["a", "b", "c", "d"], {"d"})], ["a"])

@@ -37,7 +37,7 @@ class Row:
 
 @dataclass
 class Block:
-    """The row that opens a layer, and those of calls on it: between `repeat COUNT` and `end` is a list with its count."""
+    """The row that opens a layer, and those of calls on it: between `repeat COUNT` and `end` is a list."""
 
     opening: Row
     parts: list[tuple[int, list[Row]]] = field(default_factory=list)

@@ -66,10 +66,15 @@ def left_out(check: str, what: str, why: str) -> None:
             file.write(f"{line}\n")
 
 
+def absence(name: str) -> str:
+    """That a tool isn't there, in words."""
+    (packages,) = (it.packages for it in TOOLS if it.name == name)
+    return f"{name} is not installed (apt-get install {packages})"
+
+
 def lacking(check: str, what: str, name: str) -> None:
     """Says, and notes for the gate, what a check leaves out for want of a tool."""
-    (packages,) = (it.packages for it in TOOLS if it.name == name)
-    left_out(check, what, f"{name} is not installed (apt-get install {packages})")
+    left_out(check, what, absence(name))
 
 
 def installed(tools: Iterable[Tool]) -> str:

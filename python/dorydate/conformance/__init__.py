@@ -4,8 +4,8 @@
 
 The program hears and answers lines (dorydate.coupling), however it is reached. In `DIALOGUES` it runs on a stranger's
 host of a proved subnet, beside a host with the proved program and a second stranger; in `UNDERWAY` over mailboxes, with
-answers held back and messages lost; in random worlds beside hosts that do whatever the contract allows. What is right is
-what docs/hosts.md says; where the Host/Host Protocol leaves a program free, as to answer an error or not, either is.
+answers held back and messages lost; in random worlds beside hosts that do whatever the contract allows. What is right
+is what docs/hosts.md says; where the Host/Host Protocol leaves a program free, as to answer an error, either is.
 """
 
 from dorydate.conformance.dialogues import DIALOGUES

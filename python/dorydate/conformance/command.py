@@ -2,8 +2,8 @@
 
 Starts COMMAND, with the host's name as one more word, for each dialogue and each random world, and says whether what it
 answers is right. With --script it prints what was done where that goes wrong: a script for ./explain, or the program's
-own log for `dorydate keeps`. With --log it also writes, of each dialogue over the proved subnet, a log in which the lives
-of the program are those that it reports, for `arpasim --audit`. The status is 0 if all is right, else 1.
+own log for `dorydate keeps`. With --log it also writes, of each dialogue over the proved subnet, a log in which the
+lives of the program are those that it reports, for `arpasim --audit`. The status is 0 if all is right, else 1.
 """
 
 from __future__ import annotations

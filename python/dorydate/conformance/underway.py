@@ -93,7 +93,7 @@ UNDERWAY = (
         *RESET, user(f"echo {HERE} 1", "ECO 1"), peer("RST"), user(f"echo {HERE} 2"), answer("rfnm", "0", "RRP"),
         answer("rfnm", "0", "ECO 2", ""),
     )),
-    Dialogue("resets that cross", "an RST that comes while one's own is out is answered, and the own one needs its RRP", (
+    Dialogue("resets that cross", "an RST that comes while one's own is out is answered, and both need an RRP", (
         user(f"contact {HERE}", "RST"), peer("RST"), answer("rfnm", "0", "RRP"), answer("rfnm", "0"),
         peer("RRP"), user(f"echo {HERE} 6", "ECO 6"),
     )),
@@ -179,5 +179,5 @@ class UnderWay:
 
 
 def tried_underway(program: Speaks, dialogue: Dialogue) -> Finding | None:
-    """Has a dialogue with things under way: what is wrong with a program that has just started, None where nothing is."""
+    """Has a dialogue with things under way with a program that has just started: what is wrong, if anything is."""
     return UnderWay(program, dialogue).finding()

@@ -97,7 +97,7 @@ class Coming(State):
         self.may_open(end)
 
     def has_no_use(self, pair: Pair, link: int) -> bool:
-        """Whether an RTS is ignored for its link, where nobody says: no connection has it, or an end here that has asked.
+        """Whether an RTS is ignored for its link, where nobody says: no connection has it, or an end here that asked.
         Of an end that hasn't asked nobody knows whether it is about to refuse, and then it has no link."""
         other = pair.on(link, False)
         return link not in LINKS or other is not None and other.asked is not None

@@ -1,7 +1,7 @@
 """The lives of a program that says its notices: a log of its network in which it is judged as the proved program is.
 
-A life is what the program notified its user of: when it opened, what arrived, what came back and how it ended. What it sent is
-what went out on the connection's link. So a program that says something else than crossed has a life that is broken.
+A life is what the program notified its user of: when it opened, what arrived, what came back and how it ended. What it
+sent is what went out on the connection's link. So a program that says something else than crossed has a broken life.
 """
 
 from __future__ import annotations

@@ -4,7 +4,9 @@ tools/check-one CRATE [--from CLONE] [WORDS FOR THE CHECKER ..]
 After an `rt ci`, plain `rt check` in a fresh clone proves each crate below anew. Here the crate is checked over the
 libraries that `rt ci` keeps beside the kit: of each crate below the newest whose definitions and clauses are those of
 this clone. A crate of which none is kept is read from its sources, as is each above it; these are named first, and
-`--only` should then name what is to be checked. What a check finds is kept in out/one/, and the next one begins with it.
+`--only` should then name what is to be checked. Over sources more is in scope, so that a goal which `search` answers over
+libraries may meet its limits: what is proved so is proved, and what isn't is to be seen over libraries. What a check
+finds is kept in out/one/, and the next one begins with it.
 
 Kit 13b keeps nothing beside it. There `--from CLONE` takes the libraries that an `rt ci` left in another clone, while
 it still runs, too: of each crate whose sources are those of this clone, with all below it.
@@ -115,15 +117,16 @@ def libraries_of(crate: str) -> list[Library]:
     return sorted((Library(crate, f"{store()}/{it}") for it in found), key=lambda it: -os.stat(it.folder).st_mtime)
 
 
-def chosen(lines: dict[str, list[str]], needed: list[str]) -> dict[str, Library]:
-    """A library for each of these crates that has one, as have all below it. Each of `needed` comes after those below it."""
+def chosen(lines: dict[str, list[str]], needed: list[str], unusable: set[str]) -> dict[str, Library]:
+    """A library for each of these crates that has a usable one, as have all below it. Each of `needed` comes after those
+    below it."""
     if not os.path.isdir(store()):
         sys.exit("check-one: this kit keeps no libraries; --from CLONE takes those that `rt ci` left in a clone")
     found: dict[str, Library] = {}
     for crate in needed:
         fitting = (it for it in libraries_of(crate) if it.is_of_sources())
         is_over_others = all(below in found for below in lines[crate] if below in lines)
-        if is_over_others and (library := next(fitting, None)):
+        if crate not in unusable and is_over_others and (library := next(fitting, None)):
             found[crate] = library
     return found
 
@@ -174,19 +177,37 @@ def main() -> int:
     lines = {name: below.split() for name, below in lines_of_crates().items()}
     if crate not in lines:
         sys.exit(f"check-one: crates.txt has no crate {crate}")
+    unusable: set[str] = set()
+    while True:
+        status, crates = checked(crate, lines, words, unusable)
+        if not crates - unusable:
+            return status
+        unusable |= crates
+        print(f"check-one: once more, without libraries of {' '.join(sorted(unusable))}", flush=True)
+
+
+def checked(crate: str, lines: dict[str, list[str]], words: list[str], unusable: set[str]) -> tuple[int, set[str]]:
+    """Checks a crate without some libraries. Gives the status, and the crates whose libraries the checker finds unusable:
+    those that were proved over another build of one below them."""
     room = f"{ROOT}/out/one"
     needed = [it for it in below_first(lines, crate) if it != crate]
     if "--from" in words:
         at = words.index("--from")
         built = left_in(os.path.abspath("".join(words[at + 1 : at + 2])), lines, needed)
-        del words[at : at + 2]
+        words = words[:at] + words[at + 2 :]
     else:
-        built = put_into(room, chosen(lines, needed))
+        built = put_into(room, chosen(lines, needed, unusable))
     if read := [it for it in needed if it not in built]:
         print(f"check-one: read from their sources: {' '.join(read)}", flush=True)
     os.makedirs(room, exist_ok=True)
     words = command(crate, lines, built, f"{room}/kept-{crate}", words)
-    return subprocess.run(words, cwd=f"{ROOT}/crates/{crate}", stdin=subprocess.DEVNULL, check=False).returncode
+    found: set[str] = set()
+    folder = f"{ROOT}/crates/{crate}"
+    with subprocess.Popen(words, cwd=folder, stdin=subprocess.DEVNULL, stderr=subprocess.STDOUT, stdout=subprocess.PIPE, text=True) as ran:
+        for line in ran.stdout or ():
+            print(line, end="", flush=True)
+            found |= {*re.findall(r"error\[unusable-built-library\]: the rlib of `(\w+)`", line)}
+    return ran.returncode, found
 
 
 def put_into(room: str, found: dict[str, Library]) -> dict[str, str]:

@@ -14,7 +14,7 @@ docs/PROVED.md names each clause after the path of its call, `CRATE::..::CALL`, 
 crates.txt names for each crate only others that its sources name. The version of the program is that of the package, the citation and the change log.
 
 The drawings of docs/pictures, the page of crates, the index of rules, the page of what must be believed and that of the package in Python have to be as they are made, the numbers in drawings as the sources have them, and
-no text of a drawing over another one or over a line. Figures in prose have to be those of their tables (workshop.documents.figures), and each crate's lines of
+no text of a drawing over another one or over a line. Figures in prose have to be those of their tables (workshop.documents.figures), and each crate's octets of
 .antt within its budget, which a commit raises only with a line that says what for (workshop.documents.budget). No lemma
 states what another lemma or one of std states, beyond those that do so already (workshop.documents.stated). Words of the house's dialect are counted against limits that can only fall
 (workshop.documents). With --write these and the page of planted bugs are made anew, and with --lower the limits are lowered to what is counted.

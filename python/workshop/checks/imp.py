@@ -2,11 +2,12 @@
 
 Compares one IMP with an independent model of its rules, on random calls.
 
-The proofs say that `Imp` does what its definitions say. Whether the definitions say what docs/imp.md says is for readers
-to judge; this script tries it as well. `Imp` in python/dorydate/model/imp.py was written from those rules, in another language and
-another form, with packets and frames spelled from the formats. Both run every call, and answers, frames and what the
-queries answer have to be the same. The same calls are made each time. So are those on whole networks of route tables, of up to 63 IMPs,
-that exchange their distances (`settle`): each has to end as python/dorydate/model/tables.py counts.
+The proofs say that `Imp` does what its definitions say. Whether the definitions say what docs/imp.md says is for
+readers to judge; this script tries it as well. `Imp` in python/dorydate/model/imp.py was written from those rules, in
+another language and another form, with packets and frames spelled from the formats. Both run every call, and answers,
+frames and what the queries answer have to be the same. The same calls are made each time. So are those on whole
+networks of route tables, of up to 63 IMPs, that exchange their distances (`settle`): each has to end as
+python/dorydate/model/tables.py counts.
 
 First the model answers the stored rows (cases/calls) of IMPs and of tables. The calls are made by tools/calls,
 built without proofs (workshop.builds.drivers): ./check imp [RUNS]
@@ -170,7 +171,8 @@ class Chance:
             yield call, reading.answers(call, [])
             flow = self.flow(self.random.choice((0, 1, 0.5)))
             words = spell_flow(flow)
-            for query in (f"query {words} {self.imp.last.get(flow) or 0}", f"kept {words}", f"awaits {flow.destination.imp}"):
+            last = self.imp.last.get(flow) or 0
+            for query in (f"query {words} {last}", f"kept {words}", f"awaits {flow.destination.imp}"):
                 yield query, reading.answers(query, [])
 
 

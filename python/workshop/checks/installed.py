@@ -172,7 +172,7 @@ def check_forms(folder: str) -> list[str]:
             if file is None:
                 continue
             if not shutil.which(form.command):
-                left_out("release", form.what, f"there is no {form.command}")
+                left_out("release", form.what, f"{form.command} is not installed")
                 left.append(form.what)
                 continue
             with tempfile.TemporaryDirectory() as room:

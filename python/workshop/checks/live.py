@@ -275,5 +275,5 @@ def main() -> int:
         if 2 * done < len(outcomes):
             wrong.append(f"only {done} dialogues were done in the weather of {len(outcomes)} seeds")
     print(*wrong, sep="\n", end="\n" if wrong else "")
-    print(f"check live: {len(wrong)} wrong" if wrong else "check live: each session is its replay, and its book is kept")
+    print(f"check live: {len(wrong)} wrong" if wrong else "check live: each session is its replay; its book is kept")
     return 1 if wrong else 0

@@ -1,8 +1,9 @@
-"""Each crate has a budget of lines of .antt, and lines of over 120 columns can only become fewer.
+"""Each crate has a budget of octets of .antt, and lines of over 120 columns can only become fewer.
 
-docs/measured/budget.json has for each crate a list of amounts, each with what it is for; their sum is the budget. So a commit that needs more
-adds an amount, and says what it buys. `./check docs --lower` takes off what isn't used any more. For each kind of source it has how many lines of
-over 120 columns there may be.
+Octets are counted without comments and blank lines; lines are printed, and not bound. docs/measured/budget.json has what
+each crate may have, and what a crate may have besides, each with what that is for: so a commit that needs more adds a
+line to `more`, and says what it buys. `./check docs --lower` takes off what isn't used any more. For each kind of
+source the file has how many lines of over 120 columns there may be.
 """
 
 from __future__ import annotations
@@ -10,6 +11,9 @@ from __future__ import annotations
 import glob
 import json
 import os
+import re
+from collections.abc import Iterator, Mapping, Sequence
+from dataclasses import dataclass, field
 
 from workshop.documents.crates_page import needs
 from workshop.parts import ROOT, text_of
@@ -17,16 +21,55 @@ from workshop.parts import ROOT, text_of
 KEPT = f"{ROOT}/docs/measured/budget.json"
 COLUMNS = 120
 WIDE = {".antt": "crates/*/**/*.antt", ".rt": "crates/*/**/*.rt", ".py": "python/**/*.py"}
-Amounts = list[tuple[int, str]]
+COMMENT = re.compile(r"(?:^|(?<=\s))--(?=\s|$).*")
+More = tuple[str, int, str]  # a crate, octets, and what they are for
+
+
+@dataclass(frozen=True)
+class Budget:
+    """What there may be: octets of each crate, what some may have besides, and wide lines of each kind of source."""
+
+    octets: Mapping[str, int] = field(default_factory=dict)
+    more: Sequence[More] = ()
+    wide: Mapping[str, int] = field(default_factory=dict)
+
+    def of(self, crate: str) -> int:
+        return self.octets.get(crate, 0) + sum(many for name, many, _ in self.more if name == crate)
+
+    def over(self, octets: Mapping[str, int], columns: Mapping[str, int]) -> Iterator[str]:
+        """The crates and kinds of sources that have more, and amounts that say nothing."""
+        yield from (f"{crate}: {many:,} octets of its budget don't say what for" for crate, many, what in self.more if not what.strip())
+        for crate, many in octets.items():
+            if many > (may := self.of(crate)):
+                yield f"{crate}: {many:,} octets of .antt, and its budget is {may:,}: add to `more` in docs/measured/budget.json what {many - may:,} octets are for"
+        for kind, many in columns.items():
+            if many > (may := self.wide.get(kind, 0)):
+                yield f"{kind}: {many:,} lines of over {COLUMNS} columns, of at most {may:,}"
+
+    def lowered(self, octets: Mapping[str, int], columns: Mapping[str, int]) -> Budget:
+        """The budget without what isn't used; what a crate may have besides stays. One without a budget gets what it has."""
+        first = {it: min(self.octets[it], many - self.of(it) + self.octets[it]) if it in self.octets else many for it, many in octets.items()}
+        return Budget(first, self.more, {kind: min(many, self.wide.get(kind, many)) for kind, many in columns.items()})
+
+    def written(self) -> str:
+        octets = ",\n".join(f"  {json.dumps(crate)}: {many}" for crate, many in self.octets.items())
+        more = ",".join(f"\n  {json.dumps(it)}" for it in self.more)
+        return f'{{\n "octets": {{\n{octets}\n }},\n "more": [{more}\n ],\n "wide": {json.dumps(self.wide)}\n}}\n'
 
 
 def sources(pattern: str) -> list[str]:
     return [it for it in glob.glob(f"{ROOT}/{pattern}", recursive=True) if "/out/" not in it]
 
 
+def octets_of(text: str) -> int:
+    """The octets of a source without its comments and blank lines."""
+    lines = (COMMENT.sub("", it).rstrip() for it in text.split("\n"))
+    return sum(len(it.encode()) + 1 for it in lines if it)
+
+
 def counted() -> dict[str, int]:
-    """The lines of .antt that each crate has."""
-    return {crate: sum(text_of(it).count("\n") for it in sources(f"crates/{crate}/**/*.antt")) for crate in needs()}
+    """The octets of .antt that each crate has."""
+    return {crate: sum(octets_of(text_of(it)) for it in sources(f"crates/{crate}/**/*.antt")) for crate in needs()}
 
 
 def wide() -> dict[str, int]:
@@ -34,47 +77,25 @@ def wide() -> dict[str, int]:
     return {kind: sum(1 for path in sources(pattern) for line in text_of(path).split("\n") if len(line) > COLUMNS) for kind, pattern in WIDE.items()}
 
 
-def kept() -> tuple[dict[str, Amounts], dict[str, int]]:
-    """What each crate may have, amount by amount, and how many wide lines there may be."""
+def kept() -> Budget:
+    if not os.path.exists(KEPT):
+        return Budget()
     found = json.loads(text_of(KEPT))
-    return {crate: [(int(many), str(what)) for many, what in amounts] for crate, amounts in found["lines"].items()}, found["wide"]
-
-
-def over(lines: dict[str, int], budget: dict[str, Amounts], columns: dict[str, int], most: dict[str, int]) -> list[str]:
-    """The crates that have more lines than their budgets, amounts that say nothing, and kinds of sources with more wide lines."""
-    found = [f"{crate}: an amount of its budget doesn't say what for" for crate, amounts in budget.items() for _, what in amounts if not what.strip()]
-    for crate, many in lines.items():
-        if many > (may := sum(amount for amount, _ in budget.get(crate, []))):
-            found.append(f"{crate}: {many:,} lines of .antt, and its budget is {may:,}: add an amount to docs/measured/budget.json that says what {many - may:,} lines are for")
-    return found + [f"{kind}: {many:,} lines of over {COLUMNS} columns, of at most {most.get(kind, 0):,}" for kind, many in columns.items() if many > most.get(kind, 0)]
+    return Budget(found["octets"], [(crate, many, what) for crate, many, what in found["more"]], found["wide"])
 
 
 def faults() -> list[str]:
-    if not os.path.exists(KEPT):
-        return ["docs/measured/budget.json: not there (./check docs --lower)"]
-    budget, most = kept()
-    return over(counted(), budget, wide(), most)
+    return [*kept().over(counted(), wide())]
 
 
 def summary() -> str:
-    return f"{sum(counted().values()):,} lines of .antt in {len(counted())} crates; over {COLUMNS} columns: " + ", ".join(f"{many:,} of {kind}" for kind, many in wide().items())
-
-
-def lowered(lines: dict[str, int], budget: dict[str, Amounts]) -> dict[str, Amounts]:
-    """Budgets without what isn't used: the first amount of each crate gives way. A crate without a budget gets what it has."""
-    found = {}
-    for crate, many in lines.items():
-        first, *later = budget.get(crate) or [(many, "what the crate had when it got a budget")]
-        spare = sum(amount for amount, _ in (first, *later)) - many
-        found[crate] = [(first[0] - max(spare, 0), first[1]), *later]
-    return found
+    lines = sum(text_of(it).count("\n") for it in sources(WIDE[".antt"]))
+    columns = ", ".join(f"{many:,} of {kind}" for kind, many in wide().items())
+    return f"{sum(counted().values()):,} octets of .antt in {lines:,} lines of {len(needs())} crates; over {COLUMNS} columns: {columns}"
 
 
 def lower() -> None:
     """Writes what is used as what may be, where that is less."""
-    budget, most = kept() if os.path.exists(KEPT) else ({}, {})
-    now = wide()
-    amounts = ",\n".join(f"  {json.dumps(crate)}: {json.dumps(several)}" for crate, several in lowered(counted(), budget).items())
-    columns = json.dumps({kind: min(many, most.get(kind, many)) for kind, many in now.items()})
+    found = kept().lowered(counted(), wide())
     with open(KEPT, "w", encoding="utf-8") as file:
-        file.write(f'{{\n "lines": {{\n{amounts}\n }},\n "wide": {columns}\n}}\n')
+        file.write(found.written())

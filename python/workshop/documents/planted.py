@@ -9,6 +9,7 @@ from __future__ import annotations
 
 import json
 import os
+import threading
 from collections.abc import Iterator, Sequence
 from datetime import date
 
@@ -25,6 +26,7 @@ HEAD = (
     "|---|---|---|---|---|---|\n"
 )
 UNTRIED = "\nNot seen refused:\n\n"
+NOTING = threading.Lock()  # several crates are tried at once
 # of each crate its planted bugs, each with the day on which it was refused and the digest of its text
 Results = dict[str, dict[str, tuple[str, str]]]
 
@@ -49,13 +51,14 @@ def write_results(found: Results) -> None:
 
 def note(crate: str, refused: Sequence[Edit], failed: Sequence[Edit] = ()) -> None:
     """Writes down which planted bugs of a crate were refused today, and which weren't. Those that are gone go."""
-    found = results()
     today, there = date.today().isoformat(), {it.title for it in edits_of(crate)}
-    noted = found.get(crate, {}) | {it.title: (today, it.digest) for it in refused}
     gone = {it.title for it in failed}
-    found[crate] = {name: kept for name, kept in noted.items() if name in there and name not in gone}
-    write_results(found)
-    write()
+    with NOTING:
+        found = results()
+        noted = found.get(crate, {}) | {it.title: (today, it.digest) for it in refused}
+        found[crate] = {name: kept for name, kept in noted.items() if name in there and name not in gone}
+        write_results(found)
+        write()
 
 
 def untried(crate: str, found: Results) -> list[str]:

@@ -273,17 +273,27 @@ class Figures(unittest.TestCase):
 
 
 class Budget(unittest.TestCase):
+    def test_octets_are_counted_without_comments_and_blank_lines(self) -> None:
+        self.assertEqual(budget.octets_of("-- what it is\n\nf : ℕ -- a number\nf = a--b\n"), len("f : ℕ\nf = a--b\n".encode()))
+
     def test_a_crate_over_its_budget_is_named(self) -> None:
-        self.assertEqual(budget.over({"a": 12}, {"a": [(10, "what it had"), (2, "a law")]}, {".rt": 3}, {".rt": 3}), [])
-        (fault,) = budget.over({"a": 13}, {"a": [(10, "what it had"), (2, "a law")]}, {}, {})
-        self.assertIn("a: 13 lines of .antt, and its budget is 12", fault)
-        self.assertEqual(len(budget.over({"a": 1}, {}, {}, {})), 1)
+        found = budget.Budget({"a": 10}, [("a", 2, "a law")], {".rt": 3})
+        self.assertEqual([*found.over({"a": 12}, {".rt": 3})], [])
+        (fault,) = found.over({"a": 13}, {})
+        self.assertIn("a: 13 octets of .antt, and its budget is 12", fault)
+        self.assertEqual(len([*budget.Budget().over({"a": 1}, {})]), 1)
 
     def test_an_amount_without_a_reason_and_more_wide_lines_are_named(self) -> None:
-        self.assertEqual(budget.over({}, {"a": [(5, " ")]}, {".rt": 4}, {".rt": 3}), ["a: an amount of its budget doesn't say what for", ".rt: 4 lines of over 120 columns, of at most 3"])
+        found = budget.Budget({}, [("a", 5, " ")], {".rt": 3})
+        self.assertEqual(
+            [*found.over({}, {".rt": 4})],
+            ["a: 5 octets of its budget don't say what for", ".rt: 4 lines of over 120 columns, of at most 3"],
+        )
 
     def test_what_is_not_used_is_taken_off(self) -> None:
-        self.assertEqual(budget.lowered({"a": 9, "b": 4, "c": 3}, {"a": [(10, "what it had"), (2, "a law")], "b": [(4, "what it had")]}), {"a": [(7, "what it had"), (2, "a law")], "b": [(4, "what it had")], "c": [(3, "what the crate had when it got a budget")]})
+        more = [("a", 2, "a law")]
+        found = budget.Budget({"a": 10, "b": 4}, more, {".rt": 3}).lowered({"a": 9, "b": 5, "c": 3}, {".rt": 2})
+        self.assertEqual(found, budget.Budget({"a": 7, "b": 4, "c": 3}, more, {".rt": 2}))
 
 
 class Dead(unittest.TestCase):

@@ -106,6 +106,8 @@ export class MapView {
     /** Shows the part of the map that is looked at, arranged for the room that there is, with labels that can be read. */
     see() {
         const frame = this.measured();
+        const { activeElement: held } = document;
+        const key = held && this.svg.contains(held) ? held.getAttribute("data-part") : null;
         if (JSON.stringify(frame) !== JSON.stringify(this.frame)) {
             const { scale, map, isWhole } = this.port;
             const { x, y } = this.port.middle();
@@ -132,6 +134,16 @@ export class MapView {
             this.updateWays(this.scene);
             this.updateFrames(this.scene);
         }
+        if (key && !held?.isConnected) this.find(key)?.focus({ preventScroll: true });
+    }
+
+    /**
+     * The part with a key.
+     *
+     * @param {string} key
+     */
+    find(key) {
+        return this.parts().find((it) => it.getAttribute("data-part") === key);
     }
 
     /** How many times larger the letters of a map of dots are from near. */

@@ -81,8 +81,10 @@ export class Menu {
     close(giveBack) {
         if (this.element.hidden) return;
         this.element.hidden = true;
-        if (giveBack && this.from instanceof HTMLElement) this.from.focus();
-        else if (giveBack && this.from instanceof SVGElement) this.from.focus();
+        if (!giveBack) return;
+        const key = this.from?.getAttribute("data-part"); // a map that was arranged anew has another element for its part
+        const from = this.from?.isConnected || !key ? this.from : document.querySelector(`#network [data-part="${key}"]`);
+        if (from instanceof HTMLElement || from instanceof SVGElement) from.focus();
     }
 
     /** @param {KeyboardEvent} event */

@@ -99,8 +99,8 @@ class Play:
                     break
                 self.world.do(host, Arrived(end.peer, *end.sockets))
 
-    def around(self, script: Acts, share: float) -> None:
-        """Most of a script happens, as far as it may, with other things between."""
+    def around(self, script: Acts, share: float, between: float) -> None:
+        """A share of a script happens, as far as it may, with other things between so often."""
         for host, act in script:
             if self.rng.random() >= share:
                 continue
@@ -108,7 +108,7 @@ class Play:
                 if not self.keepers[host].may(act, act.peer):
                     continue
             self.do(host, act)
-            if self.rng.random() < 0.15:
+            if self.rng.random() < between:
                 self.something()
 
 
@@ -121,7 +121,7 @@ def some_world(seed: int, lacks: Collection[str] = (), scripts: Sequence[Acts] =
     lacking = rng.choice(names) if lacks else None
     play = Play(rng, {it: lacks if it == lacking else () for it in names if it not in strange}, strange)
     if scripts:
-        play.around(rng.choice(scripts), rng.choice((0.85, 0.95, 1.0, 1.0)))
+        play.around(rng.choice(scripts), rng.choice((0.85, 0.95, 1.0, 1.0)), rng.choice((0.0, 0.15)))
     play.run(rng.choice((40, 150)) if scripts else STEPS)
     return play
 
