@@ -33,6 +33,7 @@ from dorydate.definitions.computing import (
 )
 from dorydate.definitions.files import Structure
 from dorydate.definitions.library import WORDS, Constant, Declared, Defined, Form, Library, Meaning, Typed, Word
+from dorydate.definitions.maps import MAPS, made
 from dorydate.definitions.terms import (
     Apply,
     Both,
@@ -57,16 +58,19 @@ from dorydate.definitions.terms import (
     arity,
     head_of,
 )
-from dorydate.definitions.values import FALSE, NIL, NONE, TRUE, Lambda, Value, applied, data, forget, listed
+from dorydate.definitions.values import FALSE, NIL, NONE, TRUE, Data, Lambda, Value, applied, data, forget, listed
 from dorydate.definitions.words import NATIVE
 
 Scope = frozenset[str]
 NO_NAMES: Scope = frozenset()
 PLAIN: dict[str, Value] = {"true": TRUE, "false": FALSE, "[]": NIL, "None": NONE, "zero": 0}
-FORMS = {"Some", "Ok", "Err", "∷", "inl", "inr"}
+FORMS = {"Some", "Ok", "Err", "∷", "inl", "inr", "pos", "negsuc"}
 INFIX_NAME = re.compile("◌(.*)◌")
 ARITHMETIC = ("+", "-", "*", "/", "%", "^")
-VALUE_TYPES = {"ℕ", "Bool", "List", "Option", "Result", "String", "Ordering", "Vec", "Width"}
+VALUE_TYPES = {"ℕ", "ℤ", "Bool", "List", "Option", "Result", "String", "Ordering", "Vec", "Width", "FinMap.FinMap"}
+
+
+TYPE = Data("a type", (), 0)  # nothing is computed of a type
 
 
 class Compiler:
@@ -77,9 +81,14 @@ class Compiler:
         self.functions: dict[tuple[str, str], Lambda | Expression] = {}
         self.memory: dict[tuple[object, ...], Value] = {}
         self.kinds: dict[tuple[str, str], bool] = {}
+        self.calls, self.most_calls = (
+            0,
+            0,
+        )  # how many definitions were computed since, and how many may be; 0 is any number
 
     def forget(self) -> None:
         """Forgets all values that were computed."""
+        self.calls = 0
         self.memory.clear()
         forget()
 
@@ -89,7 +98,7 @@ class Compiler:
         """The module's alias that a term is; nothing where it is none."""
         if isinstance(term, Name) and term.text not in scope:
             here = self.library.module(module)
-            if term.text in here.aliases and term.text not in here.names and term.text not in here.own:
+            if term.text in here.aliases:
                 return term.text
         return ""
 
@@ -99,6 +108,13 @@ class Compiler:
             return self.library.meaning(module, term.text)
         if isinstance(term, Field) and (alias := self.alias_of(term.of, module, scope)):
             return self.library.meaning(module, term.name, alias)
+        if (
+            isinstance(term, Field)
+            and isinstance(term.of, Name)
+            and term.of.text[0].isupper()
+            and term.of.text not in scope
+        ):
+            return Form(term.of.text, term.name)  # a constructor, by its type
         return None
 
     # ---- kinds of types
@@ -119,6 +135,8 @@ class Compiler:
         if isinstance(head, (Universe, Unknown)):
             return False
         meaning = self.meaning(head, module, scope)
+        if meaning is None and isinstance(head, Field):
+            return not head.name[0].isupper()  # what a field of a value says, unless it is a type
         if isinstance(meaning, (Declared, Word)):
             return isinstance(meaning, Word) and meaning.name not in VALUE_TYPES
         return self.is_statement_of(meaning)
@@ -194,7 +212,10 @@ class Compiler:
         if isinstance(term, Function):
             names: set[str] = set()
             patterns = [self.pattern(it.pattern, module, names) for it in term.parameters]
-            return Abstraction(patterns, self.expression(term.body, module, scope | names))
+            try:
+                return Abstraction(patterns, self.expression(term.body, module, scope | names))
+            except NotComputed:
+                return Saying(term, module, len(term.parameters))
         if isinstance(term, Let):
             names = set()
             pattern = self.pattern(term.pattern, module, names)
@@ -234,17 +255,23 @@ class Compiler:
             return Named(self, meaning)
         if isinstance(meaning, Constant):
             return Literal(self.declared_number(meaning))
-        raise NotComputed("a type is no value")
+        if isinstance(meaning, Typed) and self.is_statement_of(meaning):
+            return Saying(Name(meaning.structure.name), meaning.module, len(meaning.structure.binders))
+        return Literal(TYPE)
 
     def word(self, name: str) -> Expression:
         if name in PLAIN:
             return Literal(PLAIN[name])
+        if name in VALUE_TYPES or name in ("Unit", "⊥"):
+            return Literal(TYPE)
         if name in FORMS:
             return FormOf(name)
         if name == "suc":
             return Abstraction([Pattern("n")], Successor(Local("n")))
         if name in NATIVE:
             return Literal(NATIVE[name])
+        if name.startswith("FinMap.") and name != "FinMap.FinMap":
+            return OfMaps(name.removeprefix("FinMap."))
         if infix := INFIX_NAME.fullmatch(name):
             return Abstraction([Pattern("a"), Pattern("b")], self.operation(infix[1], Local("a"), Local("b")))
         raise NotComputed(f"the library's word {name}")
@@ -331,7 +358,10 @@ class Compiler:
             if meaning.module == WORDS and meaning.definition.name in NATIVE:
                 self.functions[key] = Literal(NATIVE[meaning.definition.name])
             elif taken:
-                self.functions[key] = Lambda(taken, Running(self, meaning).run, opens=self.opening(meaning))
+                found = Lambda(taken, Running(self, meaning).run, opens=self.opening(meaning))
+                if self.gives_statement(meaning.definition.type):
+                    found.says = Delayed(Name(meaning.definition.name), meaning.module, {}, None)
+                self.functions[key] = found
             else:
                 self.functions[key] = self.expression(meaning.definition.clauses[0].value, meaning.module, NO_NAMES)
         return self.functions[key]
@@ -353,6 +383,35 @@ class Compiler:
     def delayed(self, term: Term, module: str, scope: Scope, env: Env, is_statement: bool) -> Delayed:
         """A term to be computed, or looked at as a statement, when it is wanted."""
         return Delayed(term, module, env, None if is_statement else self.expression(term, module, scope))
+
+
+class Saying(Expression):
+    """A function that gives a statement, as a value."""
+
+    __slots__ = ("term", "module", "arity")
+
+    def __init__(self, term: Term, module: str, arity: int) -> None:
+        self.term, self.module, self.arity = term, module, arity
+
+    def value(self, env: Env) -> Value:
+        def run(*arguments: Value) -> Value:
+            raise NotComputed("a statement is no value")
+
+        found = Lambda(self.arity, run)
+        found.says = Delayed(self.term, self.module, env, None)
+        return found
+
+
+class OfMaps(Expression):
+    """A word of the library's maps."""
+
+    __slots__ = ("word",)
+
+    def __init__(self, word: str) -> None:
+        self.word = word
+
+    def value(self, env: Env) -> Value:
+        return made([]) if self.word == "empty" else MAPS[self.word]
 
 
 class Codes(Expression):
@@ -482,6 +541,9 @@ class Running:
             return memory[key]
         if self.clauses is None:
             self.clauses = self.made()
+        self.compiler.calls += 1
+        if 0 < self.compiler.most_calls < self.compiler.calls:
+            raise NotComputed("too many calls")
         for patterns, body in self.clauses:
             env: Env = {}
             if all([pattern.fits(it, env) for pattern, it in zip(patterns, arguments)]):

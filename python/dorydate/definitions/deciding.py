@@ -48,7 +48,7 @@ from dorydate.definitions.terms import (
     Term,
     head_of,
 )
-from dorydate.definitions.values import FALSE, TRUE, Data, Struct, Value, items_of
+from dorydate.definitions.values import FALSE, TRUE, Data, Lambda, Struct, Value, items_of
 
 MOST_NUMBERS = 100_000  # how many are tried of a number that is only said to be less than another
 
@@ -292,10 +292,17 @@ class OfName(Statement):
 
 
 class OfField(Statement):
-    """A statement that is a field of something that isn't known."""
+    """A statement that a field of a value gives, of some arguments."""
+
+    def __init__(self, decider: Decider, function: Expression, arguments: Sequence[Argument]) -> None:
+        self.decider, self.function, self.arguments = decider, function, arguments
 
     def moves(self, env: Env, evidence: Evidence | None) -> Iterator[Goals]:
-        raise Unbound
+        function = self.function.value(env)
+        if not isinstance(function, Lambda) or not isinstance(function.says, Delayed):
+            raise NotComputed("a field is no statement")
+        slots = [*function.before, *(it.slot(env) for it in self.arguments)]
+        return self.decider.of_term(function.says, slots, evidence)
 
 
 @dataclass(frozen=True)
@@ -431,9 +438,12 @@ class Decider:
             return OfName(self, head.text, [self.argument(it, module, scope, None) for it in given])
         if isinstance(head, Name) and head.text in ("Unit", "⊥"):
             return Fixed(head.text == "Unit")
+        if isinstance(head, Name) and head.text == "¬":
+            return Implied(self, [self.statement(given[0], module, scope)], Fixed(False))
         meaning = self.compiler.meaning(head, module, scope)
         if meaning is None and isinstance(head, Field):
-            return OfField()
+            function = self.compiler.expression(head, module, scope)
+            return OfField(self, function, [self.argument(it, module, scope, None) for it in given])
         return self.of_meaning(meaning, given, module, scope)
 
     def of_meaning(self, meaning: Meaning | None, given: Sequence[Term], module: str, scope: Scope) -> Statement:
@@ -444,14 +454,18 @@ class Decider:
         elif isinstance(meaning, Typed) and meaning.structure.is_record:
             types = [it.type for it in meaning.structure.binders if not it.implicit for _ in it.names]
         else:
-            raise NotComputed("a statement of another kind")
+            raise NotComputed(f"a statement of another kind: {meaning}"[:90])
         kinds = [*types, *[None] * len(given)]
         return Said(self, meaning, [self.argument(it, module, scope, type_) for it, type_ in zip(given, kinds)])
 
     def argument(self, term: Term, module: str, scope: Scope, type_: Term | None) -> Argument:
         """An argument of a statement, for something of this type."""
-        is_statement = type_ is not None and self.compiler.gives_statement(type_)
-        return Argument(term, module, None if is_statement else self.compiler.expression(term, module, scope))
+        if type_ is not None and self.compiler.gives_statement(type_):
+            return Argument(term, module, None)
+        try:
+            return Argument(term, module, self.compiler.expression(term, module, scope))
+        except NotComputed:
+            return Argument(term, module, None)  # a type, or a statement
 
     def of_operation(self, term: Operation, module: str, scope: Scope) -> Statement:
         if term.word == "⊎":

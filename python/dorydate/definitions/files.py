@@ -117,10 +117,10 @@ def indent_of(line: str) -> int:
 
 def blocks_of(lines: Sequence[Line]) -> Iterator[Block]:
     """The blocks of some lines: each begins at the least indentation."""
-    told = [(number, line) for number, line in lines if line.strip() and not line.strip().startswith("--")]
-    if not told:
+    lasting = [(number, line) for number, line in lines if line.strip() and not line.strip().startswith("--")]
+    if not lasting:
         return
-    least = min(indent_of(line) for _, line in told)
+    least = min(indent_of(line) for _, line in lasting)
     block: list[Line] = []
     comment: list[str] = []
     above: list[str] = []

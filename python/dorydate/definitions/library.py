@@ -50,6 +50,7 @@ class Form:
 
     type: str
     name: str
+    crate: str = ""
 
 
 @dataclass(frozen=True)
@@ -164,7 +165,7 @@ class Library:
         if "declared" in parts and parts[1] != "std":
             return declared(parts, name)
         if parts[1:2] == ["std"]:
-            return self.word(name)
+            return Word(f"{parts[-1]}.{name}") if parts[-1] == "FinMap" else self.word(name)
         if self.has(module):
             here = self.module(module)
             if name in here.own:
@@ -189,7 +190,7 @@ def declared(parts: list[str], name: str) -> Meaning:
     """What is declared in Rust: `Rattle.CRATE.specs.declared.FILE.TYPE`, its variants, or a file's constants."""
     crate, rest = parts[1], parts[parts.index("declared") + 1 :]
     if rest[-1] == "TheVariants":
-        return Form(rest[-2], name)
+        return Form(rest[-2], name, crate)
     if rest[-1] == "TheConstants":
         return Constant(crate, "/".join(rest[:-1]), name)
     return Declared(crate, "/".join(rest[:-1]), rest[-1])

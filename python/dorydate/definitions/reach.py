@@ -53,7 +53,7 @@ def terms_of(item: Definition | Structure) -> tuple[object, ...]:
 
 
 def meanings_in(library: Library, term: object, module: str) -> Iterator[Meaning]:
-    """What the names in a term mean. A local name may mean a definition too: that is one too many, never one too few."""
+    """What the names in a term mean. A local name may be that of a definition, too: one too many."""
     here = library.module(module)
     if isinstance(term, Name):
         if term.text in here.own or term.text in here.forms or term.text in here.names:

@@ -25,14 +25,16 @@ class Struct:
 
 
 class Lambda:
-    """A function, with the arguments that it has; and what opens a call of it, where a definition can be opened."""
+    """A function, with the arguments that it has; what opens a call of it, where a definition can be opened; and what
+    it says, where it gives a statement."""
 
-    __slots__ = ("arity", "run", "before", "opens")
+    __slots__ = ("arity", "run", "before", "opens", "says")
 
     def __init__(
         self, arity: int, run: Callable[..., Value], before: tuple[Value, ...] = (), opens: Any = None
     ) -> None:
         self.arity, self.run, self.before, self.opens = arity, run, before, opens
+        self.says: Any = None
 
 
 Value = Union[int, Data, Struct, Lambda]
@@ -105,7 +107,9 @@ def applied(function: Value, arguments: tuple[Value, ...]) -> Value:
             raise TypeError("what is applied is no function")
         missing = function.arity - len(function.before)
         if len(arguments) < missing:
-            return Lambda(function.arity, function.run, function.before + arguments)
+            partly = Lambda(function.arity, function.run, function.before + arguments)
+            partly.says = function.says
+            return partly
         function, arguments = function.run(*function.before, *arguments[:missing]), arguments[missing:]
     return function
 

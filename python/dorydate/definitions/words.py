@@ -131,7 +131,7 @@ NATIVE: dict[str, Value] = {
     "w32": 4,
     "w64": 8,
     "w128": 16,
-    "decimal": word(1, lambda value: listed(str(number(value)).encode())),
+    "decimal": word(1, lambda value: listed(str(number(value))[-64:].encode())),
     "count_by": word(2, lambda test, values: sum(holds(test, it) for it in members(values))),
     "tt": NIL,
 }

@@ -1,24 +1,64 @@
-"""A second reader of the promise: the judge of its definitions beside the audit (a minute).
+"""A second reader: definitions in Agda, worked rows, and the judge beside the audit (three minutes): ./check second [LOGS]
 
-Whoever doubts the prover may read the definitions with something else: ./check second
+Agda reads the definitions of the promise, with strangers and without, in a mechanical translation, and finds each well
+typed and each recursion ending. It is Debian's `agda-bin`; where there is none, that is said.
 
 The evaluator of `python/dorydate/definitions` knows how definitions compute and how a statement of given values is
-searched, and no rule of the network. It judges 1,000 logs, by hand, of the examples and of random books with strangers
-and without, and so does `--audit`: each part has to be the same.
+searched, and no rule of the network. It computes the worked rows of all crates, the clauses of functions `worked_..`;
+those that speak of all values of a type are counted. And it judges 1,000 logs, by hand, of the examples and of random
+books with strangers and without, as `--audit` does: each part has to be the same.
+
+./check second --mutants changes each definition of the promise in one word, in 20 ways, and prints which of these
+changes no row notices (an hour; no part of the gate).
 """
 
 from __future__ import annotations
 
+import shutil
 import sys
 from collections import Counter
 
+from dorydate.definitions.promise import BOOK, BOOK_AMONG, Judge, deeply
+from workshop.documents import believed
+from workshop.second import agda, mutants, rows
 from workshop.second.beside import beside_audit
 
 LOGS = 1_000
+MOST_UNREAD = 30  # rows of what a program reads and writes, and of calms, which have words that are not read yet
 
 
 def listed(seen: Counter[str]) -> str:
     return ", ".join(f"{many:,} {it}" for it, many in sorted(seen.items()) if many)
+
+
+def in_agda() -> list[str]:
+    """What is wrong with the definitions, as Agda says."""
+    judge = Judge()
+    of_page = agda.written(judge, [BOOK], "Promise").definitions
+    both = agda.written(judge, [BOOK, BOOK_AMONG], "Promise")
+    owed = len(believed.reading()[1].definitions)
+    wrong = [] if of_page == owed else [f"{of_page} definitions are written of the promise, and its page has {owed}"]
+    all_ = f"{both.definitions} with those among strangers, and {both.types} types of Rust"
+    what = f"{of_page} definitions of the promise, {all_}"
+    if not shutil.which("agda"):
+        print(
+            f"check second: agda is not installed, so it did not read the {what} (apt-get install agda-bin)", flush=True
+        )
+        return wrong
+    said = agda.said_of(both, "Promise")
+    print(
+        f"check second: Agda: {what}: {'refused' if said else 'each is well typed, and each recursion ends'}",
+        flush=True,
+    )
+    return wrong + ([f"Agda: {said[:2000]}"] if said else [])
+
+
+def worked() -> list[str]:
+    """What is wrong with rows."""
+    seen, failed, unread = deeply(rows.all_rows)
+    print(f"check second: worked rows: {listed(seen)}", flush=True)
+    many = f"{len(unread)} rows are not read, of at most {MOST_UNREAD}: {'; '.join(unread)}"
+    return failed + ([many] if len(unread) > MOST_UNREAD else [])
 
 
 def judge(count: int) -> list[str]:
@@ -29,8 +69,11 @@ def judge(count: int) -> list[str]:
 
 
 def main() -> int:
+    if sys.argv[1:] == ["--mutants"]:
+        print(*deeply(mutants.table), sep="\n")
+        return 0
     count = next((int(it) for it in sys.argv[1:]), LOGS)
-    wrong = judge(count)
+    wrong = [*in_agda(), *worked(), *judge(count)]
     print(*wrong[:10], sep="\n", end="\n" if wrong else "")
-    print(f"check second: {len(wrong)} wrong" if wrong else "check second: the definitions say what the audit does")
+    print(f"check second: {len(wrong)} wrong" if wrong else "check second: the second reader says what the first does")
     return 1 if wrong else 0

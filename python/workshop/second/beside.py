@@ -2,6 +2,7 @@
 
 from __future__ import annotations
 
+import functools
 import glob
 import itertools
 import multiprocessing
@@ -79,11 +80,17 @@ def made_by_hand() -> Iterator[tuple[str, bytes]]:
             yield os.path.relpath(path, ROOT), audited(octets, "--log") if b"\n%\n" in octets else octets
 
 
+@functools.cache
+def program() -> str:
+    """The program that judges; it is looked for once, before there are other processes."""
+    found = os.environ.get("DORYDATE_PROGRAM") or any_program()
+    assert found, "there is no program of these sources: ./build makes it"
+    return found
+
+
 def audited(octets: bytes, option: str = "--audit") -> bytes:
     """What the program prints of a log, or of an input."""
-    program = os.environ.get("DORYDATE_PROGRAM") or any_program()
-    assert program, "there is no program of these sources: ./build makes it"
-    return subprocess.run([program, option], input=octets, capture_output=True, check=False).stdout
+    return subprocess.run([program(), option], input=octets, capture_output=True, check=False).stdout
 
 
 def compared(log: tuple[str, bytes]) -> tuple[Counter[str], list[str]]:

@@ -1,0 +1,89 @@
+"""Computes the worked rows of the repository: the clauses of functions `worked_..`, by the evaluator of definitions."""
+
+from __future__ import annotations
+
+import glob
+import os
+from collections import Counter
+from collections.abc import Iterable, Iterator
+from dataclasses import dataclass
+from pathlib import Path
+
+from dorydate.definitions.clauses import clauses_of, uses_of
+from dorydate.definitions.computing import Env, NotComputed, Unbound, Variable
+from dorydate.definitions.deciding import Decider, Goal
+from dorydate.definitions.library import Library, Module, NoMeaning, Sources
+from dorydate.definitions.promise import sources_below
+from dorydate.definitions.reading import term_of
+from dorydate.definitions.terms import Term
+from workshop.parts import ROOT, text_of
+
+CRATES = f"{ROOT}/crates"
+OTHERS = {
+    "hex/specs/Hex.antt": "hex.txt",
+    "toml/specs/Data.antt": "toml.txt",
+}  # what rows name of the toolchain's crates
+WORKED = ("worked_", "unsafe_")
+GENERIC = ("C",)  # what a generic function is about
+
+
+@dataclass(frozen=True)
+class Row:
+    """A clause of a function that does nothing: what it says, in the module of its file."""
+
+    file: str
+    function: str
+    name: str
+    term: Term
+    module: str
+
+    @property
+    def called(self) -> str:
+        return f"{self.file}: {self.function}{f'.{self.name}' if self.name else ''}"
+
+
+def sources() -> Sources:
+    """The files of the repository, and those that state words of other crates."""
+    own = sources_below(Path(CRATES))
+    return lambda path: text_of(str(Path(__file__).with_name(OTHERS[path]))) if path in OTHERS else own(path)
+
+
+def files() -> list[str]:
+    found = glob.glob(f"{CRATES}/*/src/**/*.rt", recursive=True)
+    return sorted(os.path.relpath(it, CRATES) for it in found if "\npub fn worked_" in text_of(it))
+
+
+def rows_of(library: Library, names: Iterable[str]) -> Iterator[Row]:
+    """The rows of some files."""
+    for file in names:
+        text = text_of(f"{CRATES}/{file}")
+        module = f"rows of {file}"
+        library.modules[module] = Module(module, uses_of(text))
+        for it in clauses_of(text):
+            if it.function.startswith(WORKED):
+                yield Row(file, it.function, it.name, term_of(it.text, it.line), module)
+
+
+def computed(decider: Decider, row: Row) -> str:
+    """What a row comes to: `holds`, `fails`, `speaks of all`, or why it isn't computed."""
+    decider.forget()
+    try:
+        statement = decider.statement(row.term, row.module, frozenset(GENERIC))
+        env: Env = {it: Variable(it, "") for it in GENERIC}
+        return "holds" if decider.holds((Goal(statement, env),)) else "fails"
+    except Unbound:
+        return "speaks of all"
+    except (NotComputed, NoMeaning) as why:
+        return f"isn't read: {why}"
+
+
+def all_rows() -> tuple[Counter[str], list[str], list[str]]:
+    """How many rows come to what, those that fail, and those that aren't read."""
+    library = Library(sources())
+    seen, failed, unread = Counter[str](), list[str](), list[str]()
+    for row in rows_of(library, files()):
+        found = computed(Decider(library), row)
+        seen["isn't read" if found.startswith("isn't") else found] += 1
+        failed += [f"{row.called} fails"] if found == "fails" else []
+        unread += [f"{row.called} {found}"] if found.startswith("isn't") else []
+    return seen, failed, unread
