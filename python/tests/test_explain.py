@@ -12,14 +12,14 @@ from dorydate.explain.inside import Inside
 from dorydate.given import Input, shown
 from dorydate.explain.past import Past
 from dorydate.explain.runs import Happened, kept_program
-from dorydate.program import Program
+from dorydate.program import MOST_OCTETS, Program
 from dorydate.where import found
 from dorydate.explain.telling import said_beside, telling
 from dorydate.explain.topology import names_of, network_by
 from dorydate.model.script import read_event
 from dorydate.model.topology import Topology
 from dorydate.sentences.texts import raw_text_in_words, text_in_words
-from workshop.checks.explain_faults import BAD_LINES, BAD_LINES_OF_WORLDS, BAD_TOPOLOGIES, GOOD
+from workshop.checks.explain_faults import BAD_LINES, BAD_LINES_OF_WORLDS, BAD_TOPOLOGIES, GOOD, TOO_LONG
 from workshop.checks.explain_rows import TEXTS
 
 PAIR = Topology("subnet", True, [(1, 1), (2, 1)], [(1, 2)])
@@ -57,6 +57,7 @@ class Faults(unittest.TestCase):
     def test_each_bad_topology_has_its_cause(self) -> None:
         for octets, words in BAD_TOPOLOGIES:
             self.assertIn(words, diagnose(Input(octets), "arpasim: bad topology\n", True))
+        self.assertIn(TOO_LONG, diagnose(Input(b"#" * (MOST_OCTETS + 1)), "arpasim: input too long\n", True))
 
 
 class Told(unittest.TestCase):

@@ -45,7 +45,7 @@ use topology::Topology;
 use world::{Replay, World};
 
 /// The most octets that an input may have.
-const MOST_OCTETS: usize = 1_048_576;
+const MOST_OCTETS: usize = 268_435_456;
 
 /// What ends the program early: its status, and what it says.
 struct Fault(u8, String);
@@ -133,7 +133,7 @@ fn read_input() -> Result<Vec<u8>, Fault> {
     let read = std::io::stdin().lock().take(MOST_OCTETS as u64 + 1).read_to_end(&mut input);
     read.map_err(|_| Fault(1, "cannot read".into()))?;
     if input.len() > MOST_OCTETS {
-        Err(Fault(1, "bad topology".into()))
+        Err(Fault(1, "input too long".into()))
     } else {
         Ok(input)
     }

@@ -44,9 +44,9 @@ from dorydate.model.names import spell_flow
 from dorydate.model.runs import network_is_good, opened
 from dorydate.model.script import BadLine, Event, read_line
 from dorydate.model.topology import Topology, spelled
-from dorydate.program import Program
+from dorydate.program import MOST_OCTETS, Program
 from dorydate.sentences import IN_A_HOST, IN_A_SUBNET, crossing
-from workshop.checks.explain_faults import BAD_LINES, BAD_LINES_OF_WORLDS, BAD_LOG_ENDS, BAD_LOG_LINES, BAD_TOPOLOGIES, BROKEN_BESIDE, BROKEN_LOGS, GOOD, BrokenLog
+from workshop.checks.explain_faults import BAD_LINES, BAD_LINES_OF_WORLDS, BAD_LOG_ENDS, BAD_LOG_LINES, BAD_TOPOLOGIES, BROKEN_BESIDE, BROKEN_LOGS, GOOD, TOO_LONG, BrokenLog
 from workshop.checks.explain_given import Wrong, example, same, told
 from workshop.checks.explain_inside import check_full_store, check_inside, check_stalls, check_thrown_away
 from workshop.checks.explain_pages import check_pages
@@ -150,6 +150,7 @@ def check_causes(program: Program, seeds: int) -> None:
         check_cause(program, GOOD + b"%\ntake 0/1\n" + bad_line + b"\n", (2, "arpasim: bad script line 2\n"), words)
     for octets, words in BAD_TOPOLOGIES:
         check_cause(program, octets, (1, "arpasim: bad topology\n"), words)
+    check_cause(program, b"#" * (MOST_OCTETS + 1), (1, "arpasim: input too long\n"), TOO_LONG)
     for bad_line, words in BAD_LINES_OF_WORLDS:
         same(words in (wrong_with_line(bad_line, raw=False) or ""), True, f"{bad_line!r}: {wrong_with_line(bad_line, raw=False)}")
     bad = 0

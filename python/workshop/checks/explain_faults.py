@@ -69,6 +69,8 @@ BAD_LINES_OF_WORLDS = [
     (b"contact 0/1 0/2 # first", "A comment has a line of its own"),
 ]
 
+TOO_LONG = f"at most {MOST_OCTETS} octets are read"  # of an input that has one more
+
 GOOD = b'carrier = "plain"\nraw = true\n[[imp]]\nid = 1\nhosts = 1\n'
 NAMED = b'carrier = "plain"\n[[imp]]\nid = 1\nhosts = 2\n'
 # what is before the script, and words of the cause that is meant
@@ -103,7 +105,6 @@ BAD_TOPOLOGIES = [
     (b'carrier = "plain"\nraw = true\nimp = []\n%\n', "1 to 63 IMPs"),
     (b'carrier = "Plain"\nraw = true\n[[imp]]\nid = 1\nhosts = 1\n%\n', "There are two carriers"),
     (GOOD + b"".join(b"[[imp]]\nid = %d\nhosts = 1\n[[line]]\na = 1\nb = %d\n" % (it, it) for it in range(2, 8)) + b"%\n", "more than five lines"),
-    (b"#" * (MOST_OCTETS + 1), f"at most {MOST_OCTETS} octets are read"),
     (b'carrier = "plain"\n[[imp]]\nid = 1\nhosts = 1\nraw = true\n%\n', "Line 5 of the file:\n  raw = true\n`raw` comes after `[[imp]]`, so it is a key of that table. Put it before the first `[[`."),
     (GOOD + b"imp = " + b"[" * 10_000 + b"\n%\n", "brackets within brackets, hundreds deep"),
     (GOOD + b"a." * 100_000 + b"a = 1\n%\n", "It has more than 100 dots"),
