@@ -132,9 +132,9 @@ that arpasim is made of. arpasim-{note["version"]}-c.tar.gz is C that wasm2c mad
 other systems; its README has the line that compiles it. dorydate.html holds arpasim.wasm, and opens
 from a file in a browser of 2023 or later, without a network. lessons/ has {count} pages that open it.
 
-    pip install dorydate-{for_python(note["version"])}-py3-none-any.whl     arpasim, dorydate explain, explore, export, ..
+    pip install dorydate-{for_python(str(note["version"]))}-py3-none-any.whl     arpasim, dorydate explain, explore, export, ..
     npm install -g ./dorydate-{note["version"]}.tgz              arpasim and dorydate, by Node 18 or later
-    dpkg -i dorydate_{for_debian(note["version"])}_amd64.deb                  arpasim, its manual page, the workbench
+    dpkg -i dorydate_{for_debian(str(note["version"]))}_amd64.deb                  arpasim, its manual page, the workbench
 
 The wheel has arpasim, and for other systems the page, whose module Node 18 or later runs.
 docs/browser.md of the repository says what is trusted in a module beyond arpasim.

@@ -6,7 +6,7 @@ from collections.abc import Iterable
 
 from dorydate.model.crossings import Given
 from dorydate.model.names import Refused, spell_host
-from dorydate.model.script import Event, read_event
+from dorydate.model.script import read_event
 from dorydate.model.subnet import Subnet
 from workshop.checks.imp_rows import read_flow, spell_given
 from workshop.checks.readings import Reading, Unread
