@@ -13,11 +13,14 @@ from dorydate.program import NoProgram
 from dorydate.released import PAGE, is_released, note, octets_of
 from dorydate.where import ROOT, examples_folder, found
 
-LONGER = {it: f"dorydate.{it}.command" for it in ("conformance", "explain", "explore", "export", "live")}  # each has a `main`
+# modules that have a `main` each
+LONGER = {it: f"dorydate.{it}.command" for it in ("conformance", "explain", "explore", "export", "live")}
+LONGER["keeps"] = "dorydate.contract.command"
 USAGE = """usage: dorydate explain [--chart | --page | --audit | --expect ..] < INPUT   says what each line does, and why
        dorydate explore ..                     finds a short script that prints what one asks for
        dorydate export --FORMAT < INPUT        writes a replay for Wireshark, ShiViz or Perfetto
        dorydate conformance COMMAND..          has dialogues with a host's program that you wrote
+       dorydate keeps LOG [--host H]           says which rule of the protocol a host breaks, by its own log
        dorydate live TOPOLOGY --bind ..        runs a network whose strangers are real hosts, over UDP and TCP
        dorydate examples [NAME]                lists the examples, or prints one
        dorydate page > dorydate.html           writes the workbench, a page for a browser

@@ -1,4 +1,4 @@
-"""What waits, after each moment of each example: no host is said to lack what it has, and each named deed does something."""
+"""What waits, after each moment of each example: no host lacks what it has, and each named deed does something."""
 
 from __future__ import annotations
 

@@ -1,0 +1,1 @@
+"""Random networks of hosts that keep the contract, with programs and strangers, and the promise among them."""

@@ -1,0 +1,120 @@
+"""The contract of a host: its stored scripts, and the promise in random worlds of hosts that keep it (half a minute).
+
+Tries the contract (python/dorydate/contract): ./check contract [WORLDS [FIRST]], or ./check contract --power [WORLDS]
+
+Each file of without/contract has one host that lacks one rule: the promise breaks by just the clauses that it names,
+and by their own logs that host breaks that rule and the others none. Then WORLDS random worlds of each kind, from the
+seed FIRST:
+
+  keepers     hosts that do any act that the contract allows next, and strangers, over anything that the mailboxes allow
+  around      two keepers while most of a stored script happens, as far as they may
+  programs    the independent model's own worlds, over boxes and subnets: its hosts' own logs keep the contract, and the
+              lives that they have are those of the book
+  among       programs, keepers and strangers
+
+In each the promise among keepers has to hold, messages compared by their places. --power says instead in how many
+worlds the promise breaks where one of two hosts lacks a rule: at random, and around that rule's script.
+"""
+
+from __future__ import annotations
+
+import os
+import sys
+from collections import Counter
+from collections.abc import Callable
+from functools import lru_cache
+
+from dorydate.contract import RULES, Broken
+from dorydate.contract.worlds.play import Acts, some_world, tally
+from dorydate.contract.worlds.programs import among, of_program, tried
+from dorydate.contract.worlds.stored import Run, Script, wrong_with
+from workshop.parts import ROOT, text_of
+
+FOLDER = f"{ROOT}/without/contract"
+WORLDS, POWER = 200, 60
+Tried = tuple[Counter[str], list[str]]  # what worlds came to, and what is wrong
+
+
+@lru_cache(maxsize=1)
+def scripts() -> dict[str, Script]:
+    """The stored scripts, by the rules that they lack."""
+    return {it: Script.read(text_of(f"{FOLDER}/{it}")) for it in sorted(os.listdir(FOLDER))}
+
+
+@lru_cache(maxsize=1)
+def acts() -> dict[str, Acts]:
+    """What happens in each."""
+    return {name: Run(it).acts for name, it in scripts().items()}
+
+
+def stored() -> int:
+    """Whether the stored scripts show what they say, and each rule that is needed has one. The status."""
+    wrong = [f"{name}: {why}" for name, it in scripts().items() if (why := wrong_with(it))]
+    wrong += [f"{it.name}: no script" for it in RULES.values() if it.is_needed and it.name not in scripts()]
+    print(*[f"check contract: {it}" for it in wrong], sep="\n", end="\n" if wrong else "")
+    print(f"check contract: {len(scripts())} scripts, in each of which one host lacks one rule, and the promise breaks")
+    return 1 if wrong else 0
+
+
+def keepers(seed: int) -> Tried:
+    play = some_world(seed)
+    return tally(play), sorted(play.world.broken())
+
+
+def around(seed: int) -> Tried:
+    play = some_world(seed, (), [*acts().values()])
+    return tally(play), sorted(play.world.broken())
+
+
+def programs(seed: int) -> Tried:
+    world, wrong = of_program(seed)
+    lives, logs = len(world.book.lives), len(world.own)
+    return Counter({"worlds": 1, "crossings": len(world.carrier.log), "lives": lives, "own logs": logs}), wrong
+
+
+def with_programs(seed: int) -> Tried:
+    try:
+        play = among(seed)
+    except Broken as why:
+        return Counter({"worlds": 1}), [f"a program breaks {why}"]
+    return tally(play) + tried(play), sorted(play.world.broken())
+
+
+KINDS: dict[str, Callable[[int], Tried]] = {
+    "keepers": keepers,
+    "around": around,
+    "programs": programs,
+    "among": with_programs,
+}
+
+
+def worlds(kind: str, count: int, first: int) -> int:
+    """Tries random worlds of a kind. The status."""
+    come_to: Counter[str] = Counter()
+    broken = 0
+    for seed in range(first, first + count):
+        one, wrong = KINDS[kind](seed)
+        come_to += one
+        if wrong:
+            broken += 1
+            print(f"check contract: {kind} {seed}: {', '.join(wrong)}", flush=True)
+    seen = ", ".join(f"{many:,} {what}" for what, many in come_to.items())
+    print(f"check contract: {kind}: {seen}; {broken} break the promise or the contract", flush=True)
+    return 1 if broken else 0
+
+
+def power(count: int) -> int:
+    """Says how often the lack of a rule is seen in random worlds."""
+    for rule, script in acts().items():
+        some = sum(bool(some_world(seed, (rule,)).world.broken()) for seed in range(count))
+        near = sum(bool(some_world(seed, (rule,), [script]).world.broken()) for seed in range(count))
+        print(f"{rule}: {some} and {near} of {count}", flush=True)
+    return 0
+
+
+def main() -> int:
+    words = sys.argv[1:]
+    if words[:1] == ["--power"]:
+        return power(int(words[1]) if words[1:] else POWER)
+    count, first = (int(words[at]) if words[at:] else it for at, it in enumerate((WORLDS, 0)))
+    return max([stored(), *(worlds(kind, count, first) for kind in KINDS)])
