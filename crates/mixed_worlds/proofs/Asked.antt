@@ -285,7 +285,7 @@ module _ (orders : Orders) (strange : Host → Bool) (hosts : List Host) (a : Ho
         (λ (y : Host). pair_with y (program a moments).peers ≡ out.peer.pair) to
         (next_pair (program a moments).peers out.peer (parcel.Commands count) order next) in
         let back : IsReadBack out.peer.pair (parcel.Commands count) = offer_read (program a moments) out.peer
-        (parcel.Commands count) (fit orders strange hosts a off moments below).ranged next in
+        (parcel.Commands count) (fit strange hosts a off moments below).ranged next in
         let reads : orders_of m.text ≡ map Legal (take count (pair_with p (program a moments).peers).queue) =
         ap (λ (y : HostMessage). orders_of y.text) (sym is) ∙ back
         ∙ ap (λ (q : PairState). map Legal (take count q.queue)) (sym same) in
@@ -310,7 +310,7 @@ module _ (orders : Orders) (strange : Host → Bool) (hosts : List Host) (a : Ho
         (Tells a p (crossing.Out m ∷ crossings_of moments) (Crossed (crossing.Out m))) p
         (rules a p (crossing.Out m ∷ crossings_of moments) (Crossed (crossing.Out m))) (program a moments)
         (places moments) out.peer out.parcel order out.next to
-        (pair_range p (program a moments).peers (fit orders strange hosts a off moments below).ranged.pairs).commands
+        (pair_range p (program a moments).peers (fit strange hosts a off moments below).ranged.pairs).commands
         (may out.parcel out.next out.message) old
 
   -- a message comes in

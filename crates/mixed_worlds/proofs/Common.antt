@@ -31,7 +31,7 @@ pub use Rattle.masked_worlds.specs.Mixed.{IsMixed, closed, masked_crossing, mask
 pub use Rattle.masked_worlds.specs.Strangers.{masked_as, masked_log, strange_end, stranger_in, turn}
 pub use Rattle.masked_worlds.specs.Worked.{listener_taken}
 pub use Rattle.mixed_worlds.specs.Book.{beside_among, contacts_among, crossed_only, is_among, lives_among, mixed_kept}
-pub use Rattle.mixed_worlds.specs.Ends.{HasSome}
+pub use Rattle.world_keeps_lives.specs.SomeEnd.{HasSome}
 pub use Rattle.mixed_worlds.specs.Promised.{Promises}
 pub use Rattle.mixed_worlds.specs.Told.{ToldAmong, told_among}
 pub use Rattle.mixed_worlds.specs.Toward.{AreOf, HasAsked, IsCarried, IsNamed, NamesItself, ReportsData}

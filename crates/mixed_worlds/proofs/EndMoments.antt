@@ -85,7 +85,7 @@ module _ (orders : Orders) (strange : Host → Bool) (hosts : List Host) (a : Ho
             (next_pair (program a moments).peers o.peer (parcel.Commands count)
             (ordered orders strange hosts a moments off below) next) in
             let back : IsReadBack o.peer.pair (parcel.Commands count) = offer_read (program a moments) o.peer
-            (parcel.Commands count) (fit orders strange hosts a off moments below).ranged next in
+            (parcel.Commands count) (fit strange hosts a off moments below).ranged next in
             moved
             (control_is m.flow a p from (sym to ∙ ap (λ (y : HostMessage). y.flow.destination) is)
             (sym (ap (λ (y : HostMessage). y.flow.link.0) is))) count
@@ -98,7 +98,7 @@ module _ (orders : Orders) (strange : Host → Bool) (hosts : List Host) (a : Ho
             (offer_passes P Free p walk (program a moments) (places moments) o.peer o.parcel
             (ordered orders strange hosts a moments off below) o.next to
             (pair_range p (program a moments).peers
-            (fit orders strange hosts a off moments below).ranged.pairs).commands (may o.parcel to o.next o.message) old).ends
+            (fit strange hosts a off moments below).ranged.pairs).commands (may o.parcel to o.next o.message) old).ends
         at false f = subst (λ (q : PairState). Each P q.entries)
             (sym (offer_leaves (program a moments) (places moments) o.peer o.parcel p o.next f)) old
 

@@ -35,7 +35,7 @@ use Rattle.host_pairs.specs.declared.notice.Notice.TheVariants as notice
 use Rattle.sockets.specs.Accepting.{accepted}
 use Rattle.host_keeps_ranges.specs.Ranges.{AreOrders, IsOrder}
 use Rattle.host_keeps_ranges.proofs.lemmas.{text_good}
-use Rattle.mixed_worlds.proofs.Ends.{SomeEnd, one_order}
+use Rattle.world_keeps_lives.proofs.lemmas.{SomeEnd, one_order}
 
 -- ---- what a step leaves
 

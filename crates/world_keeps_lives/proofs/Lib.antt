@@ -11,6 +11,9 @@ pub mod Hosts
 pub mod Owners
 pub mod Asks
 pub mod Moments
+pub mod AnyPeer
+pub mod Sockets
+pub mod AllOurs
 pub mod Laws
 pub mod Walk
 pub mod Grounds

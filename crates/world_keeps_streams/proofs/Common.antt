@@ -98,7 +98,8 @@ pub use Rattle.stream_law.proofs.lemmas.{Inv, came_inv, for_here, safe_inv, some
 pub use Rattle.stream_law.specs.Streams.{Stream, opening_stream}
 pub use Rattle.stream_law.specs.Within.{IsSafe, message_bits, waiting_in}
 pub use Rattle.stream_law.specs.Words.{All, Cls, Gvb, Ret, Rts, Str, Word, covers, for, holds, is_size}
-pub use Rattle.world_keeps_lives.proofs.lemmas.{At, Each, Elsewhere, GoodTurn, IsOfTwo, Linked, LinkedBook, Near, Place, all_told_append, clash, each_in, good_queued, good_ready, good_taken, has_ends, held, linked_end, live, none_there, open_mine, open_parts, owner_found, refusing_found, same_turned, texts_one, unopened}
+pub use Rattle.world_keeps_lives.proofs.lemmas.AllOurs.{held}
+pub use Rattle.world_keeps_lives.proofs.lemmas.{At, Each, Elsewhere, GoodTurn, IsOfTwo, Linked, LinkedBook, Near, Place, all_told_append, clash, each_in, good_queued, good_ready, good_taken, has_ends, linked_end, live, none_there, open_mine, open_parts, owner_found, refusing_found, same_turned, texts_one, unopened}
 pub use Rattle.world_keeps_lives.specs.Drained.{ClosesFirst}
 pub use Rattle.world_keeps_lives.specs.Lives.{AreRefusing, HasOpenEnd, IsLifeOf, at_socket, mine_on}
 pub use Rattle.world_keeps_lives.specs.WorkedFormed.{gave, sent_log}

@@ -1,6 +1,7 @@
 -- What is outstanding on a connection's link is of an end that opened and hasn't closed, or no end is opened before a
 -- reset.
 use Rattle.world_keeps_streams.proofs.Common.{◌≡◌, ◌⊎◌, inl, inr, ℕ, zero, suc, ◌==◌, ◌&&◌, not, Bool, true, false, if◌then◌else◌, List, [], ◌∷◌, ◌++◌, Option, Some, None, is_some, refl, ap, sym, subst, ◌∙◌, eqb-true, eq-eqb, Host, same_host, Flow, Answer, HostMessage, same_host-true, has_cls, is_busy, is_link, is_receiving, PairState, Parcel, may_send_on, Entry, both, has_opened, AreAllowed, IsHistory, Answered, ends_now, numbered, is_ready, Phase, Pair, pair, pair_moved, pair_with, turn_of, Request, Asked, Crossed, IsNext, Moment, events_of, event_in, places, program, Agrees, story_agrees, calls_by, message_calls, own_calls, request_calls, MaySend, next_calls, next_of, Message, message_on, when, Send, Take, Hear, Begin, Other, MayGo, what_goes, open_parts, next_is, next_in, is_ending, same_host-refl, link_for, answer_calls}
+use Rattle.net_sim.proofs.lemmas.AllOurs.{happened}
 use Rattle.reset_law.specs.Network.{all_ours}
 use Rattle.reset_law.specs.Pairs.{Plain}
 use Rattle.host_keeps_streams.specs.Histories as calls
@@ -91,7 +92,7 @@ module _ (hosts : List Host) (a b : Host) (l : ℕ) (off_zero : (l == 0) ≡ fal
         → (pair a b (events_of ms)).phase ≡ phase.Ready
     by true e = (agrees ms lawful).phase ∙ ready_phase (pair_with b (program a ms).peers).phase e
     by false e =
-        absurd (subst (λ (es : List Entry). Among h.0 es) (idle hosts lawful.0 ms lawful.1 lawful.2 a b e).0 h.1)
+        absurd (subst (λ (es : List Entry). Among h.0 es) (idle (all_ours hosts) lawful.0 ms lawful.1 (happened hosts ms lawful.2) a b (refl, refl) e).0 h.1)
 
   -- which stays so
   keep : (y : Moment) (ms : List Moment) → Lawful hosts (y ∷ ms) → (pair a b (events_of (y ∷ ms))).phase ≡ phase.Ready
@@ -103,16 +104,16 @@ module _ (hosts : List Host) (a b : Host) (l : ℕ) (off_zero : (l == 0) ≡ fal
       (ends_now b cs)) (sym is) (has_calls l b (suc zero) (calls_by a b y ms) (own_calls a b ms)
       (subst (λ (cs : List calls.Moment). IsHistory b cs) is now.0) (subst
       (λ (cs : List calls.Moment). AreAllowed numbered b (suc zero) cs) is
-      (all_allowed hosts lawful.0 (suc zero) (no_zero zero) a b (y ∷ ms) lawful.1 lawful.2)) on
+      (all_allowed (all_ours hosts) lawful.0 (suc zero) (no_zero zero) a b (refl, refl) (y ∷ ms) lawful.1 (happened hosts (y ∷ ms) lawful.2))) on
       (subst (λ (es : List Entry). Has (holds l) es) (sym was.1) h))) where
         lower : Lawful hosts ms
         lower = below hosts y ms lawful
 
         now : Chained a b (y ∷ ms)
-        now = chain hosts lawful.0 (y ∷ ms) lawful.1 lawful.2 a b
+        now = chain (all_ours hosts) lawful.0 (y ∷ ms) lawful.1 (happened hosts (y ∷ ms) lawful.2) a b (refl, refl)
 
         was : Chained a b ms
-        was = chain hosts lower.0 ms lower.1 lower.2 a b
+        was = chain (all_ours hosts) lower.0 ms lower.1 (happened hosts ms lower.2) a b (refl, refl)
 
         both_true : (v w : Bool) → v ≡ true → w ≡ false → (v && not w) ≡ true
         both_true v w e f = ap (λ (u : Bool). u && not w) e ∙ ap not f

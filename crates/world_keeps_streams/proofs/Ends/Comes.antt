@@ -102,7 +102,7 @@ module _ (hosts : List Host) (m : HostMessage) (ms : List Moment) (l : Lawful ho
       → AllFit (marks_in (places ms) foreign socket (orders_of m.text)) (law_end m.flow.destination m.flow.source socket foreign ms)
   fit_text zero ready joint = fits_here (origin_in (crossings_of (Crossed (crossing.In m) ∷ ms)) m.flow.destination m.flow.source) socket foreign (pair_with m.flow.source (program m.flow.destination ms).peers) f.0 (origin_in (crossings_of (Crossed (crossing.In m) ∷ ms)) m.flow.destination m.flow.source (places ms)) (places ms) (orders_of m.text) f.1 f.2 where
     f : Fits (origin_in (crossings_of (Crossed (crossing.In m) ∷ ms)) m.flow.destination m.flow.source) m.flow.source (places ms) (orders_of m.text) (turn_of (program m.flow.destination ms) m.flow.source) socket foreign
-    f = fits_all hosts (origin_in (crossings_of (Crossed (crossing.In m) ∷ ms))) m ms l.1 c.story c.run sources tied next_tied bare free zero ready joint socket foreign
+    f = fits_all (all_ours hosts) (origin_in (crossings_of (Crossed (crossing.In m) ∷ ms))) m ms (refl, refl) l.1 c.story c.run sources tied next_tied bare free zero ready joint socket foreign
 
   text_kind : (zero : (m.flow.link.0 == 0) ≡ true) → AllPlain (orders_of m.text) → (v : Bool) → is_ready (pair_with m.flow.source (program m.flow.destination ms).peers).phase ≡ v → Kind it (Crossed (crossing.In m)) ms
   text_kind zero plain false idle = ItIdles (record {

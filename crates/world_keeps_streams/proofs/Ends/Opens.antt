@@ -1,5 +1,6 @@
 -- A life that begins: no user of its host has closed its end before.
 use Rattle.world_keeps_streams.proofs.Common.{◌≡◌, ◌⊎◌, inl, inr, ℕ, ◌==◌, ◌&&◌, ◌||◌, not, Bool, true, false, List, [], ◌∷◌, filter, length, Option, Some, None, is_some, refl, ap, sym, subst, ◌∙◌, eq-eqb, list_any, Host, same_host, or_false, same_host-true, has_cls, is_answered, is_at, is_busy, is_called_off, is_due, is_ending, is_link, is_mine_on, is_receiving, sends_on, Closing, Entry, has_opened, name_now, numbered, sender_now, marks, pair_with, Moment, program, mine_on, held, own_calls, story_agrees}
+use Rattle.net_sim.proofs.lemmas.AllOurs.{happened}
 use Rattle.reset_law.specs.Network.{all_ours}
 use Rattle.host_keeps_streams.specs.Ends.{AreSender}
 use Rattle.host_pairs.specs.declared.entry.Closing.TheVariants as closing
@@ -168,7 +169,7 @@ module _ (hosts : List Host) (ms : List Moment) (l : Lawful hosts ms) (x : Life)
             only_sender (name_now numbered x.peer (own_calls x.host x.peer ms))
             (filter (sends_on k) (pair_with x.peer (program x.host ms).peers).entries)
             (sender_now numbered x.peer k (own_calls x.host x.peer ms)) e h.0
-            (has_sender hosts l.0 k (away k is) x.host x.peer ms l.1 l.2).here
+            (has_sender (all_ours hosts) l.0 k (away k is) x.host x.peer (refl, refl) ms l.1 (happened hosts ms l.2)).here
             (among_kept (sends_on k) (pair_with x.peer (program x.host ms).peers).entries e there here)
             (among_kept (sends_on k) (pair_with x.peer (program x.host ms).peers).entries h.0 h.1 parts.sends) in
             never (sym (ap (λ (v : Bool). v && is_some h.0.partner) parts.asked ∙ parts.partner)

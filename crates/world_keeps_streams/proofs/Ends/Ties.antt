@@ -162,7 +162,7 @@ module _ (hosts : List Host) (ms : List Moment) (l : Lawful hosts ms) where
     bare = all_bare (all_ours hosts) (origin_in (crossings_of ms)) ms (are_origins 0 (crossings_of ms) [] ms refl) c.story c.run l.1 (served_in hosts ms l.2)
 
     found : (x : End) × HasEnd (origin_in (crossings_of ms) h p) own foreign (pair_with p (program h ms).peers) x
-    found = has_end hosts (origin_in (crossings_of ms)) ms tied bare h p own foreign
+    found = has_end (all_ours hosts) (origin_in (crossings_of ms)) ms tied bare h p (refl, refl) own foreign
 
   -- each end of the two sockets is that one
   pub entry_is : (h p : Host) (own foreign : ℕ) (e : Entry) → Among e (pair_with p (program h ms).peers).entries → e.own ≡ own → e.foreign ≡ foreign → (law_end h p own foreign ms ≡ plain itself (standing e)) × (is_past (standing e) ≡ false)

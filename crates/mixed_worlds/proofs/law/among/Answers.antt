@@ -51,7 +51,7 @@ returns c =
       told = λ strange hosts moments mixed.
           told_real orders strange hosts moments mixed (promise strange hosts moments mixed).told;
       joined = λ strange hosts moments mixed reports backed.
-          joins orders c.lives-2.ensures strange hosts moments mixed reports backed;
+          joins strange hosts moments mixed reports backed;
       settled = λ strange hosts moments mixed settled.
           settles orders c.masked_logs.ensures strange hosts moments mixed
           (c.lives.ensures.calm hosts (masked_moments strange hosts moments) mixed.addresses
