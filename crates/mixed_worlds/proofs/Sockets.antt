@@ -11,15 +11,18 @@ module _ (strange : Host → Bool) (hosts : List Host) (a : Host) (off : strange
   all = record { all = hosts; strange = strange }
 
   -- a request of this host
-  pub own_request : (h : Host) (r : Request) (moments : List Moment) → IsMixed strange hosts (Asked h r ∷ moments) → same_host a h ≡ true → Happens hosts (Asked a r) moments
+  pub own_request : (h : Host) (r : Request) (moments : List Moment) → IsMixed strange hosts (Asked h r ∷ moments)
+      → same_host a h ≡ true → Happens hosts (Asked a r) moments
   own_request h r moments mixed e = sockets.own_request all mixed.addresses a off h r moments mixed.happen e
 
   pub fit : (moments : List Moment) → IsMixed strange hosts moments → IsFit (program a moments)
   fit moments mixed = sockets.fit all mixed.addresses a off moments mixed.run mixed.happen
 
   -- a host that is down has a program that does nothing
-  pub idle : (moments : List Moment) → IsMixed strange hosts moments → mail.is_up hosts a (crossings_of moments) ≡ false → program a moments ≡ opening_state a
+  pub idle : (moments : List Moment) → IsMixed strange hosts moments → mail.is_up hosts a (crossings_of moments) ≡ false
+      → program a moments ≡ opening_state a
   idle moments mixed down = sockets.idle all mixed.addresses a off moments mixed.run mixed.happen down
 
-  pub held : (k : ℕ) (moments : List Moment) → IsMixed strange hosts moments → Holds a k (program a moments) (mixed_kept strange moments)
+  pub held : (k : ℕ) (moments : List Moment) → IsMixed strange hosts moments
+      → Holds a k (program a moments) (mixed_kept strange moments)
   held k moments mixed = sockets.held all mixed.addresses a off k moments mixed.run mixed.happen

@@ -1,5 +1,6 @@
 -- Each life of the book that continues is known to its user.
-use Rattle.world_keeps_connections.proofs.Common.{◌≡◌, ℕ, Bool, true, false, ◌&&◌, ◌==◌, if◌then◌else◌, List, [], ◌∷◌, refl, sym, subst, ◌∙◌, eq-eqb, arith, Contains, Host, same_host, Crossing, same_host-refl, same_host-true, Notice, Request, IsIn, all_known, Moment, Crossed, Asked, IsTimeline, crossings_of, is_between, life_of, known_in}
+use Rattle.world_keeps_connections.proofs.Common.{◌≡◌, ℕ, Bool, true, false, ◌&&◌, ◌==◌, if◌then◌else◌, List, [], ◌∷◌, refl, sym, subst, ◌∙◌, eq-eqb, arith, Contains, Host, same_host, Crossing, same_host-refl, same_host-true, Notice, Request, IsIn, all_known, Moment, Crossed, Asked, crossings_of, is_between, life_of, known_in}
+use Rattle.net_sim.specs.Timeline.{IsTimeline}
 use Rattle.std.proofs.Common.{inl, inr, zero, suc, ◌<◌, not, ◌++◌, length, get_or, ap}
 use Rattle.std.proofs.lemmas.Bool.{eqb-true}
 use Rattle.interface.specs.Mailboxes as mail
@@ -166,7 +167,8 @@ module _ (origin : ℕ → ℕ) (h p : Host) (own foreign : ℕ) where
   -- a host that is down has no lives
   pub record Follows (hosts : Network) (moments : List Moment) : Type 0 where
     pub are : AreKnown (known_in origin h p own foreign moments) (mixed_kept hosts.strange moments).book.lives
-    pub idle : mail.is_up hosts.all h (crossings_of moments) ≡ false → AreKnown [] (mixed_kept hosts.strange moments).book.lives
+    pub idle : mail.is_up hosts.all h (crossings_of moments) ≡ false
+        → AreKnown [] (mixed_kept hosts.strange moments).book.lives
 
   -- something is done by a host that is up
   acts : (hosts : List Host) (g : Host) (ns : List Notice) (k : List Life) (kept : Kept) (log : List Crossing) → mail.is_up hosts g log ≡ true → AreKnown k kept.book.lives → (mail.is_up hosts h log ≡ false → AreKnown [] kept.book.lives)
@@ -199,7 +201,8 @@ module _ (origin : ℕ → ℕ) (h p : Host) (own foreign : ℕ) where
       by true = refl
       by false = ap (λ (ns : List Notice). (all_told (host_in (Crossed c)) ns (crossed c (mixed_kept hosts.strange moments))).book.lives) none
 
-    down_follows : (g : Host) (moments : List Moment) → Follows hosts moments → Follows hosts (Crossed (crossing.Down g) ∷ moments)
+    down_follows : (g : Host) (moments : List Moment) → Follows hosts moments
+        → Follows hosts (Crossed (crossing.Down g) ∷ moments)
     down_follows g moments old = record {
       are = subst (λ (lives : List book.Life). AreKnown (if same_host h g then [] else known moments) lives) (sym (outage_kept (crossing.Down g) moments refl)) (down_by g (known moments) (mixed_kept hosts.strange moments).book.lives old.are (same_host h g) refl);
       idle = λ down. subst (λ (lives : List book.Life). AreKnown [] lives) (sym (outage_kept (crossing.Down g) moments refl)) (off (same_host h g) refl down);
@@ -209,16 +212,19 @@ module _ (origin : ℕ → ℕ) (h p : Host) (own foreign : ℕ) where
       off false f down = down_by g [] (mixed_kept hosts.strange moments).book.lives (old.idle down) false f
 
     -- a host that starts was down
-    up_follows : (g : Host) (moments : List Moment) → mail.is_up hosts.all g (crossings_of moments) ≡ false → Follows hosts moments → Follows hosts (Crossed (crossing.Up g) ∷ moments)
+    up_follows : (g : Host) (moments : List Moment) → mail.is_up hosts.all g (crossings_of moments) ≡ false
+        → Follows hosts moments → Follows hosts (Crossed (crossing.Up g) ∷ moments)
     up_follows g moments was old = record {
       are = subst (λ (lives : List book.Life). AreKnown (if same_host h g then [] else known moments) lives) (sym (outage_kept (crossing.Up g) moments refl)) (on (same_host h g) refl);
       idle = λ down. subst (λ (lives : List book.Life). AreKnown [] lives) (sym (outage_kept (crossing.Up g) moments refl)) (off (same_host h g) refl down);
     } where
-      on : (b : Bool) → same_host h g ≡ b → AreKnown (if b then [] else known moments) (mixed_kept hosts.strange moments).book.lives
+      on : (b : Bool) → same_host h g ≡ b
+          → AreKnown (if b then [] else known moments) (mixed_kept hosts.strange moments).book.lives
       on true e = old.idle (subst (λ (y : Host). mail.is_up hosts.all y (crossings_of moments) ≡ false) (sym (same_host-true h g e)) was)
       on false e = old.are
 
-      off : (b : Bool) → same_host h g ≡ b → (if b then true else mail.is_up hosts.all h (crossings_of moments)) ≡ false → AreKnown [] (mixed_kept hosts.strange moments).book.lives
+      off : (b : Bool) → same_host h g ≡ b → (if b then true else mail.is_up hosts.all h (crossings_of moments)) ≡ false
+          → AreKnown [] (mixed_kept hosts.strange moments).book.lives
       off true e down = absurd (let r : true ≡ false = down in cc)
       off false e down = old.idle down
 
@@ -232,7 +238,8 @@ module _ (origin : ℕ → ℕ) (h p : Host) (own foreign : ℕ) where
         λ down. subst (λ (lives : List book.Life). AreKnown [] lives) (sym same) (old.idle down) in
         acts_among (host_in (Crossed c)) ns (known moments) (crossed c (mixed_kept hosts.strange moments)) (crossed c (mixed_kept hosts.strange moments)) (crossings_of moments) (λ off. up) are idle are idle
 
-    pub follows : (moments : List Moment) → mail.IsRun hosts.all (crossings_of moments) → Happened hosts moments → Follows hosts moments
+    pub follows : (moments : List Moment) → mail.IsRun hosts.all (crossings_of moments) → Happened hosts moments
+        → Follows hosts moments
     follows [] run time = record { are = tt; idle = λ down. tt }
     follows (Crossed (crossing.Out m) ∷ moments) run time =
         let r = crossed_follows (crossing.Out m) (notices_by (Crossed (crossing.Out m)) moments) moments run.0.0 refl (follows moments run.1 time.1) in

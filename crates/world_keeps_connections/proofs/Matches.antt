@@ -51,5 +51,6 @@ pub world_match : {C : Type 0} (seen : C → Seen) (hosts : List Host) (w : Worl
 world_match seen hosts w lawful x y here there on also o receiving sending =
     subst (λ (log : List Crossing). Match log x y) (sym lawful.whole.crossings)
     (live_match (all_ours hosts) lawful.whole.moments lawful.addresses (book_run seen hosts w lawful) (happened hosts lawful.whole.moments lawful.whole.timeline) x y (refl, refl) (kept x here) (kept y there) on also o receiving sending) where
-      kept : (z : book.Life) → Contains w.kept.book.lives z → Contains (mixed_kept (λ h. false) lawful.whole.moments).book.lives z
+      kept : (z : book.Life) → Contains w.kept.book.lives z
+          → Contains (mixed_kept (λ h. false) lawful.whole.moments).book.lives z
       kept z i = subst (λ (k : Kept). Contains k.book.lives z) (sym (kept_same lawful.whole.moments)) (subst (λ (lives : List book.Life). Contains lives z) (book_lives seen hosts w lawful) i)

@@ -22,7 +22,8 @@ has_ends hosts moments addresses run time a p own foreign two = elim two [
   | inl r ↦ (_, ((tied hosts moments addresses run time).tied a p (refl, refl)).receiver (record { receive = own; send = foreign }) (r.0, r.1))
   | inr s ↦ (_, ((tied hosts moments addresses run time).tied p a (refl, refl)).sender (record { receive = foreign; send = own }) (s.1, s.0))
 ] where
-  tied : (hosts : List Host) (moments : List Moment) → HaveAddresses hosts → mail.IsRun hosts (crossings_of moments) → IsTimeline hosts moments → AllTied (all_ours hosts) (origin_in (crossings_of moments)) moments
+  tied : (hosts : List Host) (moments : List Moment) → HaveAddresses hosts → mail.IsRun hosts (crossings_of moments)
+      → IsTimeline hosts moments → AllTied (all_ours hosts) (origin_in (crossings_of moments)) moments
   tied hosts moments addresses run time =
       let c : Coupled (all_ours hosts) moments = coupled hosts addresses moments run time in
       all_tied (all_ours hosts) (origin_in (crossings_of moments)) moments (are_origins 0 (crossings_of moments) [] moments refl) c.story c.run (served_in hosts moments time)

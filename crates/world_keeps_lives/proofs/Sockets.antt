@@ -99,14 +99,15 @@ fit_if : (b : Bool) (s t : NcpState) → (b ≡ true → IsFit s) → IsFit t �
 fit_if true s t now old = now refl
 fit_if false s t now old = old
 
--- the program of a host at which something happens that another does
-away : (a : Host) (here : ℕ) (x : Moment) (s : NcpState) → same_host a (host_in x) ≡ false → program_after a here x s ≡ s
-away a here (Crossed (crossing.Out m)) s off = rw off refl
-away a here (Crossed (crossing.In m)) s off = rw off refl
-away a here (Crossed (crossing.Answer kind f)) s off = rw off refl
-away a here (Crossed (crossing.Down h)) s off = rw off refl
-away a here (Crossed (crossing.Up h)) s off = rw off refl
-away a here (Asked h r) s off = rw off refl
+-- a host's program is as it was after what another host does
+unmoved : (a : Host) (x : Moment) (moments : List Moment) → same_host a (host_in x) ≡ false
+    → program a (x ∷ moments) ≡ program a moments
+unmoved a (Crossed (crossing.Out m)) moments off = rw off refl
+unmoved a (Crossed (crossing.In m)) moments off = rw off refl
+unmoved a (Crossed (crossing.Answer kind f)) moments off = rw off refl
+unmoved a (Crossed (crossing.Down h)) moments off = rw off refl
+unmoved a (Crossed (crossing.Up h)) moments off = rw off refl
+unmoved a (Asked h r) moments off = rw off refl
 
 module _ (hosts : Network) (addresses : HaveAddresses hosts.all) (a : Host) (plain : hosts.strange a ≡ false) where
   -- a request of this host
@@ -116,17 +117,22 @@ module _ (hosts : Network) (addresses : HaveAddresses hosts.all) (a : Host) (pla
       subst (λ (x : Host). Happens hosts.all (Asked x r) moments) (sym (same_host-true a h e))
       (time.0 (subst (λ (x : Host). hosts.strange x ≡ false) (same_host-true a h e) plain))
 
-  ordered : (moments : List Moment) → mail.IsRun hosts.all (crossings_of moments) → Happened hosts moments → AreInOrder (program a moments).peers
+  ordered : (moments : List Moment) → mail.IsRun hosts.all (crossings_of moments) → Happened hosts moments
+      → AreInOrder (program a moments).peers
   ordered moments run time = (coupled hosts addresses moments run time).order a plain
 
-  pub fit : (moments : List Moment) → mail.IsRun hosts.all (crossings_of moments) → Happened hosts moments → IsFit (program a moments)
+  pub fit : (moments : List Moment) → mail.IsRun hosts.all (crossings_of moments) → Happened hosts moments
+      → IsFit (program a moments)
   fit [] run time = opening_fit a
   fit (x ∷ moments) run time = by x time (fit moments (mail_below hosts.all x moments run) time.1) (ordered moments (mail_below hosts.all x moments run) time.1) where
     by : (x : Moment) → Happened hosts (x ∷ moments) → IsFit (program a moments) → AreInOrder (program a moments).peers
         → IsFit (program_after a (places moments) x (program a moments))
-    by (Crossed (crossing.Out m)) time h order = fit_if (same_host a m.flow.source) _ _ (λ e. offer_fit (program a moments) (places moments) order h) h
-    by (Crossed (crossing.In m)) time h order = fit_if (same_host a m.flow.destination) _ _ (λ e. message_fit (program a moments) m (places moments) h) h
-    by (Crossed (crossing.Answer kind f)) time h order = fit_if (same_host a f.source) _ _ (λ e. answer_fit (program a moments) kind f (places moments) h) h
+    by (Crossed (crossing.Out m)) time h order =
+        fit_if (same_host a m.flow.source) _ _ (λ e. offer_fit (program a moments) (places moments) order h) h
+    by (Crossed (crossing.In m)) time h order =
+        fit_if (same_host a m.flow.destination) _ _ (λ e. message_fit (program a moments) m (places moments) h) h
+    by (Crossed (crossing.Answer kind f)) time h order =
+        fit_if (same_host a f.source) _ _ (λ e. answer_fit (program a moments) kind f (places moments) h) h
     by (Crossed (crossing.Down g)) time h order = fit_if (same_host a g) (opening_state a) _ (λ e. opening_fit a) h
     by (Crossed (crossing.Up g)) time h order = fit_if (same_host a g) (opening_state a) _ (λ e. opening_fit a) h
     by (Asked g r) time h order =
@@ -139,7 +145,8 @@ module _ (hosts : Network) (addresses : HaveAddresses hosts.all) (a : Host) (pla
       → mail.is_up hosts.all a (crossings_of moments) ≡ false → program a moments ≡ opening_state a
   idle [] run time down = refl
   idle (x ∷ moments) run time down = by x run time down (idle moments (mail_below hosts.all x moments run) time.1) where
-    by : (x : Moment) → mail.IsRun hosts.all (crossings_of (x ∷ moments)) → Happened hosts (x ∷ moments) → mail.is_up hosts.all a (crossings_of (x ∷ moments)) ≡ false
+    by : (x : Moment) → mail.IsRun hosts.all (crossings_of (x ∷ moments)) → Happened hosts (x ∷ moments)
+        → mail.is_up hosts.all a (crossings_of (x ∷ moments)) ≡ false
         → (mail.is_up hosts.all a (crossings_of moments) ≡ false → program a moments ≡ opening_state a)
         → program_after a (places moments) x (program a moments) ≡ opening_state a
     by (Crossed (crossing.Out m)) run time down rest = idle_if a m.flow.source
@@ -172,7 +179,8 @@ module _ (hosts : Network) (addresses : HaveAddresses hosts.all) (a : Host) (pla
     has_ends s h p = ((λ n. n), λ own foreign two. ((h.ends own foreign p).x, (h.ends own foreign p).has))
 
     -- a moment of a host with a program
-    own_moment : (x : Moment) (moments : List Moment) (κ : Kept) → mail.IsRun hosts.all (crossings_of (x ∷ moments)) → Happened hosts (x ∷ moments)
+    own_moment : (x : Moment) (moments : List Moment) (κ : Kept) → mail.IsRun hosts.all (crossings_of (x ∷ moments))
+        → Happened hosts (x ∷ moments)
         → AreInOrder (program a moments).peers → IsFit (program a moments)
         → (mail.is_up hosts.all a (crossings_of moments) ≡ false → program a moments ≡ opening_state a)
         → Holds a k (program a moments) κ
@@ -237,10 +245,11 @@ module _ (hosts : Network) (addresses : HaveAddresses hosts.all) (a : Host) (pla
       other on true e = clash (true ≡ false) (hosts.strange (host_in x)) on (subst (λ (g : Host). hosts.strange g ≡ false) (same_host-true a (host_in x) e) plain)
       other on false e = refl
 
-      by : (b : Bool) → hosts.strange (host_in x) ≡ b → mail.IsRun hosts.all (crossings_of moments) → Holds a k (program a moments) (mixed_kept hosts.strange moments)
+      by : (b : Bool) → hosts.strange (host_in x) ≡ b → mail.IsRun hosts.all (crossings_of moments)
+          → Holds a k (program a moments) (mixed_kept hosts.strange moments)
           → Holds a k (program a (x ∷ moments)) (if b then crossed_only x (mixed_kept hosts.strange moments) else all_told (host_in x) (notices_by x moments) (kept_by x (mixed_kept hosts.strange moments)))
       by true on below old =
-          subst (λ (s : NcpState). Holds a k s (crossed_only x (mixed_kept hosts.strange moments))) (sym (away a (places moments) x (program a moments) (other on (same_host a (host_in x)) refl)))
+          subst (λ (s : NcpState). Holds a k s (crossed_only x (mixed_kept hosts.strange moments))) (sym (unmoved a x moments (other on (same_host a (host_in x)) refl)))
           (strange_moment x (program a moments) (mixed_kept hosts.strange moments) old)
       by false apart below old =
           own_moment x moments (mixed_kept hosts.strange moments) run time (ordered moments below time.1) (fit moments below time.1) (idle moments below time.1) old

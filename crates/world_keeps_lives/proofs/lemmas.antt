@@ -9,8 +9,8 @@ pub use Rattle.world_keeps_lives.proofs.Desks.{AreAside, At, Elsewhere, IsLess, 
 pub use Rattle.world_keeps_lives.proofs.Drained.{drained, world_drained}
 pub use Rattle.world_keeps_lives.proofs.Ends.{IsRefusing, found_changed, none_changed, refusing_found}
 pub use Rattle.world_keeps_lives.proofs.Facts.{no}
-pub use Rattle.world_keeps_lives.proofs.FirstBooks.{WasAt, linked_book, linked_end, same_out, was_or_begins}
-pub use Rattle.world_keeps_lives.proofs.FirstEnds.{HasOwner, Together, not_zero}
+pub use Rattle.world_keeps_lives.proofs.Firsts.Books.{WasAt, linked_book, linked_end, same_out, was_or_begins}
+pub use Rattle.world_keeps_lives.proofs.Firsts.Ends.{HasOwner, Together, not_zero}
 pub use Rattle.world_keeps_lives.proofs.Formed.{end_link, first_book, formed_book}
 pub use Rattle.world_keeps_lives.proofs.Goes.{IsOfTwo, Waits, all_go, unasked_by}
 pub use Rattle.world_keeps_lives.proofs.Grounds.{crossed_below}

@@ -53,7 +53,7 @@ pub use Rattle.net_sim.specs.Book.{Kept, all_told, book_told, carried, changed_w
 pub use Rattle.net_sim.specs.Clean.{HaveAddresses, IsLawful}
 pub use Rattle.net_sim.specs.Projection.{Agrees, AllPlain, ArePlain, IsApart, control_message, event_by, is_rrp, is_rst, message_on}
 pub use Rattle.net_sim.specs.Story.{Asked, Crossed, IsNext, IsStory, Moment, event_in, events_of, places, program}
-pub use Rattle.net_sim.specs.Timeline.{Happens, IsTimeline, contacts_of, crossings_of, seen_box}
+pub use Rattle.net_sim.specs.Timeline.{IsTimeline, contacts_of, crossings_of, seen_box}
 pub use Rattle.net_sim.specs.Told.{host_in, kept_by, notices_by}
 pub use Rattle.net_sim.specs.WorkedMoments.{bits_sent, eight_sent, sent_moments}
 pub use Rattle.net_sim.specs.World.{WorldState}

@@ -170,7 +170,8 @@ module _ (hosts : List Host) where
 
   module _ (y : Moment) (ms : List Moment) (l : Lawful hosts (y ∷ ms)) (a b : Host) (link socket foreign own partner : ℕ) (t : Stands a b link socket foreign own (y ∷ ms)) where
     fresh : stay.begins a b (event_in y) (events_of ms) ≡ true → Fresh a b (event_in y) (events_of ms)
-    fresh new = begins_fresh (all_ours hosts) (event_in y) (events_of ms) (coupled_in hosts (y ∷ ms) l).run a b (refl, refl) new
+    fresh new =
+        begins_fresh (all_ours hosts) (event_in y) (events_of ms) (coupled_in hosts (y ∷ ms) l).run a b (refl, refl) new
 
     -- what both have done, where no stay begins
     module _ (none : stay.begins a b (event_in y) (events_of ms) ≡ false) where

@@ -33,7 +33,8 @@ pub goes_on : (hosts : List Host) (a b : Host) (y : Moment) (ms : List Moment) �
 goes_on hosts a b y ms l none n j = let g : Goes a b (suc n) y ms j = joint.goes (suc n) (no_zero n) (all_ours hosts) l.0 a b (refl, refl) y ms l.1 (happened hosts (y ∷ ms) l.2) j none in (g.joined, g.keeps_x)
 
 meets_at : (hosts : List Host) (a b : Host) (y : Moment) (ms : List Moment) → Lawful hosts (y ∷ ms) → stay.begins a b (event_in y) (events_of ms) ≡ true → (n : ℕ) → Joined a b (suc n) (y ∷ ms)
-meets_at hosts a b y ms l new n = meets (suc n) (no_zero n) (all_ours hosts) l.0 a b (refl, refl) y ms l.1 (happened hosts (y ∷ ms) l.2) new
+meets_at hosts a b y ms l new n =
+    meets (suc n) (no_zero n) (all_ours hosts) l.0 a b (refl, refl) y ms l.1 (happened hosts (y ∷ ms) l.2) new
 
 -- ---- so what is left is asked of lives
 

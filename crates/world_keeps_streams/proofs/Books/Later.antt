@@ -225,7 +225,8 @@ module _ (hosts : List Host) (a b : Host) where
       by (Crossed c) k = request_grows hosts ms k (c ∷ []) s (contains s (lives_in ms) i)
 
     pub fresh : stay.begins a b (event_in z) (events_of ms) ≡ true → Fresh a b (event_in z) (events_of ms)
-    fresh new = begins_fresh (all_ours hosts) (event_in z) (events_of ms) (coupled_in hosts (z ∷ ms) l).run a b (refl, refl) new
+    fresh new =
+        begins_fresh (all_ours hosts) (event_in z) (events_of ms) (coupled_in hosts (z ∷ ms) l).run a b (refl, refl) new
 
     -- a sending life of the peer that is of before both met last was over before, so it is as it was
     pub record Before (s : Life) : Type 0 where

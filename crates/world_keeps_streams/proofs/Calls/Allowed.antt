@@ -26,7 +26,8 @@ known hosts origin addresses moments run time from =
     let served : AreServed hosts moments = served_in hosts moments time in
     record { tied = all_tied hosts origin moments from c.story c.run served; bare = all_bare hosts origin moments from c.story c.run run served; ranged = programs_ranged hosts moments served }
 
-module _ (hosts : Network) (addresses : HaveAddresses hosts.all) (moments : List Moment) (a b : Host) (ours : AreOurs hosts a b) where
+module _ (hosts : Network) (addresses : HaveAddresses hosts.all) (moments : List Moment) (a b : Host)
+    (ours : AreOurs hosts a b) where
   out_may : (origin : Host → Host → ℕ → ℕ) → IsKnown hosts origin moments → Coupled hosts moments → AreSized (pair_with b (program a moments).peers).entries → AllMay (next_calls b (places moments) (program a moments).listening (next_in (program a moments).peers))
   out_may origin k c sized = by (next_in (program a moments).peers) refl where
     by : (o : Option (Peer × Parcel)) → next_in (program a moments).peers ≡ o → AllMay (next_calls b (places moments) (program a moments).listening o)
@@ -42,7 +43,8 @@ module _ (hosts : Network) (addresses : HaveAddresses hosts.all) (moments : List
           (subst (λ (q : PairState). (own foreign : ℕ) → (y : End) × HasEnd (origin a b) own foreign q y) old (λ own foreign. has_end hosts origin moments k.tied k.bare a b ours own foreign))
       at false e = tt
 
-  in_may : (m : HostMessage) → mail.IsRun hosts.all (crossings_of (Crossed (crossing.In m) ∷ moments)) → Happened hosts (Crossed (crossing.In m) ∷ moments) → AllMay (calls_by a b (Crossed (crossing.In m)) moments)
+  in_may : (m : HostMessage) → mail.IsRun hosts.all (crossings_of (Crossed (crossing.In m) ∷ moments))
+      → Happened hosts (Crossed (crossing.In m) ∷ moments) → AllMay (calls_by a b (Crossed (crossing.In m)) moments)
   in_may m run time = by (same_host a m.flow.destination) (same_host b m.flow.source) refl refl where
     o : Host → Host → ℕ → ℕ
     o = origin_in (crossings_of (Crossed (crossing.In m) ∷ moments))
@@ -76,14 +78,16 @@ module _ (hosts : Network) (addresses : HaveAddresses hosts.all) (moments : List
     by true false = tt
     by false e = tt
 
-  asked_may : (h : Host) (r : Request) → Coupled hosts moments → (same_host a h ≡ true → refusal (program h moments) r ≡ None) → AllMay (calls_by a b (Asked h r) moments)
+  asked_may : (h : Host) (r : Request) → Coupled hosts moments
+      → (same_host a h ≡ true → refusal (program h moments) r ≡ None) → AllMay (calls_by a b (Asked h r) moments)
   asked_may h r c may = by (same_host a h) refl where
     by : (d : Bool) → same_host a h ≡ d → AllMay (if d then request_calls b (program a moments) r else [])
     by true e = request_may (program a moments) b r (c.order a ours.0) (subst (λ (g : Host). refusal (program g moments) r ≡ None) (sym (same_host-true a h e)) (may e))
     by false e = tt
 
   -- where byte sizes are known
-  sized_calls : (x : Moment) → mail.IsRun hosts.all (crossings_of (x ∷ moments)) → Happened hosts (x ∷ moments) → AreSized (pair_with b (program a moments).peers).entries → AllMay (calls_by a b x moments)
+  sized_calls : (x : Moment) → mail.IsRun hosts.all (crossings_of (x ∷ moments)) → Happened hosts (x ∷ moments)
+      → AreSized (pair_with b (program a moments).peers).entries → AllMay (calls_by a b x moments)
   sized_calls (Crossed (crossing.Out m)) run time sized =
       by (same_host a m.flow.source) where
         below : Coupled hosts moments
@@ -99,7 +103,8 @@ module _ (hosts : Network) (addresses : HaveAddresses hosts.all) (moments : List
   sized_calls (Crossed (crossing.Answer kind f)) run time sized = told_may kind f
   sized_calls (Crossed (crossing.Down h)) run time sized = tt
   sized_calls (Crossed (crossing.Up h)) run time sized = tt
-  sized_calls (Asked h r) run time sized = asked_may h r (coupled hosts addresses moments run time.1) (λ e. (time.0 (plain_at hosts a h e ours.0)).2)
+  sized_calls (Asked h r) run time sized =
+      asked_may h r (coupled hosts addresses moments run time.1) (λ e. (time.0 (plain_at hosts a h e ours.0)).2)
 
 -- each call of a moment may be made
 pub may_calls : (hosts : Network) → HaveAddresses hosts.all → (x : Moment) (moments : List Moment) → mail.IsRun hosts.all (crossings_of (x ∷ moments)) → Happened hosts (x ∷ moments) → (a b : Host) → AreOurs hosts a b → AllMay (calls_by a b x moments)

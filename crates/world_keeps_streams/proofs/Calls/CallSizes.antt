@@ -100,19 +100,23 @@ module _ (s : NcpState) (b : Host) (sizes : AreSizes s.listening) where
 
 -- ---- moments
 
-module _ (hosts : Network) (a b : Host) (ours : AreOurs hosts a b) (moments : List Moment) (ranged : IsRanged (program a moments)) where
+module _ (hosts : Network) (a b : Host) (ours : AreOurs hosts a b) (moments : List Moment)
+    (ranged : IsRanged (program a moments)) where
   desk_ranged : DeskRanged (turn_of (program a moments) b)
   desk_ranged =
       let p : IsPair (pair_with b (program a moments).peers) = pair_range b (program a moments).peers ranged.pairs in
       record { ends = p.ends; commands = p.commands; sizes = ranged.sizes }
 
-  calls_sizes : (x : Moment) → IsStory hosts (x ∷ moments) → MayHappen hosts.strange hosts.all x moments → AllSizes (calls_by a b x moments)
+  calls_sizes : (x : Moment) → IsStory hosts (x ∷ moments) → MayHappen hosts.strange hosts.all x moments
+      → AllSizes (calls_by a b x moments)
   calls_sizes (Crossed (crossing.Out m)) story happens = by (same_host a m.flow.source) where
     by : (d : Bool) → AllSizes (if d then next_calls b (places moments) (program a moments).listening (next_in (program a moments).peers) else [])
-    by true = next_sizes b (places moments) (program a moments).listening (next_in (program a moments).peers) ranged.sizes
+    by true =
+        next_sizes b (places moments) (program a moments).listening (next_in (program a moments).peers) ranged.sizes
     by false = tt
   calls_sizes (Crossed (crossing.In m)) story happens = by (same_host a m.flow.destination && same_host b m.flow.source) refl where
-    our : (same_host a m.flow.destination && same_host b m.flow.source) ≡ true → AreOurs hosts m.flow.source m.flow.destination
+    our : (same_host a m.flow.destination && same_host b m.flow.source) ≡ true
+        → AreOurs hosts m.flow.source m.flow.destination
     our e =
         let two : (same_host a m.flow.destination ≡ true) × (same_host b m.flow.source ≡ true) = both (same_host a m.flow.destination) (same_host b m.flow.source) e in
         (plain_at hosts b m.flow.source two.1 ours.1, plain_at hosts a m.flow.destination two.0 ours.0)

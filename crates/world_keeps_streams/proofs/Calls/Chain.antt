@@ -53,7 +53,8 @@ module _ (a b : Host) where
     own_is : (h : Host) → same_host a h ≡ true → same_host (program a moments).own h ≡ true
     own_is h e = ap (λ (g : Host). same_host g h) (program_own a moments) ∙ e
 
-    in_moved : (m : HostMessage) → IsStory hosts (Crossed (crossing.In m) ∷ moments) → Moves (Crossed (crossing.In m)) moments
+    in_moved : (m : HostMessage) → IsStory hosts (Crossed (crossing.In m) ∷ moments)
+        → Moves (Crossed (crossing.In m)) moments
     in_moved m story = by (same_host a m.flow.destination) (same_host b m.flow.source) refl refl where
       by : (d e : Bool) → same_host a m.flow.destination ≡ d → same_host b m.flow.source ≡ e
           → Turned b (stay.takes_reset a b (event_in (Crossed (crossing.In m)))) (pair_with b (program a moments).peers) (pair_with b (if d then (accepted (program a moments) (inbound.Message m) (places moments)).0 else program a moments).peers)
@@ -88,7 +89,8 @@ module _ (a b : Host) where
       by true false g k = still b (pair_with b (program a moments).peers) _ (answer_leaves (program a moments) kind f (places moments) b k)
       by false e g k = still b (pair_with b (program a moments).peers) (pair_with b (program a moments).peers) refl
 
-    asked_moved : (h : Host) (r : Request) → (same_host a h ≡ true → refusal (program h moments) r ≡ None) → Moves (Asked h r) moments
+    asked_moved : (h : Host) (r : Request) → (same_host a h ≡ true → refusal (program h moments) r ≡ None)
+        → Moves (Asked h r) moments
     asked_moved h r may =
         subst (λ (t : Bool). Turned b t (pair_with b (program a moments).peers) (pair_with b (program a (Asked h r ∷ moments)).peers) (calls_by a b (Asked h r) moments))
         (sym (by_request (λ e. stay.takes_reset a b e ≡ false) h r (λ peer. refl) refl))
@@ -97,7 +99,8 @@ module _ (a b : Host) where
           by true e = request_moved (program a moments) b r (c.order a ours.0) (subst (λ (g : Host). refusal (program g moments) r ≡ None) (sym (same_host-true a h e)) (may e))
           by false e = still b (pair_with b (program a moments).peers) (pair_with b (program a moments).peers) refl
 
-    pub moved : (x : Moment) → IsStory hosts (x ∷ moments) → MayHappen hosts.strange hosts.all x moments → Moves x moments
+    pub moved : (x : Moment) → IsStory hosts (x ∷ moments) → MayHappen hosts.strange hosts.all x moments
+        → Moves x moments
     moved (Crossed (crossing.Out m)) story happens = out_moved m
     moved (Crossed (crossing.In m)) story happens = in_moved m story
     moved (Crossed (crossing.Answer kind f)) story happens = told_moved kind f
@@ -108,10 +111,12 @@ module _ (a b : Host) where
 -- ---- all moments
 
 -- a host is through a reset by its program where it is by the law
-pub ready_both : (hosts : Network) (a b : Host) (moments : List Moment) → AreOurs hosts a b → IsStory hosts moments → stay.ready a b (events_of moments) ≡ is_ready (pair_with b (program a moments).peers).phase
+pub ready_both : (hosts : Network) (a b : Host) (moments : List Moment) → AreOurs hosts a b → IsStory hosts moments
+    → stay.ready a b (events_of moments) ≡ is_ready (pair_with b (program a moments).peers).phase
 ready_both hosts a b moments ours story = ap (λ (p : Pair). is_ready p.phase) (sym (pair_same a b (events_of moments))) ∙ ready_is hosts a b moments ours story
 
-pub idle : (hosts : Network) → HaveAddresses hosts.all → (moments : List Moment) → mail.IsRun hosts.all (crossings_of moments) → Happened hosts moments → (a b : Host) → AreOurs hosts a b
+pub idle : (hosts : Network) → HaveAddresses hosts.all → (moments : List Moment)
+    → mail.IsRun hosts.all (crossings_of moments) → Happened hosts moments → (a b : Host) → AreOurs hosts a b
     → is_ready (pair_with b (program a moments).peers).phase ≡ false → ((pair_with b (program a moments).peers).entries ≡ []) × ((pair_with b (program a moments).peers).queue ≡ [])
 idle hosts addresses [] run time a b ours = λ j. (refl, refl)
 idle hosts addresses (x ∷ moments) run time a b ours =
@@ -140,5 +145,6 @@ chain hosts addresses (x ∷ moments) run time a b ours = by (chain hosts addres
   by : Chained a b moments → (r z : Bool) → stay.ready a b (events_of (x ∷ moments)) ≡ r → stay.takes_reset a b (event_in x) ≡ z
       → IsHistory b (if r && not z then calls_by a b x moments ++ own_calls a b moments else []) × (ends_now b (if r && not z then calls_by a b x moments ++ own_calls a b moments else []) ≡ (pair_with b (program a (x ∷ moments)).peers).entries)
   by old true true e f = none (t.drops f)
-  by old true false e f = t.leads f (sym (ready_both hosts a b (x ∷ moments) ours story) ∙ e) (own_calls a b moments) old.0 old.1
+  by old true false e f =
+      t.leads f (sym (ready_both hosts a b (x ∷ moments) ours story) ∙ e) (own_calls a b moments) old.0 old.1
   by old false z e f = none (idle hosts addresses (x ∷ moments) run time a b ours (sym (ready_both hosts a b (x ∷ moments) ours story) ∙ e)).0

@@ -116,7 +116,8 @@ module _ (hosts : Network) (addresses : HaveAddresses hosts.all) (a b : Host) (o
   quiet_if true cs n = n refl
   quiet_if false cs n = tt
 
-  left_quiet : (x : Moment) (moments : List Moment) → mail.IsRun hosts.all (crossings_of (x ∷ moments)) → Happened hosts (x ∷ moments) → stay.stays a b (events_of moments) ≡ false → HearNoRts (calls_by a b x moments)
+  left_quiet : (x : Moment) (moments : List Moment) → mail.IsRun hosts.all (crossings_of (x ∷ moments))
+      → Happened hosts (x ∷ moments) → stay.stays a b (events_of moments) ≡ false → HearNoRts (calls_by a b x moments)
   left_quiet (Crossed (crossing.Out m)) moments run time left =
       quiet_if (same_host a m.flow.source) (next_calls b (places moments) (program a moments).listening (next_in (program a moments).peers)) (λ t. next_quiet b (places moments) (program a moments).listening (next_in (program a moments).peers))
   left_quiet (Crossed (crossing.In m)) moments run time left =
@@ -143,10 +144,12 @@ module _ (hosts : Network) (addresses : HaveAddresses hosts.all) (a b : Host) (o
 
 -- ---- all moments
 
-module _ (number : ℕ → ℕ → ℕ → ℕ) (link : ℕ) (hosts : Network) (addresses : HaveAddresses hosts.all) (a b : Host) (ours : AreOurs hosts a b)
+module _ (number : ℕ → ℕ → ℕ → ℕ) (link : ℕ) (hosts : Network) (addresses : HaveAddresses hosts.all) (a b : Host)
+    (ours : AreOurs hosts a b)
     (staying : (moments : List Moment) → mail.IsRun hosts.all (crossings_of moments) → Happened hosts moments → stay.stays a b (events_of moments) ≡ true → AreAllowed number b link (own_calls a b moments))
     (may_calls : (x : Moment) (moments : List Moment) → mail.IsRun hosts.all (crossings_of (x ∷ moments)) → Happened hosts (x ∷ moments) → AllMay (calls_by a b x moments)) where
-  pub allowed : (moments : List Moment) → mail.IsRun hosts.all (crossings_of moments) → Happened hosts moments → AreAllowed number b link (own_calls a b moments)
+  pub allowed : (moments : List Moment) → mail.IsRun hosts.all (crossings_of moments) → Happened hosts moments
+      → AreAllowed number b link (own_calls a b moments)
   allowed [] run time = tt
   allowed (x ∷ moments) run time = by (stay.stays a b (events_of (x ∷ moments))) refl (allowed moments (mail_below hosts.all x moments run) time.1) where
     alone : stay.stays a b (events_of (x ∷ moments)) ≡ false → AreAllowed number b link (own_calls a b moments) → (k : Bool) → keeps a b (event_in x) (events_of moments) ≡ k

@@ -22,8 +22,10 @@ by_kind P own foreign first second third = by (is_receive_socket own && is_send_
 
 -- ---- the ends of any two sockets
 
-module _ (hosts : Network) (origin : Host → Host → ℕ → ℕ) (moments : List Moment) (t : AllTied hosts origin moments) (bare : AllBare hosts origin moments) where
-  pub has_end : (a b : Host) → AreOurs hosts a b → (own foreign : ℕ) → (x : End) × HasEnd (origin a b) own foreign (pair_with b (program a moments).peers) x
+module _ (hosts : Network) (origin : Host → Host → ℕ → ℕ) (moments : List Moment) (t : AllTied hosts origin moments)
+    (bare : AllBare hosts origin moments) where
+  pub has_end : (a b : Host) → AreOurs hosts a b → (own foreign : ℕ) → (x : End)
+      × HasEnd (origin a b) own foreign (pair_with b (program a moments).peers) x
   has_end a b ours own foreign =
       by_kind ((x : End) × HasEnd (origin a b) own foreign (pair_with b (program a moments).peers) x) own foreign
       (λ e f. ((Side_of (record { receive = own; send = foreign }) (e, f) Receiver a b (origin a b) moments).end, (t.tied a b ours).receiver (record { receive = own; send = foreign }) (e, f)))

@@ -32,4 +32,5 @@ all_calls [] h = tt
 all_calls (m ∷ cs) h = (one_call m.call m.pair h.0, all_calls cs h.1)
 
 pub law_calls : (hosts : Network) → HaveAddresses hosts.all → (x : Moment) (moments : List Moment) → mail.IsRun hosts.all (crossings_of (x ∷ moments)) → Happened hosts (x ∷ moments) → (a b : Host) → AreOurs hosts a b → MayCalls (calls_by a b x moments)
-law_calls hosts addresses x moments run time a b ours = all_calls (calls_by a b x moments) (may_calls hosts addresses x moments run time a b ours)
+law_calls hosts addresses x moments run time a b ours =
+    all_calls (calls_by a b x moments) (may_calls hosts addresses x moments run time a b ours)

@@ -17,7 +17,7 @@ use Rattle.world_keeps_streams.proofs.Ends.Marks.{never}
 use Rattle.world_keeps_streams.proofs.Ends.Ties.{has_now, itself, law_end}
 use Rattle.world_keeps_streams.proofs.Ends.Unshut.{is_shut}
 use Rattle.world_keeps_streams.proofs.Lives.Left.{at_it, one_of}
-use Rattle.world_keeps_streams.proofs.Requests.Sides.{Lawful, coupled_in}
+use Rattle.world_keeps_streams.proofs.Requests.Sides.{Lawful, coupled_in, lawful_among}
 use Rattle.world_keeps_streams.proofs.Steps.Streams.{has_sender}
 use Rattle.world_keeps_streams.proofs.Tidy.Pairs.{Each, IsTidy}
 use Rattle.world_keeps_streams.proofs.Tidy.Programs.{all_tidy}
@@ -69,7 +69,7 @@ module _ (hosts : List Host) (ms : List Moment) (l : Lawful hosts ms) (x : Life)
       one_of itself 0 (filter (is_at x.socket x.foreign) (pair_with x.peer (program x.host ms).peers).entries)
       (marks 0 x.socket x.foreign (pair_with x.peer (program x.host ms).peers).queue)
       (law_end x.host x.peer x.socket x.foreign ms) e f
-      ((has_now hosts ms l x.host x.peer x.socket x.foreign).ends 0)
+      ((has_now (all_ours hosts) ms (lawful_among hosts ms l) x.host x.peer (refl, refl) x.socket x.foreign).ends 0)
       (among_kept (is_at x.socket x.foreign) (pair_with x.peer (program x.host ms).peers).entries e i
       (at_it x.socket x.foreign e a b)) (among_kept (is_at x.socket x.foreign)
       (pair_with x.peer (program x.host ms).peers).entries f j (at_it x.socket x.foreign f c d))
@@ -176,7 +176,7 @@ module _ (hosts : List Host) (ms : List Moment) (l : Lawful hosts ms) (x : Life)
             ∙ ap has_opened (sym same) ∙ fresh)
 
         by : (v : Bool) → is_busy (pair_with x.peer (program x.host ms).peers).busy k ≡ v → not v ≡ true
-        by true busy = absurd (other (busy_open hosts x.host x.peer k (away k is) ms l ready owes busy))
+        by true busy = absurd (other (busy_open (all_ours hosts) x.host x.peer (refl, refl) k (away k is) ms (lawful_among hosts ms l) ready owes busy))
         by false free = refl
 
   open_closing : (c : Closing) → has_cls c ≡ false → is_due c ≡ false → is_called_off c ≡ false
