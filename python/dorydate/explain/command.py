@@ -1,14 +1,16 @@
 """Says what ./arpasim prints on an input, line by line, and why: ./explain [--chart [--short]] < FILE
 
-For each line of the script it prints the line's number in the file, what the program printed for it, and what that means:
-also what a message says, and what an event does inside the network. For a refused event it names the cause. For an input
-that the program refuses it says what is probably wrong. With --chart it writes a sequence chart in Mermaid's language
-instead, which GitHub and GitLab draw; with --short it draws one arrow for each message, and leaves out RFNMs and most of
-what users learn. With --book it says what the promise says of one life or one message: LINE is its line in the log, and
-without it they are listed; FILE is a log, or an input. With --page it writes a page for a browser (docs/workbench.md).
-Its exit status is that of the program.
+For each line of the script it prints the line's number in the file, what the program printed for it, and what that
+means: also what a message says, and what an event does inside the network. For a refused event it names the cause.
+For an input that the program refuses it says what is probably wrong. With --chart it writes a sequence chart in
+Mermaid's language instead, which GitHub and GitLab draw; with --short it draws one arrow for each message, and
+leaves out RFNMs and most of what users learn. With --book it says what the promise says of one life or one message:
+LINE is its line in the log, and without it they are listed; FILE is a log, or an input. With --promise it checks
+such a file against each clause of the promise, by its definitions (docs/audit.md). With --page it writes a page for
+a browser (docs/workbench.md). Its exit status is that of the program.
 
-Which script line printed what the program itself says, in a run with refused events between those of the script (dorydate.marks).
+Which script line printed what the program itself says, in a run with refused events between those of the script
+(dorydate.marks).
 
 Only the sentences rest on the rules in docs/. What messages say, and what happens inside the network, comes from the
 independent model in Python, which replays the script beside the program and has to print the same lines.
@@ -22,14 +24,14 @@ import sys
 from collections.abc import Callable, Sequence
 
 from dorydate.expect import command as expect
-from dorydate.explain import book, faults, page
+from dorydate.explain import book, faults, page, promised
 from dorydate.explain.charts import chart, short_chart
 from dorydate.given import Input
 from dorydate.explain.logs import explained
 from dorydate.explain.runs import CannotTell, Replayed, kept_program, lives, replay
 from dorydate.explain.telling import said_beside, telling
 from dorydate.explain.topology import is_raw, names_of, network_by
-from dorydate.model.log import BadLog, read_log
+from dorydate.model.log import BadLog, Book, read_log
 from dorydate.program import MOST_OCTETS, UNLIMITED, NoProgram, Program
 from dorydate.where import ROOT, here
 
@@ -37,6 +39,7 @@ MOST_OF_LOG = 268_435_456  # octets of a log that is read here
 USAGE = here("""usage: ./explain [--chart [--short] | --page [OTHER-FILE]] < FILE
 usage: ./explain --audit < LOG
 usage: ./explain --book [LINE] < FILE
+usage: ./explain --promise [LOG]
 usage: ./explain --expect FILE..""")
 
 
@@ -45,6 +48,14 @@ def standard_input(most: int = MOST_OCTETS) -> bytes:
     if sys.stdin.isatty():
         print("explain: reading from the terminal; Ctrl-D ends the input", file=sys.stderr)
     return sys.stdin.buffer.read(most + 1)
+
+
+def open_or_given(files: Sequence[str]) -> bytes:
+    """The octets of a file, or of standard input."""
+    if not files:
+        return standard_input(MOST_OF_LOG)
+    with open(files[0], "rb") as file:
+        return file.read()
 
 
 def audited(words: Sequence[str]) -> int:
@@ -62,9 +73,8 @@ def audited(words: Sequence[str]) -> int:
     return ran.status
 
 
-def of_book(words: Sequence[str]) -> int:
-    """Prints what the promise says of a life or a message of a log, or of an input's log. The status."""
-    octets = standard_input(MOST_OF_LOG)
+def of_log(octets: bytes, say: Callable[[Book], int]) -> int:
+    """Says something of a log, or of an input's log. The status."""
     if b"%" in octets.split(b"\n"):
         ran = (kept_program() or Program(f"{ROOT}/arpasim")).run(octets, "--log", seconds=UNLIMITED)
         print(ran.said, end="", file=sys.stderr, flush=True)
@@ -72,14 +82,27 @@ def of_book(words: Sequence[str]) -> int:
             return ran.status
         octets = ran.output.encode("latin-1")
     try:
-        print(*book.said_of(read_log(octets), int(words[0]) if words else None), sep="\n")
+        return say(read_log(octets))
     except BadLog as line:
         print(f"bad log line {line}", file=sys.stderr)
         return 2
-    except book.NoSuchLine as line:
-        print(f"explain: line {line} of the log is no life and no message", file=sys.stderr)
+
+
+def say_of_book(found: Book, line: int | None) -> int:
+    """Prints what the promise says of a life or a message. The status."""
+    try:
+        print(*book.said_of(found, line), sep="\n")
+    except book.NoSuchLine as wrong:
+        print(f"explain: line {wrong} of the log is no life and no message", file=sys.stderr)
         return 1
     return 0
+
+
+def say_promise(found: Book) -> int:
+    """Prints whether each clause of the promise holds. The status: 4 where one is broken."""
+    lines, holds = promised.said_of(found)
+    print(*lines, sep="\n")
+    return 0 if holds else 4
 
 
 def drawn(given: Input, found: Replayed, draw: Callable[..., str]) -> str:
@@ -126,7 +149,10 @@ def asked(options: list[str]) -> int:
     if options in (["--log"], ["--audit"]):
         return audited(options)
     if options[:1] == ["--book"] and len(options) < 3 and all(re.fullmatch("[0-9]{1,19}", it) for it in options[1:]):
-        return of_book(options[1:])
+        line = int(options[1]) if options[1:] else None
+        return of_log(standard_input(MOST_OF_LOG), lambda found: say_of_book(found, line))
+    if options[:1] == ["--promise"] and len(options) < 3:
+        return of_log(open_or_given(options[1:]), say_promise)
     if options[:1] == ["--expect"]:
         return expect(options[1:])
     if sorted(options) in ([], ["--chart"], ["--chart", "--short"]):

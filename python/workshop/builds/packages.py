@@ -17,6 +17,7 @@ import tempfile
 from collections.abc import Mapping
 from dataclasses import dataclass
 
+from dorydate.definitions.promise import PACKED, files_of_promise
 from workshop.builds.manual import manual
 from workshop.parts import ROOT, read_octets
 from workshop.tools import python_with
@@ -53,6 +54,11 @@ def examples() -> Files:
 def programs() -> Files:
     """The programs of hosts among the examples, which the tutorial runs."""
     return {it: (read_octets(f"{ROOT}/examples/{it}"), 0o644) for it in sorted(os.listdir(f"{ROOT}/examples")) if it.endswith((".py", ".c"))}
+
+
+def promised() -> Files:
+    """The files of the definitions of the promise."""
+    return {it: (read_octets(f"{ROOT}/crates/{it}"), 0o644) for it in files_of_promise()}
 
 
 def below(folder: str, files: Files) -> Files:
@@ -100,6 +106,7 @@ def wheel(release: Release, folder: str) -> str:
                 os.chmod(f"{place}/{name}", 0o644)
         write(f"{room}/dorydate/release", {**of_module(release), "arpasim": (release.native, 0o755)})
         write(f"{room}/dorydate/examples", {**examples(), **programs()})
+        write(f"{room}/dorydate/definitions/{PACKED.name}", promised())
         write(room, licences())
         build = "import sys; from setuptools import build_meta; build_meta.build_wheel(sys.argv[1])"
         env = {**os.environ, "SOURCE_DATE_EPOCH": str(EPOCH), "PYTHONDONTWRITEBYTECODE": "1"}

@@ -2,7 +2,7 @@
 
 It takes the proved program, or where ./build has not made that the one that was built without proofs, which is slow.
 
-A file NAME of a folder, or of a folder below it, is an input, but for programs (.py). Beside it may be
+A file NAME of a folder, or of a folder below it, is an input, but for programs (.py, .c). Beside it may be
 
 - NAME.args: the options, one a line
 - NAME.stdout: what is printed; without this file, nothing
@@ -100,7 +100,7 @@ class Case:
 def cases_below(folder: str) -> Iterator[Case]:
     """The cases of a folder, by name."""
     for place, _, files in sorted(os.walk(folder)):
-        for file in sorted(it for it in files if not it.endswith((*BESIDE, ".py"))):
+        for file in sorted(it for it in files if not it.endswith((*BESIDE, ".py", ".c"))):
             path = f"{place}/{file}"
             name = os.path.relpath(path, folder).replace("/", "-")
             head, table = octets_of(path) or b"", octets_of(path + ".rows")

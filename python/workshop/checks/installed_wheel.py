@@ -13,6 +13,7 @@ import tempfile
 import zipfile
 from pathlib import Path
 
+from dorydate.definitions.promise import files_of_promise
 from workshop.builds.packages import Refused, python_with_setuptools
 from workshop.checks.wrong import Wrong, call
 from workshop.documents.notebook import NOTEBOOK
@@ -24,7 +25,7 @@ CELLS = f"{ROOT}/python/workshop/checks/cells.py"
 COMMANDS = (["explain"], ["explain", "--chart"], ["explain", "--page"], ["export", "--shiviz"], ["version"], ["page"])
 SEARCH = ("explore", "resets-in-step", "--quiet", "--runs", "1000", "--matches", "1")
 WRONG_LINE = 'net.calm("x")'
-# what a wheel and a page are built of
+# what a wheel and a page are built of, beside the definitions of the promise
 PARTS = ("python", "examples", "web", "docs/chronology.md", "LICENSE-APACHE", "LICENSE-MIT")
 BUILD = """
 import json, sys
@@ -69,6 +70,9 @@ def check_commands(room: str) -> None:
         if not call(f"{room}/venv/bin/dorydate", *words, cwd=room, env=env, input=first):
             raise Wrong(f"dorydate {' '.join(words)} prints nothing")
     call(f"{room}/venv/bin/python", "-m", "dorydate", *SEARCH, cwd=room, env=env)
+    judged = call(f"{room}/venv/bin/dorydate", "explain", "--promise", f"{ROOT}/logs/two-octets", cwd=room, env=env)
+    if "broken" in judged or "holds  within" not in judged:
+        raise Wrong("dorydate explain --promise doesn't judge a log")
 
 
 def program_of_a_user() -> str:
@@ -139,7 +143,7 @@ def check_twice(folder: str) -> None:
         print(f"check release: the wheel: it was not built again, since {why}")
         return
     with tempfile.TemporaryDirectory() as room:
-        for part in PARTS:
+        for part in (*PARTS, *(f"crates/{it}" for it in files_of_promise())):
             os.makedirs(os.path.dirname(f"{room}/tree/{part}"), exist_ok=True)
             call("cp", "-r", f"{ROOT}/{part}", f"{room}/tree/{part}")
         call("chmod", "-R", "go-rwx", f"{room}/tree")
@@ -164,7 +168,8 @@ def check_page(tree: str, folder: str, commit: str) -> None:
 def check_built_again(folder: str, wheel: str, commit: str) -> None:
     """The commit that a release names gives its page and its wheel again."""
     with tempfile.TemporaryDirectory() as room:
-        archive = subprocess.run(["git", "archive", commit, *PARTS], cwd=ROOT, capture_output=True, check=False)
+        parts = ["git", "archive", commit, *PARTS, "crates"]
+        archive = subprocess.run(parts, cwd=ROOT, capture_output=True, check=False)
         if archive.returncode:
             print(f"check release: commit {commit[:8]} is not in this clone, so page and wheel were not made again")
             return

@@ -37,6 +37,7 @@ from dorydate.script import Script
 from workshop.checks.live_sessions import HERE, MINE, SRI, TRIANGLE, Process, Room, Running
 from workshop.checks.live_sessions import ended, outcome, session, with_strangers
 from workshop.parts import ROOT, any_program, read_octets, text_of
+from workshop.tools import lacking
 
 HOST = f"{ROOT}/examples/host.c"
 MOST_LINES = 450  # of the host in C
@@ -234,7 +235,7 @@ def main() -> int:
         print("check live: there is no program of these sources: ./build makes it")
         return 1
     if shutil.which("cc") is None:
-        print("check live: there is no cc, so the host in C did not run (apt-get install gcc)")
+        lacking("live", "all of it", "a C compiler")
         return 0
     wrong = [] if text_of(HOST).count("\n") <= MOST_LINES else [f"examples/host.c has more than {MOST_LINES} lines"]
     with tempfile.TemporaryDirectory() as folder:

@@ -1,6 +1,6 @@
 """docs/measured/promise.md: all that the clauses of headline::book_of promise without a program, from the top.
 
-The clauses of `book_of` are read from its source, but for those that compare with the world (LEFT). Below each clause are the definitions to which
+The clauses of `book_of` are read from its source, but for those that compare with the world (`LEFT`). Below each clause are the definitions to which
 its names lead, each before those that it uses, by the imports of its file; what reads texts comes last. A name that is both a field's and a
 definition's counts as the definition, so the page may have too much, and never too little. Then come the types that are declared in Rust, a key
 to the language, and a book worked by hand.
@@ -14,6 +14,7 @@ import re
 from collections.abc import Iterator
 from dataclasses import dataclass, field
 
+from dorydate.definitions.promise import LEFT
 from workshop.documents import believed_promises, believed_words
 from workshop.documents.rules import Place, read
 from workshop.parts import ROOT
@@ -21,7 +22,6 @@ from workshop.parts import ROOT
 PAGE = f"{ROOT}/docs/measured/promise.md"
 BOOK = f"{ROOT}/crates/headline/src/book.rt"
 MOST_LINES = 563  # without comments, imports and empty lines: what the clauses need, counted
-LEFT = ("value", "lawful")  # clauses of `book_of` that speak of the world and its programs
 READING = ("host_pairs", "ncp_control", "bit_messages")  # crates whose definitions say how texts are read
 HEAD = """# What must be believed
 

@@ -14,8 +14,8 @@ from workshop.parts import ROOT
 MOST_WORDS = 900  # of README, which is read first
 # 1,000 of these: strangers that one speaks for, a program of one's own, and lessons among them; 210: endings among
 # strangers, a book that borrows; 440: the audit of logs with strangers; 2,000: live networks, whose wire a reader has
-# to be able to write a host from
-MOST_OF_ALL = 76_000
+# to be able to write a host from; 900: a log judged by the definitions, and who checks the checker
+MOST_OF_ALL = 76_900
 PAGES = ("README.md", "CONTRIBUTING.md", "docs/*.md")
 # a line that begins something of its own: a heading, an item, a row, a quotation, a picture, a comment, code
 OWN = re.compile(r"(?:#|[-*] |\d+\. |\||>|!\[|<|```|    |\t)")

@@ -1,0 +1,195 @@
+"""The files in which definitions are, and what a name in one of them means."""
+
+from __future__ import annotations
+
+from collections.abc import Callable
+from dataclasses import dataclass, field
+from typing import Union
+
+from dorydate.definitions.files import Definition, Group, Item, Structure, Use, read_file
+from dorydate.definitions.terms import Binder
+
+Sources = Callable[
+    [str], "str | None"
+]  # the text of a file, by its path below `crates`; None where there is no such file
+WORDS = "words"  # the module that has the words of the library
+VARIANTS, CONSTANTS = ".TheVariants", ".TheConstants"
+
+
+class NoMeaning(Exception):
+    """A name that is nowhere defined, or is of a kind that isn't read here."""
+
+
+@dataclass(frozen=True)
+class Defined:
+    """A definition, in its module."""
+
+    module: str
+    definition: Definition
+
+    @property
+    def item(self) -> Definition:
+        return self.definition
+
+
+@dataclass(frozen=True)
+class Typed:
+    """A record or data."""
+
+    module: str
+    structure: Structure
+
+    @property
+    def item(self) -> Structure:
+        return self.structure
+
+
+@dataclass(frozen=True)
+class Form:
+    """A constructor of data, or a variant of a type that is declared in Rust."""
+
+    type: str
+    name: str
+
+
+@dataclass(frozen=True)
+class Declared:
+    """A type that is declared in Rust: its crate, the path of its file in `src`, and its name."""
+
+    crate: str
+    path: str
+    name: str
+
+
+@dataclass(frozen=True)
+class Constant:
+    """A constant that is declared in Rust."""
+
+    crate: str
+    path: str
+    name: str
+
+
+@dataclass(frozen=True)
+class Word:
+    """A word of the library, by its name."""
+
+    name: str
+
+
+Meaning = Union[Defined, Typed, Form, Declared, Constant, Word]
+
+
+@dataclass
+class Module:
+    """A file's items by their names, and its imports."""
+
+    name: str
+    items: tuple[Item, ...]
+    faults: list[str] = field(default_factory=list)
+    own: dict[str, Definition | Structure] = field(default_factory=dict)
+    forms: dict[str, Structure] = field(default_factory=dict)
+    names: dict[str, tuple[str, str]] = field(
+        default_factory=dict
+    )  # imported names, with their module and their name there
+    aliases: dict[str, str] = field(default_factory=dict)
+    passed: dict[str, str] = field(default_factory=dict)  # names that it passes on, with the module from which
+    groups: dict[str, tuple[Binder, ...]] = field(
+        default_factory=dict
+    )  # what a definition takes before its own arguments
+
+    def __post_init__(self) -> None:
+        self.take(self.items, ())
+
+    def take(self, items: tuple[Item, ...], binders: tuple[Binder, ...]) -> None:
+        for it in items:
+            if isinstance(it, Use):
+                self.take_use(it)
+            elif isinstance(it, Group):
+                self.take(it.items, binders + it.binders)
+            else:
+                self.own[it.name] = it
+                self.groups[it.name] = binders
+                if isinstance(it, Structure) and not it.is_record:
+                    self.forms |= {member.name: it for member in it.members}
+
+    def take_use(self, use: Use) -> None:
+        if use.names is None:
+            self.aliases[use.alias] = use.module
+            return
+        for here, there in use.names.items():
+            self.names[here] = use.module, there
+            if use.is_public:
+                self.passed[here] = use.module
+
+
+class Library:
+    """The modules that have been asked for, each read once."""
+
+    def __init__(self, sources: Sources) -> None:
+        self.sources = sources
+        self.modules: dict[str, Module] = {}
+        self.meanings: dict[tuple[str, str, str], Meaning] = {}
+
+    def module(self, name: str) -> Module:
+        """The module of a file: `Rattle.CRATE.specs.PATH` is CRATE/specs/PATH.antt."""
+        if name not in self.modules:
+            text = self.sources(f"{name.removeprefix('Rattle.').replace('.', '/')}.antt")
+            if text is None:
+                raise NoMeaning(f"there is no module {name}")
+            self.modules[name] = Module(name, *read_file(text))
+        return self.modules[name]
+
+    def has(self, name: str) -> bool:
+        return (
+            name in self.modules or self.sources(f"{name.removeprefix('Rattle.').replace('.', '/')}.antt") is not None
+        )
+
+    def meaning(self, module: str, name: str, alias: str = "") -> Meaning:
+        """What a name means in a module, or in one that it imports as a whole."""
+        key = module, alias, name
+        if key not in self.meanings:
+            here = self.module(module)
+            if alias:
+                self.meanings[key] = self.found(here.aliases[alias], name)
+            elif name in here.names and name not in here.own and name not in here.forms:
+                self.meanings[key] = self.found(*here.names[name])
+            else:
+                self.meanings[key] = self.found(module, name)
+        return self.meanings[key]
+
+    def found(self, module: str, name: str) -> Meaning:
+        """What a module has under a name."""
+        parts = module.split(".")
+        if "declared" in parts and parts[1] != "std":
+            return declared(parts, name)
+        if parts[1:2] == ["std"]:
+            return self.word(name)
+        if self.has(module):
+            here = self.module(module)
+            if name in here.own:
+                it = here.own[name]
+                return Defined(module, it) if isinstance(it, Definition) else Typed(module, it)
+            if name in here.forms:
+                return Form(here.forms[name].name, name)
+            if name in here.passed:
+                return self.found(here.names[name][0], here.names[name][1])
+        if module == WORDS:
+            return Word(name)
+        return self.word(name)
+
+    def word(self, name: str) -> Meaning:
+        """A word of the library: as the module of words defines it, or else only its name."""
+        if self.has(WORDS) and (name in self.module(WORDS).own or name in self.module(WORDS).forms):
+            return self.found(WORDS, name)
+        return Word(name)
+
+
+def declared(parts: list[str], name: str) -> Meaning:
+    """What is declared in Rust: `Rattle.CRATE.specs.declared.FILE.TYPE`, its variants, or a file's constants."""
+    crate, rest = parts[1], parts[parts.index("declared") + 1 :]
+    if rest[-1] == "TheVariants":
+        return Form(rest[-2], name)
+    if rest[-1] == "TheConstants":
+        return Constant(crate, "/".join(rest[:-1]), name)
+    return Declared(crate, "/".join(rest[:-1]), rest[-1])
