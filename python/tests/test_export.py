@@ -16,14 +16,14 @@ from typing import Any
 from xml.etree import ElementTree
 
 from dorydate import Network
-from dorydate.export import chart, pcapng, perfetto, shiviz
+from dorydate.export import chart, pcapng, perfetto, shiviz, wire
 from dorydate.export.command import DISSECTOR, written
 from dorydate.export.leaders import body, leader, crossing_of
 from dorydate.export.replayed import Happened, Line, Replayed, as_printed, output, replayed
 from dorydate.sentences.texts import text_in_words
 from dorydate.network import Host
 from dorydate.where import found
-from dorydate.script import Calm, Flow, Script, Text
+from dorydate.script import BadLine, Calm, Flow, Script, Text
 from dorydate.state import folded
 from dorydate.trace import records
 
@@ -90,6 +90,15 @@ def blocks_of(capture: bytes) -> Iterator[tuple[int, bytes]]:
         assert length % 4 == 0 and struct.unpack_from("<I", capture, place + length - 4) == (length,)
         yield kind, capture[place + 8 : place + length - 4]
         place += length
+
+
+class Wire(unittest.TestCase):
+    def test_what_crossed(self) -> None:
+        made = wire.capture("0.000001 udp from 0/3 00\n2.000000 tcp to 0/2 -\n0.1 cut off")
+        kinds = [kind for kind, _ in blocks_of(made)]
+        self.assertEqual(kinds, [pcapng.SECTION, *[pcapng.INTERFACE, pcapng.PACKET] * 2])
+        with self.assertRaisesRegex(BadLine, "line 2 is nothing that crossed"):
+            wire.capture("0.000001 udp from 0/3 00\nout 0/1 0/2 5 0 -\n")
 
 
 class Captures(unittest.TestCase):
@@ -168,6 +177,28 @@ class Dissected(unittest.TestCase):
         rows = self.dissected([made], "dorydate.type", "dorydate.line", "_ws.expert.message")
         self.assertEqual([row[2] for row in rows], ["a leader has four octets", "no bit 1 marks the end of the text", "no bit 1 marks the end of the text", "", ""])
         self.assertEqual([row[1] for row in rows], [""] * 5)
+
+    def test_the_wire_of_a_live_network(self) -> None:
+        """Frames and messages as they crossed: the ready line, NOPs, an RST, its RFNM and the RRP."""
+        lines = [
+            "0.000001 udp from 0/3 483331360000000000000002",
+            "0.000002 udp to 0/3 48333136000000000002000304030000",
+            "1.500000 udp from 0/3 4833313600000001000500030001000000080001000C",
+            "1.600000 udp to 0/3 48333136000000030002000305010000",
+            "1.700000 tcp to 0/2 000C0001000000080001000D8000",
+            "1.800000 tcp from 0/2 0000",
+        ]
+        fields = "frame.interface_name", "frame.time_epoch", "dorydate.line", "_ws.col.Info", "dorydate.wire.sequence"
+        rows = self.dissected([wire.capture("".join(f"{it}\n" for it in lines))], *fields)
+        wanted = [
+            ["0/3", "0.000001000", "", "ready", "0"],
+            ["0/3", "0.000002000", "", "NOP, 0/3 to 0/3 on link 0", "0"],
+            ["0/3", "1.500000000", "out 0/3 0/1 0 48 00080001000C", "0/3 to 0/1 on link 0: RST", "1"],
+            ["0/3", "1.600000000", "answer rfnm 0/3 0/1 0", "RFNM, 0/3 to 0/1 on link 0", "3"],
+            ["0/2", "1.700000000", "in 0/1 0/2 0 48 00080001000D", "0/1 to 0/2 on link 0: RRP", ""],
+            ["0/2", "1.800000000", "", "is the IMP there?", ""],
+        ]
+        self.assertEqual(rows, wanted)
 
 
 TRACED = ("first-message", "rerouted-over-a-triangle", "a-cut-line-and-the-way-round", "arpanet-of-december-1969", "lo-of-login")

@@ -43,6 +43,7 @@ b = 2
 a = 2
 b = 3
 """
+PACKED = """<html><meta charset="utf-8"><meta content="default-src 'none'; base-uri 'none'"></html>"""
 RST, RRP = bytes.fromhex("00080001000C"), bytes.fromhex("00080001000D")
 TO_HERE = bytes.fromhex("00010000")
 
@@ -151,6 +152,38 @@ class Live(unittest.TestCase):
         await asyncio.sleep(0.3)
         peer.transport.close()
         other.transport.close()
+
+    async def asked(self, request: str, until: bytes) -> str:
+        """What the page's server answers to a request, up to some octets."""
+        reader, writer = await asyncio.open_connection("127.0.0.1", self.page)
+        writer.write(request.replace("\n", "\r\n").encode())
+        said = b""
+        while until not in said and (piece := await asyncio.wait_for(reader.read(4096), 20)):
+            said += piece
+        writer.close()
+        return said.decode()
+
+    async def in_a_browser(self) -> None:
+        host, own = f"Host: localhost:{self.page}\n", "X-Dorydate: deed\n"
+        self.assertIn("connect-src 'self'", await self.asked(f"GET / HTTP/1.1\n{host}\n", b"</html>"))
+        self.assertIn("403 Forbidden", await self.asked("GET / HTTP/1.1\nHost: elsewhere\n\n", b"name"))
+        for path, fields in (("GET /other", own), ("POST /deed", "")):
+            self.assertIn("404 Not Found", await self.asked(f"{path} HTTP/1.1\n{host}{fields}\n", b"else"))
+        following = asyncio.create_task(self.asked(f"GET /events HTTP/1.1\n{host}\n", b"enddown 1 0"))
+        await asyncio.sleep(0.2)
+        deeds = [("enddown 1 0", "200 OK"), ("enddown 1 0", "IsDown"), ("calm 4000000000", "at most 100 rounds")]
+        deeds += [("take 0/3", "a real host speaks for 0/3"), ("jump 0/1", "`jump` is no event")]
+        for line, words in deeds:
+            body = f"POST /deed HTTP/1.1\n{host}{own}Content-Length: {len(line)}\n\n{line}"
+            self.assertIn(words, await self.asked(body, b"nothing more"))
+        said = await following
+        self.assertTrue(said.index("event: script") < said.index("hostdown 0/3") < said.index("event: lines"))
+
+    def test_a_browser_follows_and_asks(self) -> None:
+        self.page = free_port()
+        with mock.patch("dorydate.live.page.packed_page", lambda: PACKED):
+            self.session("--page", str(self.page), browser=self.in_a_browser)
+        self.assertIn("\nenddown 1 0\n", (self.folder / "record" / "script").read_text())
 
     def test_hosts_over_udp_and_tcp(self) -> None:
         said = self.session(udp=self.over_udp, tcp=self.over_tcp)

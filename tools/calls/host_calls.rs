@@ -1,63 +1,84 @@
-//! Makes the calls on hosts' programs that standard input names, a line each, and prints what each answers.
+//! Calls on hosts' programs.
 //!
-//! The first line has the hosts, as `HOST/IMP`. Every other line has the place of a host in it and a call with its arguments,
-//! as `0 listen 33 8`; with `ask` before it the call is made as a request. What comes in is written `accept STAMP message FLOW BITS OCTETS` or `accept STAMP rfnm FLOW`. Octets are
-//! in upper case hexadecimal, `-` for none. Printed are `ok` or `refused NAME`, each notice, and what `next_out` gives then.
+//! A block begins with `hosts` and the hosts, as `HOST/IMP`. Every row has the place of a host in it and a call with its arguments,
+//! as `0 listen 33 8`. Each call of a user is made by its name, and as a request on a second program of that host: where that answers something else,
+//! it is printed too. What comes in is written `accept STAMP message FLOW BITS OCTETS` or
+//! `accept STAMP rfnm FLOW`. Answers are `ok` or `refused FAULT`, each notice, and what `next_out` gives then.
 //! `check hosts` compares all this with an independent model of the rules.
 
+use crate::Layer;
 use crate::words::{Words, spell_bits, spell_octets};
 use interface::{Answer, HostMessage, Inbound, Text};
 use sockets::{Ncp, NcpFault, Notice, Request};
 use std::alloc::Global;
 
-/// What is printed for hosts' programs and the calls on them.
-pub fn made(alloc: Global, lines: &str, said: &mut String) -> Option<()> {
-    let mut lines = lines.lines();
-    let mut hosts = opened(alloc, lines.next()?)?;
-    for line in lines {
-        let answer = answered(alloc, &mut hosts, line)?;
-        writeln!(said, "{answer}").ok()?;
-    }
-    Some(())
+/// The programs of hosts.
+#[derive(Drop)]
+pub struct Hosts {
+    programs: Vec<Ncp>,
+    /// The same programs once more, whose users make requests.
+    asked: Vec<Ncp>,
 }
 
-/// The programs of the hosts that the first line names.
-fn opened(alloc: Global, line: &str) -> Option<Vec<Ncp>> {
-    let mut hosts = Vec::new(alloc);
-    let mut words = Words { rest: line };
+/// The programs of the hosts that a block's first row names.
+pub fn opened(alloc: Global, mut words: Words<'_>) -> Option<Hosts> {
+    let mut programs = Vec::new(alloc);
+    let mut asked = Vec::new(alloc);
     while !words.rest.is_empty() {
-        hosts.push(Ncp::new(alloc, words.host()?)).ok()?;
+        let host = words.host()?;
+        programs.push(Ncp::new(alloc, host)).ok()?;
+        asked.push(Ncp::new(alloc, host)).ok()?;
     }
-    Some(hosts)
+    Some(Hosts { programs, asked })
 }
 
-/// What a line is answered; `None` where it is no call, or memory ran out.
-fn answered(alloc: Global, hosts: &mut Vec<Ncp>, line: &str) -> Option<String> {
-    let mut words = Words { rest: line };
-    let host = hosts.get_mut(words.place()?)?;
+impl Layer for Hosts {
+    fn call(&mut self, alloc: Global, mut words: Words<'_>, answer: &mut String) -> Option<()> {
+        let place = words.place()?;
+        let Words { rest } = words;
+        let by_name = answered(alloc, self.programs.get_mut(place)?, Words { rest }, false)?;
+        let as_request = answered(alloc, self.asked.get_mut(place)?, Words { rest }, true)?;
+        answer.push_str(&by_name).ok()?;
+        if as_request.as_str() != by_name.as_str() {
+            for part in as_request.lines() {
+                write!(answer, "\nas a request: {part}").ok()?;
+            }
+        }
+        Some(())
+    }
+}
+
+/// What a program answers to a call, and what goes out next.
+fn answered(alloc: Global, host: &mut Ncp, words: Words<'_>, asks: bool) -> Option<String> {
     let mut answer = String::new(alloc);
-    match called(alloc, host, words)? {
+    match called(alloc, host, words, asks)? {
         Ok(notices) => {
             answer.push_str("ok").ok()?;
             for notice in &notices {
-                answer.push_str(";").ok()?;
+                answer.push_str("\n").ok()?;
                 tell(alloc, &mut answer, notice)?;
             }
         }
-        Err(fault) => write!(answer, "refused {fault:?}").ok()?,
+        Err(fault) => write!(answer, "refused {fault}").ok()?,
     }
-    match host.next_out().ok()? {
-        None => answer.push_str(" next nothing").ok()?,
-        Some(message) => {
-            write!(answer, " next {} ", message.flow).ok()?;
-            spell_bits(alloc, &mut answer, message.text.bits())?;
-        }
-    }
+    tell_next(alloc, host, &mut answer)?;
     Some(answer)
 }
 
-/// Makes a call.
-fn called(alloc: Global, host: &mut Ncp, mut words: Words<'_>) -> Option<Result<Vec<Notice>, NcpFault>> {
+/// What goes out next.
+fn tell_next(alloc: Global, host: &Ncp, answer: &mut String) -> Option<()> {
+    match host.next_out().ok()? {
+        None => answer.push_str("\nnext nothing").ok(),
+        Some(message) => {
+            write!(answer, "\nnext {} ", message.flow).ok()?;
+            spell_bits(alloc, answer, message.text.bits())
+        }
+    }
+}
+
+/// Makes a call: where it is one of the user and `asks` is true, as a request.
+fn called(alloc: Global, host: &mut Ncp, mut words: Words<'_>, asks: bool) -> Option<Result<Vec<Notice>, NcpFault>> {
+    let Words { rest } = words;
     let name = words.word()?;
     match name {
         "offered" => Some(host.offered(words.place()?)),
@@ -65,7 +86,7 @@ fn called(alloc: Global, host: &mut Ncp, mut words: Words<'_>) -> Option<Result<
             let stamp = words.place()?;
             Some(host.accept(inbound(alloc, words)?, stamp))
         }
-        "ask" => Some(host.ask(request(alloc, words)?)),
+        _ if asks => Some(host.ask(request(alloc, Words { rest })?)),
         "contact" => Some(host.contact(words.host()?)),
         _ => {
             let done = asked(alloc, host, name, words)?;

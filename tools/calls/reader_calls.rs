@@ -1,11 +1,13 @@
-//! Reads the octets that standard input names, a line each, and prints what each reader gives.
+//! Reads octets, and prints what each reader gives.
 //!
-//! A line is a reader and octets: `from_host` or `from_imp` (a leader), `packet`, `frame`, `command`, or `commands` (a whole
-//! control text); or `header` or `body`, a number of bits, and their octets. Printed is what was read, and behind ` = ` how that
-//! is written again; or the fault. Behind a command its octets stand in brackets. The commands of a control text are printed one
-//! after the other, up to its end or to the fault that ends reading.
+//! A block begins with `readers`. A row is a reader and octets: `from_host` or `from_imp` (a leader), `packet`, `frame`, `command`, or `commands` (a whole
+//! control text); or `header` or `body`, a number of bits, and their octets. Printed is what was read, and after ` = ` how a copy of that
+//! is written again; or the fault. After a command its octets follow in brackets. The commands of a control text are printed one
+//! after the other, up to its end or to the fault that ends reading. `prefixes READER OCTETS` and `changed VALUE READER OCTETS` read each shorter prefix of
+//! octets, and octets of which each in turn has this value: printed is `read` where the same octets are written again, or what was read, or the fault.
 //! `check readers` compares all this with an independent reader of the formats.
 
+use crate::Layer;
 use crate::words::{Words, spell_bits, spell_octets};
 use imp_channel::{Content, Frame};
 use interface::{Answer, Flow};
@@ -14,15 +16,89 @@ use ncp_control::{Command, ControlFault, DataHeader, read_one};
 use packetiser::{Packet, PacketKind};
 use std::alloc::Global;
 
-/// What is printed for the octets on each line.
-pub fn made(alloc: Global, lines: &str, said: &mut String) -> Option<()> {
-    for line in lines.lines() {
-        let mut words = Words { rest: line };
-        let reader = words.word()?;
-        tell_reading(alloc, reader, words, said)?;
-        said.push_str("\n").ok()?;
+/// All readers.
+#[derive(Drop)]
+pub struct Readers;
+
+impl Layer for Readers {
+    fn call(&mut self, alloc: Global, mut words: Words<'_>, answer: &mut String) -> Option<()> {
+        match words.word()? {
+            "prefixes" => tell_prefixes(alloc, answer, words.word()?, &words.octets(alloc)?),
+            "changed" => {
+                let value = *words.octets(alloc)?.first()?;
+                tell_changed(alloc, answer, value, words.word()?, &words.octets(alloc)?)
+            }
+            reader => tell_reading(alloc, reader, words, answer),
+        }
     }
-    Some(())
+}
+
+/// What a reader gives for each shorter prefix of octets, the empty one first.
+fn tell_prefixes(alloc: Global, said: &mut String, reader: &str, octets: &[u8]) -> Option<()> {
+    let mut runs = Runs { last: String::new(alloc), count: 0 };
+    for length in 0..octets.len() {
+        runs.put(said, short_reading(alloc, reader, octets.get(..length)?)?)?;
+    }
+    runs.end(said)
+}
+
+/// What a reader gives for octets of which each is changed to a value, the first one first.
+fn tell_changed(alloc: Global, said: &mut String, value: u8, reader: &str, octets: &[u8]) -> Option<()> {
+    let mut runs = Runs { last: String::new(alloc), count: 0 };
+    for place in 0..octets.len() {
+        let mut changed = octets.to_vec(alloc).ok()?;
+        changed[place] = value;
+        runs.put(said, short_reading(alloc, reader, &changed)?)?;
+    }
+    runs.end(said)
+}
+
+/// Readings that come one after the other: the last one, and how often it came.
+#[derive(Drop)]
+struct Runs {
+    last: String,
+    count: usize,
+}
+
+impl Runs {
+    /// Prints the last reading where this is another one.
+    fn put(&mut self, said: &mut String, next: String) -> Option<()> {
+        if self.count > 0 && next.as_str() != self.last.as_str() {
+            self.end(said)?;
+            said.push_str(", ").ok()?;
+            self.count = 0;
+        }
+        self.last = next;
+        self.count += 1;
+        Some(())
+    }
+
+    /// Prints the last reading, and how often it came.
+    fn end(&self, said: &mut String) -> Option<()> {
+        match self.count {
+            0 => said.push_str("nothing").ok(),
+            1 => said.push_str(&self.last).ok(),
+            count => write!(said, "{count} times {}", self.last).ok(),
+        }
+    }
+}
+
+/// What a reader gives: `read` where that is written as the same octets.
+fn short_reading(alloc: Global, reader: &str, octets: &[u8]) -> Option<String> {
+    let mut row = String::new(alloc);
+    spell_octets(alloc, &mut row, octets)?;
+    let mut reading = String::new(alloc);
+    tell_reading(alloc, reader, Words { rest: &row }, &mut reading)?;
+    let is_same = match (reading.split_once(" = "), reading.split_once(" (")) {
+        (Some((_, written)), _) => written == row.as_str(),
+        (None, Some((_, written))) => written.strip_suffix(')') == Some(row.as_str()),
+        (None, None) => false,
+    };
+    if is_same {
+        reading.clear();
+        reading.push_str("read").ok()?;
+    }
+    Some(reading)
 }
 
 /// What a reader gives.
@@ -35,9 +111,9 @@ fn tell_reading(alloc: Global, reader: &str, mut words: Words<'_>, said: &mut St
             match Packet::read(alloc, &octets) {
                 Ok(packet) => {
                     tell_packet(alloc, said, &packet)?;
-                    tell_written(alloc, said, &packet.write(alloc).ok()?)
+                    tell_written(alloc, said, &packet.clone().ok()?.write(alloc).ok()?)
                 }
-                Err(fault) => write!(said, "{fault:?}").ok(),
+                Err(fault) => write!(said, "{fault}").ok(),
             }
         }
         "frame" => {
@@ -45,9 +121,9 @@ fn tell_reading(alloc: Global, reader: &str, mut words: Words<'_>, said: &mut St
             match Frame::read(alloc, &octets) {
                 Ok(frame) => {
                     tell_frame(alloc, said, &frame)?;
-                    tell_written(alloc, said, &frame.write(alloc).ok()?)
+                    tell_written(alloc, said, &frame.clone().ok()?.write(alloc).ok()?)
                 }
-                Err(fault) => write!(said, "{fault:?}").ok(),
+                Err(fault) => write!(said, "{fault}").ok(),
             }
         }
         "command" => tell_command(alloc, said, &words.octets(alloc)?),
@@ -65,7 +141,7 @@ fn tell_reading(alloc: Global, reader: &str, mut words: Words<'_>, said: &mut St
                 said.push_str(" = ").ok()?;
                 spell_bits(alloc, said, &text.pad16(alloc).ok()?)
             }
-            Err(fault) => write!(said, "{fault:?}").ok(),
+            Err(fault) => write!(said, "{fault}").ok(),
         },
         _ => None,
     }
@@ -81,8 +157,7 @@ fn tell_written(alloc: Global, said: &mut String, octets: &[u8]) -> Option<()> {
 fn tell_leader(alloc: Global, said: &mut String, read: Result<Leader, LeaderFault>) -> Option<()> {
     let leader = match read {
         Ok(leader) => leader,
-        Err(LeaderFault::UnknownType(kind)) => return write!(said, "UnknownType {kind}").ok(),
-        Err(fault) => return write!(said, "{fault:?}").ok(),
+        Err(fault) => return write!(said, "{fault}").ok(),
     };
     match leader {
         Leader::Nop => said.push_str("nop").ok()?,
@@ -151,7 +226,7 @@ fn tell_command(alloc: Global, said: &mut String, octets: &[u8]) -> Option<()> {
     }
 }
 
-/// The commands of a control text. After an erroneous one reading goes on behind it.
+/// The commands of a control text. After an erroneous one reading goes on.
 fn tell_commands(alloc: Global, said: &mut String, octets: &[u8]) -> Option<()> {
     let mut rest = octets;
     while !rest.is_empty() {
@@ -176,12 +251,11 @@ fn tell_commands(alloc: Global, said: &mut String, octets: &[u8]) -> Option<()> 
 
 /// Why octets begin with no command.
 fn tell_fault(said: &mut String, fault: ControlFault) -> Option<()> {
-    match fault {
-        ControlFault::IllegalCode { quoted } => write!(said, "IllegalCode {quoted}").ok(),
-        ControlFault::Short { quoted } => write!(said, "Short {quoted}").ok(),
-        ControlFault::Erroneous { quoted } => write!(said, "Erroneous {quoted}").ok(),
-        ControlFault::OutOfMemory => None,
-    }
+    let quoted = match fault {
+        ControlFault::IllegalCode { quoted } | ControlFault::Short { quoted } | ControlFault::Erroneous { quoted } => quoted,
+        ControlFault::OutOfMemory => return None,
+    };
+    write!(said, "{fault} {quoted}").ok()
 }
 
 /// A command that was read, and how it is written, which has to be as many octets as were read.
@@ -191,7 +265,7 @@ fn tell_read(alloc: Global, said: &mut String, command: &Command, used: usize) -
     said.push_str(" (").ok()?;
     spell_octets(alloc, said, &written)?;
     said.push_str(")").ok()?;
-    if used != written.len() { write!(said, " of {used} octets").ok() } else { Some(()) }
+    if used != written.len() || used != command.spelled_len() { write!(said, " of {used} octets").ok() } else { Some(()) }
 }
 
 /// A command's name and fields.

@@ -1,13 +1,12 @@
-//! Tells a machine of the initial connection, a terminal or an echo service the notices that standard input names, a line
-//! each, and prints what it asks for and what it comes to.
+//! Calls on a machine of the initial connection, a terminal or an echo service.
 //!
-//! The first line has the machine: `server LISTEN BASE`, `user PEER LISTEN OWN`, `echo RECEIVE SEND` or `terminal RECEIVE SEND`.
-//! Every other line is a notice of its host's program, as `opened 7 0/1 16 3 4`, or `refused`, which tells it that a request of
-//! it was refused. Printed is one line for each: the requests, then the outcome or the lines that have ended, parted by `;`.
-//! Octets are in upper case hexadecimal, `-` for none. `check services` compares all this with an independent model of the rules.
+//! A block's first row has the machine: `server LISTEN BASE`, `user PEER LISTEN OWN`, `echo RECEIVE SEND` or `terminal RECEIVE SEND`;
+//! it is answered by the first requests. Every other row is a notice of its host's program, as `opened 7 0/1 16 3 4`, or `refused`, which tells it that a request of
+//! it was refused; and of a terminal `type OCTETS` gives the line of a text. Answers are the requests, then the outcome or the lines that have ended, or `nothing`. `check services` compares all this with an independent model of the rules.
 
+use crate::Layer;
 use crate::words::{Words, spell_bits, spell_octets};
-use icp::{Failure, Outcome, Said, Server, User};
+use icp::{Failure, Outcome, Said, Server, StartFault, User};
 use ncp_control::{ReceiveSocket, SendSocket};
 use sockets::{NcpFault, Notice, Request};
 use std::alloc::Global;
@@ -15,7 +14,7 @@ use terminal::{EchoService, LineTerminal};
 
 /// What is told.
 #[derive(Drop)]
-enum Machine {
+pub enum Machine {
     Server(Server),
     User(User),
     Echo(EchoService),
@@ -24,58 +23,76 @@ enum Machine {
     None,
 }
 
-/// What is printed for a machine and what it is told.
-pub fn made(alloc: Global, lines: &str, said: &mut String) -> Option<()> {
-    let mut lines = lines.lines();
-    let mut machine = started(alloc, Words { rest: lines.next()? }, said)?;
-    said.push_str("\n").ok()?;
-    for line in lines {
-        told(alloc, &mut machine, Words { rest: line }, said)?;
-        said.push_str("\n").ok()?;
+impl Layer for Machine {
+    fn call(&mut self, alloc: Global, words: Words<'_>, answer: &mut String) -> Option<()> {
+        let Words { rest } = words;
+        match (self, rest.split_once(' ')) {
+            (Machine::Terminal(terminal), Some(("type", octets))) => return typed(alloc, terminal, Words { rest: octets }, answer),
+            (machine, _) => tell(alloc, machine, words, answer)?,
+        }
+        or_nothing(answer)
     }
-    Some(())
 }
 
-/// The machine that the first line names, and its first requests.
-fn started(alloc: Global, mut words: Words<'_>, answer: &mut String) -> Option<Machine> {
-    match words.word()? {
+/// Prints the line of a text that is typed.
+fn typed(alloc: Global, terminal: &LineTerminal, mut words: Words<'_>, answer: &mut String) -> Option<()> {
+    match terminal.line(&words.octets(alloc)?) {
+        Ok(line) => spell_octets(alloc, answer, &line),
+        Err(fault) => write!(answer, "refused {fault}").ok(),
+    }
+}
+
+/// The machine that a block's first row names, and its first requests.
+pub fn started(alloc: Global, name: &str, mut words: Words<'_>, answer: &mut String) -> Option<Machine> {
+    let machine = match name {
         "server" => match Server::start(alloc, words.number()?, words.number()?) {
             Ok((server, requests)) => {
                 spell_requests(alloc, answer, &requests)?;
-                Some(Machine::Server(server))
+                Machine::Server(server)
             }
-            Err(_) => failed_at_once(answer),
+            Err(fault) => failed_at_once(fault, answer)?,
         },
         "user" => match User::start(alloc, words.host()?, words.number()?, words.number()?) {
             Ok((user, requests)) => {
                 spell_requests(alloc, answer, &requests)?;
-                Some(Machine::User(user))
+                Machine::User(user)
             }
-            Err(_) => failed_at_once(answer),
+            Err(fault) => failed_at_once(fault, answer)?,
         },
-        name => {
-            let (Some(receive), Some(send)) = (ReceiveSocket::new(words.number()?), SendSocket::new(words.number()?)) else {
-                return None;
-            };
-            if name == "echo" {
-                let (service, requests) = EchoService::start(alloc, receive, send).ok()?;
-                spell_requests(alloc, answer, &requests)?;
-                return Some(Machine::Echo(service));
-            }
-            let (terminal, requests) = LineTerminal::start(alloc, receive, send).ok()?;
-            spell_requests(alloc, answer, &requests)?;
-            Some(Machine::Terminal(terminal))
+        "echo" | "terminal" => {
+            let receive = ReceiveSocket::new(words.number()?)?;
+            started_service(alloc, name, receive, SendSocket::new(words.number()?)?, answer)?
         }
-    }
+        _ => return None,
+    };
+    or_nothing(answer)?;
+    Some(machine)
 }
 
-fn failed_at_once(answer: &mut String) -> Option<Machine> {
-    answer.push_str("failed badsocket;").ok()?;
+/// The echo service or the terminal between two sockets, and its first requests.
+fn started_service(alloc: Global, name: &str, receive: ReceiveSocket, send: SendSocket, answer: &mut String) -> Option<Machine> {
+    if name == "echo" {
+        let (service, requests) = EchoService::start(alloc, receive, send).ok()?;
+        spell_requests(alloc, answer, &requests)?;
+        return Some(Machine::Echo(service));
+    }
+    let (terminal, requests) = LineTerminal::start(alloc, receive, send).ok()?;
+    spell_requests(alloc, answer, &requests)?;
+    Some(Machine::Terminal(terminal))
+}
+
+fn failed_at_once(fault: StartFault, answer: &mut String) -> Option<Machine> {
+    writeln!(answer, "refused {fault}").ok()?;
     Some(Machine::None)
 }
 
-/// Tells a machine what a line says.
-fn told(alloc: Global, machine: &mut Machine, words: Words<'_>, answer: &mut String) -> Option<()> {
+/// Says that nothing is answered.
+fn or_nothing(answer: &mut String) -> Option<()> {
+    if answer.is_empty() { answer.push_str("nothing").ok() } else { Some(()) }
+}
+
+/// Tells a machine what a row says.
+fn tell(alloc: Global, machine: &mut Machine, words: Words<'_>, answer: &mut String) -> Option<()> {
     if words.rest == "refused" {
         let outcome = match machine {
             Machine::Server(server) => server.refused(NcpFault::InUse),
@@ -95,7 +112,7 @@ fn told(alloc: Global, machine: &mut Machine, words: Words<'_>, answer: &mut Str
             for line in &told.lines {
                 answer.push_str("line ").ok()?;
                 spell_octets(alloc, answer, line.as_octets())?;
-                answer.push_str(";").ok()?;
+                answer.push_str("\n").ok()?;
             }
             Some(())
         }
@@ -133,29 +150,26 @@ fn spell_said(alloc: Global, answer: &mut String, said: Said) -> Option<()> {
 fn spell_outcome(answer: &mut String, outcome: Option<Outcome>) -> Option<()> {
     match outcome {
         None => Some(()),
-        Some(Outcome::Done { receive, send }) => write!(answer, "done {} {};", receive.number(), send.number()).ok(),
-        Some(Outcome::Failed(Failure::Refused)) => answer.push_str("failed refused;").ok(),
-        Some(Outcome::Failed(Failure::Reset)) => answer.push_str("failed reset;").ok(),
-        Some(Outcome::Failed(Failure::Stranger)) => answer.push_str("failed stranger;").ok(),
-        Some(Outcome::Failed(Failure::BadSocket)) => answer.push_str("failed badsocket;").ok(),
-        Some(Outcome::Failed(Failure::Local(_))) => answer.push_str("failed local;").ok(),
+        Some(Outcome::Done { receive, send }) => writeln!(answer, "done {} {}", receive.number(), send.number()).ok(),
+        Some(Outcome::Failed(Failure::Local(fault))) => writeln!(answer, "failed {}: {fault}", Failure::Local(fault)).ok(),
+        Some(Outcome::Failed(failure)) => writeln!(answer, "failed {failure}").ok(),
     }
 }
 
 fn spell_requests(alloc: Global, answer: &mut String, requests: &Vec<Request>) -> Option<()> {
     for request in requests {
         match request {
-            Request::Listen { socket, size } => write!(answer, "listen {socket} {size};").ok()?,
-            Request::OpenSend { peer, own, foreign, size } => write!(answer, "opensend {peer} {own} {foreign} {size};").ok()?,
-            Request::OpenReceive { peer, own, foreign } => write!(answer, "openrecv {peer} {own} {foreign};").ok()?,
-            Request::Grant { socket, messages, bits } => write!(answer, "grant {socket} {messages} {bits};").ok()?,
-            Request::Close { socket } => write!(answer, "close {socket};").ok()?,
+            Request::Listen { socket, size } => writeln!(answer, "listen {socket} {size}").ok()?,
+            Request::OpenSend { peer, own, foreign, size } => writeln!(answer, "opensend {peer} {own} {foreign} {size}").ok()?,
+            Request::OpenReceive { peer, own, foreign } => writeln!(answer, "openrecv {peer} {own} {foreign}").ok()?,
+            Request::Grant { socket, messages, bits } => writeln!(answer, "grant {socket} {messages} {bits}").ok()?,
+            Request::Close { socket } => writeln!(answer, "close {socket}").ok()?,
             Request::Send { socket, bits } => {
                 write!(answer, "send {socket} ").ok()?;
                 spell_bits(alloc, answer, bits)?;
-                answer.push_str(";").ok()?;
+                answer.push_str("\n").ok()?;
             }
-            _ => answer.push_str("another;").ok()?,
+            _ => answer.push_str("another\n").ok()?,
         }
     }
     Some(())

@@ -1,45 +1,68 @@
-//! Lets happen in a subnet what standard input names, a line each, and prints what crosses and what is refused.
+//! What happens in a subnet.
 //!
-//! The first line has the IMPs, as `IMP:HOSTS` by rising number, and the second the lines, as `IMP-IMP`. What happens is
-//! written as in a script, and `alive FLOW NUMBER` asks whether that message or a packet of it is alive. Each crossing is printed as the simulator prints it, and a refusal as `refused NAME`; within
-//! `calm` refusals are not printed. `check subnet` compares all this with an independent model of the rules.
+//! A block begins with `subnet`, the IMPs, as `IMP:HOSTS` by rising number, `/`, and the lines, as `IMP-IMP`. What happens is
+//! written as in a script; `rounds COUNT` are quiet rounds in which no host takes. Answers are `ok`, what a host took or `refused FAULT`, and then
+//! each crossing as the simulator prints it; within `calm` refusals are not printed. `alive FLOW NUMBER` asks whether that message or a packet of it is alive,
+//! `rests` whether the network is known to rest, `hosts`, `lines` and `number IMP` what it has. `check subnet` compares all this with an independent model of the rules.
 
+use crate::Layer;
+use crate::imp_calls::{refused, spell_given};
 use crate::words::Words;
-use interface::{Carrier, CarrierFault, HostAddr, HostMessage, NetEvent, Text};
+use interface::{Carrier, CarrierFault, HostAddr, HostMessage, Inbound, NetEvent, Text};
 use std::alloc::Global;
 use subnet::{Ends, Subnet};
 
 /// How often a host takes in a round of `calm` at most.
 const TAKES: usize = 16;
 
-/// What is printed for a subnet and what happens in it.
-pub fn made(alloc: Global, lines: &str, said: &mut String) -> Option<()> {
-    let mut lines = lines.lines();
-    let mut subnet = opened(alloc, lines.next()?, lines.next()?)?;
-    let mut printed = 0;
-    for line in lines {
-        if let Some(is_alive) = asked(&subnet, line) {
-            writeln!(said, "alive {is_alive}").ok()?;
-            continue;
+impl Layer for Subnet {
+    fn call(&mut self, alloc: Global, mut words: Words<'_>, answer: &mut String) -> Option<()> {
+        let Words { rest } = words;
+        let before = self.log().len();
+        let name = words.word()?;
+        match name {
+            "alive" => {
+                let flow = words.flow()?;
+                write!(answer, "{}", self.alive(&flow, words.message_number()?)).ok()?;
+            }
+            "rests" => write!(answer, "{}", self.rests()).ok()?,
+            "hosts" => spell_hosts(self, answer)?,
+            "lines" => write!(answer, "{}", self.line_count()).ok()?,
+            "number" => match self.imp_number(words.octet()?) {
+                Some(number) => write!(answer, "{}", number.number()).ok()?,
+                None => answer.push_str("-").ok()?,
+            },
+            _ => match happened(alloc, self, Words { rest })? {
+                Ok(None) => answer.push_str(if name == "take" { "nothing" } else { "ok" }).ok()?,
+                Ok(given) => spell_given(alloc, given, answer)?,
+                Err(fault) => refused(fault, answer)?,
+            },
         }
-        let outcome = happened(alloc, &mut subnet, line)?;
-        for crossing in subnet.log().iter().skip(printed) {
-            writeln!(said, "{crossing}").ok()?;
+        for crossing in self.log().get(before..)? {
+            write!(answer, "\n{crossing}").ok()?;
         }
-        printed = subnet.log().len();
-        if let Err(fault) = outcome {
-            writeln!(said, "refused {fault:?}").ok()?;
-        }
+        Some(())
     }
-    said.push_str("end\n").ok()
 }
 
-/// The subnet that the first two lines ask for.
-fn opened(alloc: Global, imps: &str, ends: &str) -> Option<Subnet> {
+/// The hosts of a subnet.
+fn spell_hosts(subnet: &Subnet, answer: &mut String) -> Option<()> {
+    let mut joint = "";
+    for host in subnet.hosts() {
+        write!(answer, "{joint}{host}").ok()?;
+        joint = " ";
+    }
+    Some(())
+}
+
+/// The subnet that a block's first row asks for.
+pub fn opened(alloc: Global, mut words: Words<'_>) -> Option<Subnet> {
     let mut sites: Vec<Option<u8>> = Vec::new(alloc);
     let mut hosts = Vec::new(alloc);
-    let mut words = Words { rest: imps };
     while let Some(word) = words.word() {
+        if word == "/" {
+            break;
+        }
         let (imp, count) = word.split_once(':')?;
         let number = imp.parse::<usize>().ok()?;
         let count = count.parse::<u8>().ok()?;
@@ -52,7 +75,6 @@ fn opened(alloc: Global, imps: &str, ends: &str) -> Option<Subnet> {
         }
     }
     let mut lines = Vec::new(alloc);
-    let mut words = Words { rest: ends };
     while let Some(word) = words.word() {
         let (a, b) = word.split_once('-')?;
         lines.push(Ends { a: a.parse::<u8>().ok()?, b: b.parse::<u8>().ok()? }).ok()?;
@@ -60,35 +82,34 @@ fn opened(alloc: Global, imps: &str, ends: &str) -> Option<Subnet> {
     Subnet::new(alloc, hosts, sites, &lines).ok()
 }
 
-/// The answer to a line that asks whether a message is alive; `None` where it asks nothing.
-fn asked(subnet: &Subnet, line: &str) -> Option<bool> {
-    let mut words = Words { rest: line };
-    if words.word()? != "alive" {
-        return None;
-    }
-    let flow = words.flow()?;
-    Some(subnet.alive(&flow, words.message_number()?))
-}
-
-/// What became of a line; `None` where it can't be read.
-fn happened(alloc: Global, subnet: &mut Subnet, line: &str) -> Option<Result<(), CarrierFault>> {
-    let mut words = Words { rest: line };
+/// What became of a row, with what a host took; `None` where it can't be read.
+fn happened(alloc: Global, subnet: &mut Subnet, mut words: Words<'_>) -> Option<Result<Option<Inbound>, CarrierFault>> {
     let name = words.word()?;
-    match name {
+    let done = match name {
+        "take" => return Some(subnet.take_in(words.host()?)),
         "out" => {
             let flow = words.flow()?;
             let text = Text::new(words.bits(alloc)?)?;
-            Some(subnet.offer_out(HostMessage { flow, text }))
+            subnet.offer_out(HostMessage { flow, text })
         }
-        "take" => Some(subnet.take_in(words.host()?).map(|_| ())),
+        "rounds" => rounds(subnet, words.number()?),
         "calm" => {
             for _ in 0..words.number()? {
                 calm(subnet);
             }
-            Some(Ok(()))
+            Ok(())
         }
-        _ => Some(subnet.step(event(name, words)?)),
+        _ => subnet.step(event(name, words)?),
+    };
+    Some(done.map(|_| None))
+}
+
+/// Quiet rounds, up to the first that is refused.
+fn rounds(subnet: &mut Subnet, count: u32) -> Result<(), CarrierFault> {
+    for _ in 0..count {
+        subnet.quiet_round()?;
     }
+    Ok(())
 }
 
 /// One round, and then every host takes what waits for it.

@@ -1,18 +1,22 @@
-//! Lets the tables of networks exchange their distances, each network a line of standard input, and prints what they say then.
+//! Lets the tables of networks exchange their distances, each network a row, and prints what they say then.
 //!
-//! A line is the number of IMPs, the number of rounds, the distance to every IMP that each port has heard at first (`-` for
-//! nothing), and the lines of the network, as `IMP-IMP`. Printed is for each IMP its distances to all IMPs and behind `/` its
-//! next lines to them, with `;` between IMPs. `check imp` compares all this with an independent model of the rules.
+//! A block begins with `tables`. A row is the number of IMPs, the number of rounds, the distance to every IMP that each port has heard at first (`-` for
+//! nothing), and the lines of the network, as `IMP-IMP`. Printed is for each IMP what
+//! its table says then, as in `routes`. `check imp` compares all this with an independent model of the rules.
 
+use crate::Layer;
+use crate::route_calls::tell_table;
 use crate::words::Words;
 use interface::MOST_IMPS;
 use routing::{RouteTable, Vector, settle};
 use std::alloc::Global;
 
-/// What is printed for the networks.
-pub fn made(alloc: Global, lines: &str, said: &mut String) -> Option<()> {
-    for line in lines.lines() {
-        let mut words = Words { rest: line };
+/// Networks, of which each row names one.
+#[derive(Drop)]
+pub struct Tables;
+
+impl Layer for Tables {
+    fn call(&mut self, alloc: Global, mut words: Words<'_>, answer: &mut String) -> Option<()> {
         let count = words.octet()?;
         let rounds = words.number()?;
         let heard = words.word()?.parse::<u8>().ok();
@@ -24,11 +28,11 @@ pub fn made(alloc: Global, lines: &str, said: &mut String) -> Option<()> {
         let mut tables = opened(alloc, count, &graph, heard)?;
         settle(alloc, &graph, &mut tables, rounds).ok()?;
         for table in tables.iter() {
-            tell_table(said, table)?;
+            tell_table(alloc, answer, table)?;
+            answer.push_str("\n").ok()?;
         }
-        said.push_str("\n").ok()?;
+        Some(())
     }
-    Some(())
 }
 
 /// The tables of IMP 1 and so on, with as many ports as each has lines.
@@ -46,19 +50,4 @@ fn opened(alloc: Global, count: u8, graph: &[(u8, u8)], heard: Option<u8>) -> Op
         tables.push(table).ok()?;
     }
     Some(tables)
-}
-
-/// What a table says of each IMP that there can be.
-fn tell_table(said: &mut String, table: &RouteTable) -> Option<()> {
-    for distance in table.vector().distances() {
-        write!(said, "{distance} ").ok()?;
-    }
-    said.push_str("/").ok()?;
-    for place in 0..MOST_IMPS {
-        match table.next(place as u8 + 1) {
-            Some(port) => write!(said, " {port}").ok()?,
-            None => said.push_str(" -").ok()?,
-        }
-    }
-    said.push_str(";").ok()
 }

@@ -4,6 +4,9 @@ use bit_messages::Bits;
 use interface::{Direction, Flow, HostAddr, ImpNumber, Link, Number};
 use std::alloc::Global;
 
+/// An octet that comes so often in a row is spelled once, with its count.
+const SHORTEST_RUN: usize = 8;
+
 /// The words of a line that are left.
 #[derive(Drop)]
 pub struct Words<'a> {
@@ -86,10 +89,14 @@ impl<'a> Words<'a> {
     /// The next word as octets.
     pub fn octets(&mut self, alloc: Global) -> Option<Vec<u8>> {
         let word = self.word()?;
+        let mut octets = Vec::new(alloc);
         if word == "-" {
-            return Some(Vec::new(alloc));
+            return Some(octets);
         }
-        hex::decode(alloc, word.as_bytes()).ok()
+        for part in word.split(',') {
+            put_part(alloc, part, &mut octets)?;
+        }
+        Some(octets)
     }
 
     /// The next two words as bits: their count, and their octets.
@@ -100,17 +107,64 @@ impl<'a> Words<'a> {
     }
 }
 
+/// Puts the octets of a part after those that are there: digits, or an octet, `*` and how often it comes.
+fn put_part(alloc: Global, part: &str, octets: &mut Vec<u8>) -> Option<()> {
+    let (digits, times) = match part.split_once('*') {
+        Some((digits, times)) => (digits, times.parse::<u16>().ok()?),
+        None => (part, 1),
+    };
+    let some = hex::decode(alloc, digits.as_bytes()).ok()?;
+    for _ in 0..times {
+        octets.extend_from_slice(&some).ok()?;
+    }
+    Some(())
+}
+
 /// Bits, as their count and their octets.
 pub fn spell_bits(alloc: Global, answer: &mut String, bits: &Bits) -> Option<()> {
     write!(answer, "{} ", bits.len()).ok()?;
-    if bits.is_empty() {
-        return answer.push_str("-").ok();
-    }
     spell_octets(alloc, answer, bits.as_octets())
 }
 
-/// Octets in upper case hexadecimal.
+/// Octets in upper case hexadecimal, `-` for none. One that comes eight times or more in a row is there once, with its count.
 pub fn spell_octets(alloc: Global, answer: &mut String, octets: &[u8]) -> Option<()> {
-    let digits = hex::encode_upper(alloc, octets).ok()?;
-    answer.push_str(digits.as_str()).ok()
+    if octets.is_empty() {
+        return answer.push_str("-").ok();
+    }
+    let mut at = 0;
+    let mut joint = "";
+    while at < octets.len() {
+        let single = octets.len() - at - without_run(octets.get(at..)?).len();
+        if single > 0 {
+            let digits = hex::encode_upper(alloc, octets.get(at..at + single)?).ok()?;
+            write!(answer, "{joint}{digits}").ok()?;
+            joint = ",";
+            at += single;
+        }
+        let run = run_of(octets.get(at..)?);
+        if run > 0 {
+            write!(answer, "{joint}{:02X}*{run}", octets.get(at)?).ok()?;
+            joint = ",";
+            at += run;
+        }
+    }
+    Some(())
+}
+
+/// The octets from the first run of eight or more on.
+fn without_run(octets: &[u8]) -> &[u8] {
+    let mut at = 0;
+    while at < octets.len() {
+        let run = run_of(&octets[at..]);
+        if run >= SHORTEST_RUN {
+            break;
+        }
+        at += run;
+    }
+    &octets[at..]
+}
+
+/// How often the first octet comes before another one.
+fn run_of(octets: &[u8]) -> usize {
+    octets.iter().take_while(|octet| **octet == octets[0]).count()
 }

@@ -90,6 +90,8 @@ export class Workbench {
     map = null;
     /** @type {string} why an address wasn't opened, "" once that was said */
     why = "";
+    /** @type {((lines: string[]) => Promise<string>) | null} asks the live session that is followed for lines */
+    asks = null;
 
     /**
      * @param {Runner} runner
@@ -571,6 +573,10 @@ export class Workbench {
      */
     async change(lines, words) {
         if (!this.history) return;
+        if (this.asks) {
+            const why = await this.asks(lines);
+            return this.toast.show(`${words}: ${lines.join(", ")}.${why ? ` Refused: ${why}.` : ""}`, null, why !== "");
+        }
         const before = this.here();
         const refused = this.refusals();
         const edit = goOn(this.history, this.position, lines, this.taps.cutOff);

@@ -6,6 +6,7 @@ import { Workbench } from "./app.js";
 import { readChronology } from "./chronology.js";
 import { arranged, opened } from "./lessons.js";
 import { lacking, wanting } from "./lacking.js";
+import { follow, sessionOf } from "./live.js";
 import { byId, say } from "./view/dom.js";
 
 async function start() {
@@ -17,12 +18,14 @@ async function start() {
     byId("unproved").title = TABLE.words["not proved"];
     const sources = note.sources.slice(0, 12);
     const words = `The program in this page is arpasim as WebAssembly, ${proved}. Sources ${sources}.`;
-    say(byId("note"), `${words} The page makes no request.`);
+    const session = sessionOf(document);
+    say(byId("note"), `${words} ${session ? "It follows a session, and asks only there." : "The page makes no request."}`);
     const examples = await examplesInPage();
     const inputs = [...opened(JSON.parse(block("opened")), examples), ...arranged(examples)];
     const years = readChronology(await unpackedText(block("chronology")));
     const bench = new Workbench(runner, inputs, years);
-    await bench.begin();
+    if (session) follow(bench, session);
+    else await bench.begin();
     document.documentElement.dataset.ready = "yes";
 }
 

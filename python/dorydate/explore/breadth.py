@@ -14,6 +14,7 @@ import time
 from collections.abc import Callable, Iterator, Sequence
 from dataclasses import dataclass
 
+from dorydate.explore.confirm import confirm
 from dorydate.explore.many import CannotRun, Many
 from dorydate.explore.pattern import START, Pattern, State, step
 from dorydate.explore.seen import Seen
@@ -270,6 +271,7 @@ def command(asked: Asked, program: Program) -> int:
         if whole < asked.depth:
             print(f"explore: not found; time was up before all of {whole + 1} were looked at", file=sys.stderr)
         return 1
+    confirm(network, pattern, (*asked.opening, *script), program)
     print(f"explore: {len(script)} events, and no fewer of {asked.words()} do it{by_whom(program)}", file=sys.stderr)
     print(Script.of(network, (*asked.opening, *script), [here("Found by ./explore --all: ") + pattern.text]).text(), end="")
     return 0

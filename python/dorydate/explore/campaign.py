@@ -6,6 +6,7 @@ The table is CSV. Its first row names the columns, of which any may be left out 
 |---|---|
 | `search` | a search with a name, whose network, pattern and kinds the other columns may replace |
 | `network`, `raw`, `carrier` | chains of sites as in `--network`, separated by spaces; `yes` for a raw network; `plain` or `subnet` |
+| `foreign` | hosts of that network that are strangers, separated by spaces |
 | `pattern`, `kinds` | what is looked for, and the kinds of events, separated by spaces |
 | `seeds` | numbers and ranges, as in `1-5 9`; 1 where nothing is said |
 | `runs`, `matches` | schedules at most, and matches to shrink |
@@ -26,6 +27,7 @@ from collections.abc import Iterator
 from dataclasses import asdict, dataclass, fields
 from pathlib import Path
 
+from dorydate.explore.confirm import confirm
 from dorydate.explore.engine import Workers, batches_of
 from dorydate.explore.named import SEARCHES
 from dorydate.explore.pattern import BadPattern, read
@@ -36,7 +38,7 @@ from dorydate.program import Program
 
 RUNS = 100_000  # schedules of a search, where the table says nothing
 MOST_SEEDS = 1_000_000  # of one range
-COLUMNS = ("search", "network", "raw", "carrier", "pattern", "kinds", "seeds", "runs", "matches", "audit")
+COLUMNS = ("search", "network", "raw", "carrier", "foreign", "pattern", "kinds", "seeds", "runs", "matches", "audit")
 
 
 class BadTable(Exception):
@@ -122,6 +124,8 @@ class Campaign:
             state.keep(name, task.job, search.progress, True)
         if search.is_stopped:
             raise KeyboardInterrupt
+        if search.progress.best is not None:
+            confirm(search.network, search.pattern, search.progress.best, program)
         return result_of(task, search.progress, wrong)
 
     def show(self, task: Task, number: int, progress: Progress, looked: int) -> None:
@@ -177,7 +181,8 @@ def network_of(row: dict[str, str]) -> Network:
     carrier = row.get("carrier") or "subnet"
     if carrier not in ("plain", "subnet"):
         raise BadTable(f"`{carrier}` is no carrier: `plain` or `subnet`")
-    return Network.joined(*row["network"].split(), raw=is_yes(row.get("raw", "")), carrier="plain" if carrier == "plain" else "subnet")
+    foreign = row.get("foreign", "").split()
+    return Network.joined(*row["network"].split(), raw=is_yes(row.get("raw", "")), carrier=carrier, foreign=foreign)
 
 
 def is_yes(word: str) -> bool:

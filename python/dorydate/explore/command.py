@@ -17,12 +17,13 @@ from dorydate.expect import expected
 from dorydate.explore import breadth, fast, lockup, without
 from dorydate.explore.breadth import Asked
 from dorydate.explore.campaign import BadTable, Campaign
+from dorydate.explore.confirm import NotConfirmed, confirm
 from dorydate.explore.engine import Cluster, Local, NoCluster, OtherProgram, Workers, available, batches_of, hash_of
 from dorydate.explore.kinds import Pools, chosen, fit, pools
 from dorydate.explore.many import CannotRun
 from dorydate.explore.named import SEARCHES
 from dorydate.explore.pattern import BadPattern, Pattern, read
-from dorydate.explore.search import MATCHES, Job, NotKept, Progress, Search
+from dorydate.explore.search import MATCHES, Job, NotKept, Progress
 from dorydate.explore.shrink import Script as Found
 from dorydate.explore.state import OtherState, State
 from dorydate.network import BadNetwork, Network
@@ -41,7 +42,7 @@ class Wrong(Exception):
 
 # what is said in one line
 WRONGS = (
-    *(NotKept, fast.NotConfirmed, Wrong, BadPattern, BadNetwork, BadLine, BadTrace, CannotRun, NoProgram, TookTooLong),
+    *(NotKept, NotConfirmed, Wrong, BadPattern, BadNetwork, BadLine, BadTrace, CannotRun, NoProgram, TookTooLong),
     *(NoCluster, OtherProgram, OtherState, BadTable),
 )
 
@@ -55,6 +56,7 @@ def parser() -> argparse.ArgumentParser:
     made.add_argument("--network", metavar="CHAIN", nargs="+", help="a network by chains of sites, as in UCLA-SRI-UTAH")
     made.add_argument("--raw", action="store_true", help="the script itself sends and takes messages")
     made.add_argument("--plain", action="store_true", help="mailboxes in the place of a subnet")
+    made.add_argument("--foreign", metavar="HOST", nargs="+", default=[], help="hosts of --network that are strangers")
     made.add_argument("--kinds", metavar="KIND", nargs="+", help="the kinds of events, all of the network where none are named")
     made.add_argument("--runs", type=int, default=1_000_000, help="schedules at most")
     made.add_argument("--seconds", type=float, default=600.0, help="seconds at most")
@@ -82,7 +84,8 @@ def parser() -> argparse.ArgumentParser:
 def network_of(words: argparse.Namespace) -> Network:
     """The network that is explored."""
     if words.network:
-        return Network.joined(*words.network, raw=words.raw, carrier="plain" if words.plain else "subnet")
+        carrier = "plain" if words.plain else "subnet"
+        return Network.joined(*words.network, raw=words.raw, carrier=carrier, foreign=words.foreign)
     if words.opening:
         return opening_of(words).network
     if words.name in SEARCHES:
@@ -140,7 +143,8 @@ class Shown:
 
 
 def written(network: Network, pattern: Pattern, script: Found, program: Program) -> str:
-    """A script, with the last calm that the pattern is about, and with what each event prints as its expectation (`#=`)."""
+    """A script whose plain replay matches, with the pattern's last calm and with what each event prints (`#=`)."""
+    confirm(network, pattern, script, program)
     last = (Calm(pattern.calm.rounds),) if pattern.calm.rounds else ()
     heading = [here("Found by ./explore: ") + pattern.text]
     full = expected(Script.of(network, (*script, *last), heading), program)
@@ -258,6 +262,7 @@ def found_fast(words: argparse.Namespace, program: Program) -> int:
     pattern = Pattern("", ()) if words.rest else pattern_of(words)
     asked = asked_of(words, pattern, CALMS)
     options = ["--megabytes", str(words.megabytes), *(["--calms"] if words.rest else [])]
+    fast.input_of(asked)  # what it can't do is said before it is built
     answer = fast.searched(asked, not words.quiet, options)
     if answer.stopped:
         print(f"explore: stopped: {answer.stopped} was up before all of {answer.whole + 1} events were looked at", file=sys.stderr)
@@ -267,8 +272,6 @@ def found_fast(words: argparse.Namespace, program: Program) -> int:
         print(f"explore: {fast.last_words(asked, answer)}", file=sys.stderr)
         return FOUND if words.never else NOT_FOUND
     script = (*asked.opening, *answer.found)
-    if not Search(asked.network, pattern, program).matches(script):
-        raise fast.NotConfirmed("the plain program found a script that the program doesn't confirm: " + "; ".join(map(str, script)))
     print(f"explore: {fast.last_words(asked, answer)}{breadth.by_whom(program)}", file=sys.stderr)
     text = written(asked.network, pattern, script, program)
     print(text, end="")

@@ -26,10 +26,6 @@ from dorydate.where import repository
 MEGABYTES = 1024  # of states, where nothing else is said
 
 
-class NotConfirmed(Exception):
-    """What the plain program found, and the proved one doesn't print."""
-
-
 # ---- the program
 
 
@@ -87,6 +83,8 @@ def spelled(pattern: Pattern) -> str:
 
 def input_of(asked: Asked) -> bytes:
     """The input of a search: topology, opening, events and pattern."""
+    if asked.network.strangers():
+        raise CannotRun("the plain program knows no strangers: leave out --fast")
     if "slots" in asked.pattern.heads():
         raise CannotRun("the plain program doesn't print `slots`: leave out --fast")
     head = "\n".join(asked.network.toml().splitlines())

@@ -3,11 +3,15 @@
 from __future__ import annotations
 
 import random
-from collections.abc import Collection, Iterable, Mapping, Sequence
+from collections.abc import Collection, Iterable, Iterator, Mapping, Sequence
 from itertools import accumulate
 
 from dorydate import script as events
 from dorydate.explore.pattern import Pattern
+from dorydate.model.bits import octets
+from dorydate.model.commands import (
+    ALL, CLS, ECO, GVB, INR, INS, RET, RRP, RST, RTS, STR, alone, control_message, header, of_counts, of_sockets,
+)  # fmt: skip
 from dorydate.network import Host, Network
 from dorydate.script import Calm, Event, Flow, Text
 
@@ -26,6 +30,8 @@ CAUSES = {
     "failed": {"server", "user"},
 }
 ONE_BYTE = Text.of(b"A")
+SENDS, RECEIVES = 33, 16  # the sockets of each host
+FIRST_LINK, ILLEGAL = 2, 14  # of connections; a code that no command has
 # kinds of events that lead to lines which a pattern asks for; in one batch of THIRD they are favoured, and calms are seldom
 LEADS = {
     "noted": {"out", "ask", "deliver"},
@@ -51,10 +57,13 @@ def pools(network: Network, texts: Sequence[Text] = (Text(),), links: Sequence[i
     }
     if network.carrier == "subnet":
         found |= of_subnet(network, flows, places)
+    strangers = network.strangers()
     if network.raw:
         found["out"] = (events.Out(flow, text) for flow in flows for text in texts)
     else:
-        found |= of_programs(hosts, pairs)
+        found |= of_programs([it for it in hosts if it not in strangers], pairs)
+    if strangers:
+        found["out"] = of_strangers(strangers, hosts)
     return {kind: tuple(it) for kind, it in found.items()}
 
 
@@ -76,9 +85,10 @@ def of_subnet(network: Network, flows: Sequence[Flow], places: int) -> dict[str,
     }
 
 
-def of_programs(hosts: Sequence[Host], pairs: Sequence[tuple[Host, Host]]) -> dict[str, Iterable[Event]]:
-    """What users ask for: one socket of each kind at each host, bytes of eight bits and of one."""
-    sends, receives = 33, 16
+def of_programs(programs: Sequence[Host], every: Sequence[tuple[Host, Host]]) -> dict[str, Iterable[Event]]:
+    """What users of programs ask for: one socket of each kind at each host, bytes of eight bits and of one."""
+    sends, receives = SENDS, RECEIVES
+    hosts, pairs = programs, [it for it in every if it[0] in programs]
     own = [(host, socket) for host in hosts for socket in (sends, receives)]
     return {
         "contact": (events.Contact(*it) for it in pairs),
@@ -92,6 +102,22 @@ def of_programs(hosts: Sequence[Host], pairs: Sequence[tuple[Host, Host]]) -> di
         "close": (events.Close(*it) for it in own),
         "offer": map(events.Offer, hosts),
     }
+
+
+def of_strangers(strangers: Sequence[Host], hosts: Sequence[Host]) -> Iterator[Event]:
+    """What strangers say to programs: each command, about the sockets that all use, and data of several forms."""
+    both = (SENDS, RECEIVES), (RECEIVES, SENDS)
+    link = FIRST_LINK
+    commands = [alone(RST), alone(RRP), of_sockets(RTS, RECEIVES, SENDS, link), of_sockets(STR, SENDS, RECEIVES, 8)]
+    commands += [of_sockets(CLS, *it) for it in both]
+    commands += [of_counts(ALL, link, 2, 100), of_counts(RET, link, 1, 8), bytes([GVB, link, 128, 128])]
+    commands += [bytes([INR, link]), bytes([INS, link]), bytes([ECO, 1]), bytes([ILLEGAL])]
+    said = [(0, control_message([it])) for it in commands]
+    said += [(link, header(8, 1) + "0" * 8), (link, header(8, 3) + "0" * 24), (link, "")]
+    for source in strangers:
+        for destination in (it for it in hosts if it not in strangers):
+            for on, bits in said:
+                yield events.Out(Flow(source, destination, on), Text(octets(bits), len(bits)))
 
 
 def fit(found: Pools, pattern: Pattern) -> Pools:

@@ -63,7 +63,8 @@ class Many:
 
     def topology(self) -> Network:
         """All copies, and the marker."""
-        imps = [Imp(it.number + copy * self.size, it.hosts) for copy in range(self.copies) for it in self.network.imps]
+        copied = [(it, copy * self.size) for copy in range(self.copies) for it in self.network.imps]
+        imps = [Imp(it.number + before, it.hosts, foreign=it.foreign) for it, before in copied]
         lines = [Line(it.a + copy * self.size, it.b + copy * self.size) for copy in range(self.copies) for it in self.network.lines]
         return replace(self.network, imps=(*imps, Imp(MARKER, 1)), lines=tuple(lines))
 

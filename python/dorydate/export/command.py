@@ -8,7 +8,7 @@ from collections.abc import Sequence
 from pathlib import Path
 
 from dorydate import ending
-from dorydate.export import chart, pcapng, perfetto, shiviz
+from dorydate.export import chart, pcapng, perfetto, shiviz, wire
 from dorydate.export.replayed import Replayed, replayed
 from dorydate.inside import CannotFollow, state_of
 from dorydate.network import BadNetwork
@@ -34,6 +34,8 @@ def parser() -> argparse.ArgumentParser:
     which = made.add_mutually_exclusive_group(required=True)
     for name, what in FORMATS.items():
         which.add_argument(f"--{name}", action="store_const", const=name, dest="format", help=what)
+    of_wire = "what crossed the wire of a live network, for Wireshark; its file `wire` is the input"
+    which.add_argument("--wire", action="store_const", const="wire", dest="format", help=of_wire)
     which.add_argument("--dissector", action="store_true", help="print the path of the dissector for Wireshark, which reads what --pcapng writes")
     made.add_argument("--after", type=int, metavar="N", help="of a slide: after this many events (all of them)")
     return made
@@ -70,7 +72,10 @@ def main(words: Sequence[str] | None = None) -> int:
     if sys.stdin.isatty():
         print("export: reading from the terminal; Ctrl-D ends the input", file=sys.stderr)
     try:
-        octets = written(chosen.format, Script.of_octets(sys.stdin.buffer.read(MOST_OCTETS + 1)), chosen.after)
+        if chosen.format == "wire":
+            octets = wire.capture(sys.stdin.buffer.read().decode("latin-1"))
+        else:
+            octets = written(chosen.format, Script.of_octets(sys.stdin.buffer.read(MOST_OCTETS + 1)), chosen.after)
     except (BadLine, BadNetwork, BadTrace, Stopped, NoProgram, TookTooLong) as why:
         print(f"export: {why}", file=sys.stderr)
         return 1

@@ -3,10 +3,12 @@
 --
 --     tshark -X lua_script:dorydate.lua -r FILE
 --
--- Link type USER0 is a network whose hosts have programs. In USER1, a raw network, texts have no form.
+-- Link type USER0 is a network whose hosts have programs. In USER1, a raw network, texts have no form. USER2 is the wire
+-- of a live network, as `./export --wire` writes it: frames over UDP, and messages with their lengths over TCP.
 
 local hosts = Proto("dorydate", "Host and IMP (BBN Report 1822)")
 local raw = Proto("dorydate_raw", "Host and IMP, raw network")
+local wire = Proto("dorydate_wire", "Wire of a live network")
 
 local TYPES = { [0] = "Message", [4] = "NOP", [5] = "RFNM", [7] = "Dead", [9] = "Incomplete" }
 local WORDS = { [5] = "rfnm", [7] = "dead", [9] = "incomplete" } -- in printed lines
@@ -45,11 +47,24 @@ local f = {
   kind = ProtoField.uint8("dorydate.kind", "Kind of error", base.DEC, ERRORS),
   quoted = ProtoField.bytes("dorydate.quoted", "Octets quoted"),
 }
-local listed = {}
-for _, field in pairs(f) do
-  listed[#listed + 1] = field
+local w = {
+  magic = ProtoField.string("dorydate.wire.magic", "H316"),
+  sequence = ProtoField.uint32("dorydate.wire.sequence", "Sender's number", base.DEC),
+  words = ProtoField.uint16("dorydate.wire.words", "Words of 16 bits", base.DEC),
+  last = ProtoField.bool("dorydate.wire.last", "Last of its message", 16, nil, 0x0001),
+  ready = ProtoField.bool("dorydate.wire.ready", "Sender is ready", 16, nil, 0x0002),
+  length = ProtoField.uint16("dorydate.wire.length", "Length", base.DEC),
+}
+
+local function values_of(fields)
+  local listed = {}
+  for _, field in pairs(fields) do
+    listed[#listed + 1] = field
+  end
+  return listed
 end
-hosts.fields = listed
+hosts.fields = values_of(f)
+wire.fields = values_of(w)
 
 local malformed = ProtoExpert.new("dorydate.malformed", "Malformed", expert.group.MALFORMED, expert.severity.ERROR)
 hosts.experts = { malformed }
@@ -298,8 +313,9 @@ local function add_turn(pinfo, tree)
   pinfo.cols.info = said
 end
 
--- Dissects a packet. `has_form` says whether texts are those of host programs.
-local function dissect(buffer, pinfo, root, has_form)
+-- Dissects a packet. `has_form` says whether texts are those of host programs, and `is_marked` whether a mark ends a text;
+-- otherwise all words after the leader are text.
+local function dissect(buffer, pinfo, root, has_form, is_marked)
   pinfo.cols.protocol = "1822"
   local tree = root:add(hosts, buffer())
   if buffer:len() == 0 then
@@ -334,7 +350,7 @@ local function dissect(buffer, pinfo, root, has_form)
     return
   end
   local body = buffer(4):bytes()
-  local bits = text_bits(body)
+  local bits = is_marked and text_bits(body) or not is_marked and 8 * body:len() or nil
   local branch = tree:add(f.body, buffer(4))
   if not bits then
     branch:add_proto_expert_info(malformed, "no bit 1 marks the end of the text")
@@ -349,13 +365,46 @@ local function dissect(buffer, pinfo, root, has_form)
 end
 
 function hosts.dissector(buffer, pinfo, root)
-  dissect(buffer, pinfo, root, true)
+  dissect(buffer, pinfo, root, true, true)
 end
 
 function raw.dissector(buffer, pinfo, root)
-  dissect(buffer, pinfo, root, false)
+  dissect(buffer, pinfo, root, false, true)
+end
+
+-- A frame, or a message with its length. What a host sends has no mark.
+function wire.dissector(buffer, pinfo, root)
+  local is_from_host = pinfo.p2p_dir == 0
+  local is_frame = buffer:len() >= 12 and buffer(0, 4):string() == "H316"
+  local head = is_frame and 12 or 2
+  if buffer:len() < head then
+    return
+  end
+  local tree = root:add(wire, buffer(0, head))
+  local has_message = buffer:len() > head
+  if is_frame then
+    tree:add(w.magic, buffer(0, 4))
+    tree:add(w.sequence, buffer(4, 4))
+    tree:add(w.words, buffer(8, 2))
+    tree:add(w.last, buffer(10, 2))
+    tree:add(w.ready, buffer(10, 2))
+    local flags = buffer(11, 1):uint()
+    pinfo.cols.protocol = "1822 wire"
+    pinfo.cols.info = flags >= 2 and "ready" or "not ready"
+    if has_message and flags % 2 == 0 then
+      pinfo.cols.info = "a part of a message"
+      has_message = false
+    end
+  else
+    tree:add(w.length, buffer(0, 2))
+    pinfo.cols.info = "is the IMP there?"
+  end
+  if has_message then
+    dissect(buffer(head):tvb(), pinfo, root, true, not is_from_host)
+  end
 end
 
 local links = DissectorTable.get("wtap_encap")
 links:add(wtap.USER0, hosts)
 links:add(wtap.USER1, raw)
+links:add(wtap.USER2, wire)

@@ -17,7 +17,10 @@ from dorydate.given import Input
 from dorydate.live import record as records
 from dorydate.live.engine import Ended, Rounds
 from dorydate.live.gateway import Gateway
+from dorydate.live.interface import Interface
+from dorydate.live.page import Page
 from dorydate.live.record import Address, Record
+from dorydate.live.reverse import FarImp, network_of
 from dorydate.live.services import Served, Shell, Terminal
 from dorydate.live.session import Session
 from dorydate.live.weather import Weather
@@ -26,9 +29,12 @@ from dorydate.network import BadNetwork, Host, Network
 from dorydate.program import NoProgram
 from dorydate.where import found
 
+MOST_NAMED = 63  # hosts in a comment
 LOCAL = "127.0.0.1"
 BINDING = re.compile(r"(?P<host>[^=]+)=(?P<port>[0-9]+)(:((?P<address>[0-9.]+):)?(?P<peer>[0-9]+))?")
 TERMINAL = re.compile(r"(?P<port>[0-9]+)=(?P<user>[^,]+),(?P<server>[^:]+)(:(?P<socket>[0-9]+))?")
+FAR = re.compile(r"(?P<address>[0-9.]+):(?P<port>[0-9]+)")
+PATIENT = 30.0  # seconds after which a message to another network is given up
 SERVICE = re.compile(r"(?P<host>[^:=]+):(?P<socket>[0-9]+)(=(?P<command>.+))?")
 
 
@@ -91,8 +97,11 @@ def parser() -> argparse.ArgumentParser:
     several("--terminal", "PORT=USER,SERVER[:SOCKET]", "a terminal, for nc")
     several("--shell", "HOST:SOCKET=COMMAND", "a program of this machine as a service; local only")
     made.add_argument("--listen", default=LOCAL, metavar="ADDRESS", help="listen there: who reaches it can be a host")
+    made.add_argument("--page", type=int, metavar="PORT", help="the workbench follows it at http://localhost:PORT")
     made.add_argument("--marked", action="store_true", help="bodies from hosts end in a bit 1 and zeros")
     made.add_argument("--silence", type=float, metavar="S", help="a host that says nothing for S seconds is gone")
+    made.add_argument("--as", dest="own", metavar="HOST", help="be this host of another network, whose IMP --imp names")
+    made.add_argument("--imp", metavar="ADDRESS:PORT", help="where that IMP listens, over UDP")
     made.add_argument("--seconds", type=float, metavar="S", help="end after S seconds")
     return made
 
@@ -105,8 +114,9 @@ def opened(chosen: argparse.Namespace) -> Session:
     topology = None
     if chosen.resume:
         topology, lines = records.read(Path(chosen.resume))
-    if chosen.topology:
-        given = topology_of(Path(chosen.topology).read_bytes())
+    if chosen.topology or chosen.own:
+        own = network_of(Host.read(chosen.own)).toml() if chosen.own else ""
+        given = own or topology_of(Path(chosen.topology).read_bytes())
         if topology is not None and given != topology:
             raise Refused(f"{chosen.topology} is another topology than that of {chosen.resume}")
         topology = given
@@ -117,7 +127,7 @@ def opened(chosen: argparse.Namespace) -> Session:
         raise Refused("no host of this topology is a stranger: an IMP names them as in `foreign = [0]`")
     engine = Rounds(found(), topology, network)
     printed = engine.resumed([it for it in lines if it and not it.startswith(b"#")]) if chosen.resume else []
-    chosen.peers = records.peers(lines)
+    chosen.lines, chosen.printed = lines, printed
     folder = Path(chosen.record or chosen.resume)
     if not chosen.resume and (folder / records.SCRIPT).exists():
         raise Refused(f"{folder} has a session already: --resume {folder} continues it")
@@ -142,16 +152,38 @@ def topology_of(octets: bytes) -> str:
 
 async def serve(session: Session, chosen: argparse.Namespace) -> str:
     """Runs a session, and answers why it ended."""
-    gateway = Gateway(session, chosen.marked, chosen.pace / 1000, chosen.silence)
+    gateway = Gateway(session, chosen.pace / 1000)
+    gateway.idle = chosen.silence
     async with AsyncExitStack() as stack:
+        if chosen.own:
+            await call(gateway, chosen, stack)
         for it in [binding_of(session.network, word) for word in chosen.bind]:
-            udp = await listen(gateway.interface(it.host), chosen.listen, it.port, it.peer, stack)
-            if it.host in chosen.peers:
-                udp.resume(chosen.peers[it.host])
+            interface = Interface(session, it.host, gateway.wake, chosen.marked, chosen.silence)
+            gateway.parts.append(interface)
+            udp = await listen(interface, chosen.listen, it.port, it.peer, stack)
+            if it.host in (peers := records.peers(chosen.lines)):
+                udp.resume(peers[it.host])
         await add_services(gateway, chosen, stack)
         begin(gateway, chosen)
         await gateway.run()
     return gateway.ended
+
+
+async def call(gateway: Gateway, chosen: argparse.Namespace, stack: AsyncExitStack) -> None:
+    """Calls the IMP of another network, whose host the own program is."""
+    it = matched(FAR, chosen.imp or "", "--imp ADDRESS:PORT beside --as")
+    address = it["address"], port_of(it["port"])
+    imp = FarImp(gateway.session, gateway.session.network.host(chosen.own), gateway.wake)
+    imp.hear(chosen.printed)
+    gateway.parts.append(imp)
+    gateway.upkeep.after = PATIENT
+    here = "0.0.0.0", records.calling_port(chosen.lines)
+    loop = asyncio.get_running_loop()
+    transport, _ = await loop.create_datagram_endpoint(lambda: imp, local_addr=here, remote_addr=address)
+    stack.callback(transport.close)
+    gateway.session.say(f"calls {chosen.imp} from port {transport.get_extra_info('sockname')[1]}")
+    calling = asyncio.create_task(imp.call())
+    stack.callback(calling.cancel)
 
 
 def begin(gateway: Gateway, chosen: argparse.Namespace) -> None:
@@ -165,33 +197,41 @@ def begin(gateway: Gateway, chosen: argparse.Namespace) -> None:
     if chosen.seconds is not None:
         loop.call_later(chosen.seconds, gateway.stop, "its time is over")
     if chosen.resume:
-        session.say(f"continues; up: {' '.join(map(str, sorted(session.known.up, key=Host.order)))}")
-    else:
+        up = sorted(session.known.up, key=Host.order)
+        session.say(f"continues; up: {' '.join(map(str, up)) if len(up) <= MOST_NAMED else f'{len(up)} hosts'}")
+    elif not chosen.own:
         gateway.begin()
-    session.say(f"listens at {chosen.listen}: {', '.join(f'{it} ' for it in chosen.bind)}".rstrip(" :,"))
+    session.say(f"listens at {chosen.listen}: {', '.join(chosen.bind)}".rstrip(" :"))
     if chosen.listen != LOCAL:
         session.say(f"whoever reaches {chosen.listen} can be these hosts, and type at these terminals")
 
 
 async def add_services(gateway: Gateway, chosen: argparse.Namespace, stack: AsyncExitStack) -> None:
     """Begins the servers, terminals and programs that are asked for, until the stack is closed."""
-    network = gateway.session.network
+    network, lines = gateway.session.network, chosen.lines
     for word in chosen.server:
         it = matched(SERVICE, word, "HOST:SOCKET, as in 0/1:1,")
-        gateway.tenders.append(Served(gateway, with_a_program(network, it["host"]), int(it["socket"])))
+        gateway.tenders.append(Served(gateway, with_a_program(network, it["host"]), int(it["socket"]), lines))
     for word in chosen.terminal:
         it = matched(TERMINAL, word, "PORT=USER,SERVER, as in 2323=0/1,0/2,")
         user, server = with_a_program(network, it["user"]), network.host(it["server"])
-        terminal = Terminal(gateway, user, server, int(it["socket"] or 1))
+        terminal = Terminal(gateway, user, server, int(it["socket"] or 1), lines)
         gateway.tenders.append(terminal)
         stack.callback((await asyncio.start_server(terminal.serve, chosen.listen, port_of(it["port"]))).close)
+    if chosen.page is not None:
+        real = [binding_of(network, it).host for it in chosen.bind]
+        page = Page(gateway, real, chosen.listen, port_of(str(chosen.page)))
+        gateway.tenders.append(page)
+        stack.callback((await asyncio.start_server(page.serve, chosen.listen, chosen.page)).close)
+        stack.callback(page.close)
+        gateway.session.say(f"the page is at http://{chosen.listen}:{chosen.page}")
     for word in chosen.shell:
         it = matched(SERVICE, word, "HOST:SOCKET=COMMAND")
         if not it["command"]:
             raise Refused(f"`{word}`: HOST:SOCKET=COMMAND is expected")
         if chosen.listen != LOCAL:
             raise Refused("--shell runs programs of this machine for whoever comes, so it is local only")
-        shell = Shell(gateway, with_a_program(network, it["host"]), int(it["socket"]), it["command"])
+        shell = Shell(gateway, with_a_program(network, it["host"]), int(it["socket"]), it["command"], lines)
         gateway.tenders.append(shell)
         stack.push_async_callback(shell.close)
 

@@ -7,11 +7,9 @@ from collections.abc import Iterator
 from typing import Protocol
 
 from dorydate.live.engine import Ended
-from dorydate.live.interface import Interface
 from dorydate.live.session import Session, Wish
 from dorydate.live.upkeep import Upkeep
 from dorydate.live.weather import Weather
-from dorydate.network import Host
 from dorydate.script import Calm, HostDown
 
 LOOKS = 0.25  # seconds after which a network is looked at again in which something waits
@@ -25,21 +23,32 @@ class Tends(Protocol):
         """What it asks for in this round."""
 
 
+class Part(Protocol):
+    """What crosses the wire at one end: the interface of a stranger, or the IMP of another network."""
+
+    def before(self) -> Iterator[Wish]:
+        """What is to happen first in a round."""
+
+    def after(self) -> Iterator[Wish]:
+        """What is to happen last."""
+
+    def waits(self) -> bool:
+        """Whether something has still to happen, without anything more from the wire."""
+
+
 class Gateway:
     """The rounds of a session, and who has a part in them."""
 
-    def __init__(self, session: Session, marked: bool = False, pace: float = 0.0, silence: float | None = None) -> None:
-        self.session, self.marked, self.pace, self.silence = session, marked, pace, silence
-        self.interfaces: dict[Host, Interface] = {}
+    def __init__(self, session: Session, pace: float = 0.0) -> None:
+        self.session, self.pace = session, pace
+        self.parts: list[Part] = []
         self.tenders: list[Tends] = []
         self.upkeep = Upkeep(session)
+        self.idle: float | None = None  # seconds after which a quiet network is looked at all the same
         self.weather: Weather | None = None
         self.awake = asyncio.Event()
         self.quiet = 0  # rounds since something was printed
         self.ended = ""
-
-    def interface(self, host: Host) -> Interface:
-        return self.interfaces.setdefault(host, Interface(self.session, host, self.marked, self.wake))
 
     def wake(self) -> None:
         """Something may happen."""
@@ -57,30 +66,29 @@ class Gateway:
 
     def round(self) -> None:
         """One round. Quiet rounds that follow one another become longer: nobody sees them."""
-        parts = [*self.interfaces.values()]
         passes = [Wish(Calm(length := max(1, min(self.quiet, self.enough()))))]
         if self.weather:
             length, passes = 1, [*self.weather.wishes()]
-        wishes = [wish for it in parts for wish in it.before()]
+        wishes = [wish for it in self.parts for wish in it.before()]
         wishes += [wish for it in (*self.tenders, self.upkeep) for wish in it.wishes()]
-        printed = self.session.happen([*wishes, *passes, *(wish for it in parts for wish in it.after())])
+        printed = self.session.happen([*wishes, *passes, *(wish for it in self.parts for wish in it.after())])
         self.quiet = 0 if printed else self.quiet + length
 
     def enough(self) -> int:
         """After how many quiet rounds nothing more happens by itself."""
-        return len(self.session.network.imps) + 4
+        network = self.session.network
+        return len(network.imps) + 4 if network.carrier == "subnet" else 2
 
     def waits(self) -> bool:
         """Whether something may still happen without a host that speaks."""
         known = self.session.known
         weather = self.weather is not None and not self.weather.is_over()
-        return weather or bool(known.unanswered.flows) or any(it.waits() for it in self.interfaces.values())
+        return weather or bool(known.unanswered.flows) or any(it.waits() for it in self.parts)
 
     async def run(self) -> None:
         """Runs until the session ends."""
         try:
             while not self.ended:
-                self.hang_up()
                 self.round()
                 if self.quiet < self.enough():
                     await asyncio.sleep(self.pace)
@@ -92,15 +100,8 @@ class Gateway:
     async def pause(self) -> None:
         """Waits for a host that speaks, or for the time when something that waits is looked at again."""
         self.awake.clear()
-        limit = (IN_WEATHER if self.weather else LOOKS) if self.waits() else self.silence
+        limit = (IN_WEATHER if self.weather else LOOKS) if self.waits() else self.idle
         try:
             await asyncio.wait_for(self.awake.wait(), limit)
         except asyncio.TimeoutError:
             self.quiet = 0 if self.weather else self.quiet
-
-    def hang_up(self) -> None:
-        """Hosts that have said nothing for the time that is asked for are gone."""
-        if self.silence is not None:
-            for it in self.interfaces.values():
-                if it.said and it.silent() > self.silence:
-                    it.goes(f"it has said nothing for {self.silence:g} seconds")

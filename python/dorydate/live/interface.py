@@ -38,6 +38,19 @@ class Allowance:
         return True
 
 
+class Faults:
+    """What is refused, counted and now and then said."""
+
+    def __init__(self, session: Session, of: str) -> None:
+        self.session, self.of = session, of
+        self.count: Counter[str] = Counter()
+
+    def add(self, why: str) -> None:
+        self.count[why] += 1
+        if self.count[why] in SAID_AT:
+            self.session.say(f"{self.of}: refused: {why} ({self.count[why]})")
+
+
 class Wire(Protocol):
     """What brings a host its messages."""
 
@@ -58,12 +71,15 @@ class Interface:
     rises again between two rounds has stopped all the same, as it may have forgotten everything (`fell`).
     """
 
-    def __init__(self, session: Session, host: Host, marked: bool, wake: Callable[[], None]) -> None:
-        self.session, self.host, self.marked, self.wake = session, host, marked, wake
+    def __init__(
+        self, session: Session, host: Host, wake: Callable[[], None], marked: bool = False, silence: float | None = None
+    ) -> None:
+        self.session, self.host, self.wake = session, host, wake
+        self.marked, self.silence = marked, silence  # seconds of silence after which its host is gone
         self.wire: Wire | None = None
         self.said = self.fell = self.refused_up = False
         self.queue: deque[Out] = deque()
-        self.count: Counter[str] = Counter()
+        self.faults = Faults(session, str(host))
         self.datagrams = Allowance(2_000, 2_000)
         self.turns = Allowance(4, 1)  # of the ready line
         self.heard_at = time.monotonic()
@@ -74,12 +90,6 @@ class Interface:
         return self.host in self.session.known.up
 
     # ---- from the wire
-
-    def fault(self, why: str) -> None:
-        """Counts what is refused, and says it now and then."""
-        self.count[why] += 1
-        if self.count[why] in SAID_AT:
-            self.session.say(f"{self.host}: refused: {why} ({self.count[why]})")
 
     def comes(self, wire: Wire) -> None:
         """Its host says over a wire that it is ready."""
@@ -114,10 +124,6 @@ class Interface:
             self.queue.append(said.event)
             self.wake()
 
-    def silent(self) -> float:
-        """For how many seconds its host has said nothing."""
-        return time.monotonic() - self.heard_at
-
     def has_room(self) -> bool:
         return len(self.queue) < MOST_QUEUED
 
@@ -129,6 +135,8 @@ class Interface:
 
     def before(self) -> Iterator[Wish]:
         """What is to happen first: its ready line, and its oldest message."""
+        if self.silence is not None and self.said and time.monotonic() - self.heard_at > self.silence:
+            self.goes(f"it has said nothing for {self.silence:g} seconds")
         if self.up and (self.fell or not self.said):
             if self.turns.take():
                 yield Wish(HostDown(self.host), self._went)
@@ -156,7 +164,6 @@ class Interface:
         self.refused_up = name is not None and name != "IsUp"
         if self.refused_up:
             self.turns.left += 1  # nothing has changed
-            self.count[f"refused {name}"] += 1
             return
         self.queue.clear()
         self.session.say(f"{self.host} is ready, {self.wire.where() if self.wire else 'and gone'}")
@@ -165,10 +172,10 @@ class Interface:
 
     def _offered(self, said: Sequence[str]) -> None:
         name = refusal(said)
-        if name:
-            self.count[f"refused {name}"] += 1
         if name not in HELD and self.queue:
             self.queue.popleft()
+            if name:
+                self.faults.add(name)
 
     def _took(self, said: Sequence[str]) -> None:
         for line in said:

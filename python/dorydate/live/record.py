@@ -5,7 +5,7 @@ from __future__ import annotations
 import os
 import re
 import time
-from collections.abc import Sequence
+from collections.abc import Callable, Sequence
 from pathlib import Path
 
 from dorydate.ending import in_words
@@ -21,6 +21,7 @@ SCRIPT, PRINTED, WIRE = "script", "printed", "wire"
 FROM_HOST, TO_HOST = "from", "to"
 UDP, TCP = "udp", "tcp"
 Address = tuple[str, int]
+CALLS = re.compile(r"# [0-9.]+ s: calls \S+ from port ([0-9]+)")
 READY = re.compile(rf"# [0-9.]+ s: (\S+) is ready, {UDP} ([0-9.]+):([0-9]+)")
 
 
@@ -73,6 +74,7 @@ class Record:
         self.script = Whole(folder / SCRIPT, head + b"".join(it + b"\n" for it in events))
         self.printed = Whole(folder / PRINTED, "".join(f"{it}\n" for it in printed).encode("latin-1"))
         self.wire = Whole(folder / WIRE, b"")
+        self.grows: list[Callable[[bytes], None]] = []  # who hears each piece of the script
 
     def seconds(self) -> float:
         return time.monotonic() - self.began
@@ -82,7 +84,7 @@ class Record:
         lines = b"".join(str(event).encode("latin-1") + b"\n" for event, _ in happened)
         if self.script.length + len(lines) > MOST_OCTETS:
             raise Ended(f"the record has come to the {MOST_OCTETS:,} octets that an input may have")
-        self.script.add(lines)
+        self._add(lines)
         if printed := "".join(f"{line}\n" for _, said in happened for line in said):
             self.printed.add(printed.encode("latin-1"))
 
@@ -90,7 +92,13 @@ class Record:
         """Writes a comment with the second at which it was said, while there is room."""
         comment = f"# {self.seconds():.3f} s: {words}\n".encode()
         if self.script.length + len(comment) <= MOST_OCTETS - 1024:
-            self.script.add(comment)
+            self._add(comment)
+
+    def _add(self, piece: bytes) -> None:
+        if piece:
+            self.script.add(piece)
+            for grown in self.grows:
+                grown(piece)
 
     def crossed(self, kind: str, direction: str, host: Host, octets: bytes) -> None:
         """Writes what crossed the wire from a host, or to it."""
@@ -113,6 +121,18 @@ def read(folder: Path) -> tuple[str, list[bytes]]:
     if given.marker is None:
         raise Ended(f"{folder / SCRIPT}: it has no line `%`, so it is no session")
     return given.topology().decode("utf-8", "surrogateescape") + "\n", [line for _, line in given.script]
+
+
+def highest(lines: Sequence[bytes], pattern: str, least: int) -> int:
+    """The highest number that a pattern finds in the events of an earlier session, and not below the least."""
+    found = (re.fullmatch(pattern, it.decode("latin-1")) for it in lines if not it.startswith(b"#"))
+    return max([least, *(int(it[1]) for it in found if it)])
+
+
+def calling_port(lines: Sequence[bytes]) -> int:
+    """The port from which another network's IMP was called last, 0 if none was."""
+    found = (CALLS.fullmatch(it.decode("utf-8", "replace")) for it in lines if it.startswith(b"#"))
+    return max([0, *(int(it[1]) for it in found if it)])
 
 
 def peers(lines: Sequence[bytes]) -> dict[Host, Address]:

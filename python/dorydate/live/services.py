@@ -6,6 +6,7 @@ import asyncio
 from collections.abc import Callable, Iterator, Sequence
 
 from dorydate.live.gateway import Gateway
+from dorydate.live.record import highest
 from dorydate.live.session import Wish
 from dorydate.network import Host
 from dorydate.printed import refusal
@@ -23,9 +24,9 @@ GRANTED = 4, 8_192  # messages and bits that a program's input may have
 class Served:
     """A server of the script, which serves one user: here another begins when one is done or has failed."""
 
-    def __init__(self, gateway: Gateway, host: Host, listens: int) -> None:
+    def __init__(self, gateway: Gateway, host: Host, listens: int, earlier: Sequence[bytes]) -> None:
         self.gateway, self.host, self.listens = gateway, host, listens
-        self.base = FIRST_BASE
+        self.base = highest(earlier, rf"server {host} \d+ (\d+)", FIRST_BASE)
         self.waits = False
         gateway.session.hears.append(self.hear)
 
@@ -68,10 +69,10 @@ class Asks:
 class Terminal(Asks):
     """A line terminal of a host with a program, for one at a time who comes by TCP."""
 
-    def __init__(self, gateway: Gateway, user: Host, server: Host, socket: int) -> None:
+    def __init__(self, gateway: Gateway, user: Host, server: Host, socket: int, earlier: Sequence[bytes]) -> None:
         super().__init__(gateway)
         self.user, self.server, self.socket = user, server, socket
-        self.own = FIRST_OWN
+        self.own = highest(earlier, rf"user {user} \S+ \d+ (\d+)", FIRST_OWN)
         self.ready = False
         self.writer: asyncio.StreamWriter | None = None
         self.awaited: tuple[tuple[str, ...], asyncio.Future[str]] | None = None
@@ -166,10 +167,10 @@ class Terminal(Asks):
 class Shell(Asks):
     """A program of this machine at a socket of a host with a program, for each user of the initial connection."""
 
-    def __init__(self, gateway: Gateway, host: Host, listens: int, command: str) -> None:
+    def __init__(self, gateway: Gateway, host: Host, listens: int, command: str, earlier: Sequence[bytes]) -> None:
         super().__init__(gateway)
         self.host, self.listens, self.command = host, listens, command
-        self.base = FIRST_SHELL
+        self.base = highest(earlier, rf"listen {host} (\d*[02468]) {BYTE}", FIRST_SHELL)
         self.listening = False
         self.peers: dict[int, str] = {}  # of users that were given a base
         self.half: dict[int, set[int]] = {}  # which of their two sockets are open

@@ -8,7 +8,7 @@ from contextlib import AsyncExitStack
 from typing import Any
 
 from dorydate.live.frames import LAST, MOST_WORDS, READY, Assembly, Frame, WireFault
-from dorydate.live.interface import Interface
+from dorydate.live.interface import Allowance, Interface
 from dorydate.live.messages import LEADER
 from dorydate.live.record import FROM_HOST, TCP, TO_HOST, UDP, Address
 
@@ -25,6 +25,7 @@ class Udp(asyncio.DatagramProtocol):
         self.interface, self.bound, self.fixed, self.peer = interface, bound, peer, peer
         self.assembly = Assembly()
         self.sequence = 0
+        self.probes = Allowance(1, 1)
         self.transport: asyncio.DatagramTransport | None = None
         try:
             bound.setsockopt(socket.IPPROTO_IP, IP_RECVERR, 1)
@@ -57,15 +58,17 @@ class Udp(asyncio.DatagramProtocol):
     def datagram_received(self, data: bytes, addr: Address) -> None:
         it = self.interface
         if not it.datagrams.take():
-            return it.fault("flood")
+            return it.faults.add("flood")
         try:
             self.frame(data, addr)
         except WireFault as why:
-            it.fault(str(why))
+            it.faults.add(str(why))
 
     def frame(self, data: bytes, addr: Address) -> None:
         it = self.interface
         if (self.peer is not None and addr != self.peer) or (it.said and it.wire is not self):
+            if self.probes.take():
+                it.asks()  # is its host there? If it isn't, its port is closed
             raise WireFault("sender")
         frame = Frame.read(data)
         words = self.assembly.add(frame)
@@ -108,7 +111,7 @@ class Tcp:
         """Serves a connection to its end."""
         it = self.interface
         if it.said:
-            it.fault("sender")
+            it.faults.add("sender")
             writer.close()
             return
         self.writer = writer
@@ -118,7 +121,7 @@ class Tcp:
             while True:
                 await self.message(reader)
         except WireFault as fault:
-            it.fault(str(fault))
+            it.faults.add(str(fault))
             why = f"what it sends is no message: {fault}"
         except (asyncio.IncompleteReadError, OSError):
             pass
@@ -147,7 +150,7 @@ class Tcp:
             else:
                 it.asks()
         except WireFault as fault:
-            it.fault(str(fault))
+            it.faults.add(str(fault))
 
     def send(self, words: bytes, ready: bool = True) -> None:
         if self.writer is None:

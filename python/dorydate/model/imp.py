@@ -110,6 +110,8 @@ class Imp(ImpState):
 
     def from_line(self, port: int, acknowledged: int, content: Content) -> None:
         """A frame arrives."""
+        if port >= len(self.ports):
+            raise Refused("NoSuch")
         end = self.ports[port]
         if not end.is_up:
             return

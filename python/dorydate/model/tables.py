@@ -60,10 +60,18 @@ class Exchange:
         heard = "-" if self.heard is None else str(self.heard)
         return " ".join([str(self.count), str(rounds), heard, *(f"{a}-{b}" for a, b in self.lines)])
 
-    def owed(self, rounds: int) -> str:
-        """What tools/calls has to print for it."""
-        return "".join(
-            f"{' '.join(map(str, self.distances(imp, rounds)))} / "
-            f"{' '.join('-' if port is None else str(port) for port in self.next_lines(imp, rounds))};"
-            for imp in self.near
-        )
+    def owed(self, rounds: int) -> list[str]:
+        """What tools/calls has to print for it, an IMP a line."""
+        return [spell_table(self.distances(imp, rounds), self.next_lines(imp, rounds)) for imp in self.near]
+
+
+def spell_table(distances: Sequence[int], ports: Sequence[int | None]) -> str:
+    """The distances to all IMPs, as octets, and the ports of the next lines, those of IMPs in a row together."""
+    runs: list[tuple[int, int, int | None]] = []
+    for imp, port in zip(IMPS, ports):
+        if runs and runs[-1][2] == port:
+            runs[-1] = runs[-1][0], imp, port
+        else:
+            runs.append((imp, imp, port))
+    lines = [f"{first}{'' if first == last else f'-{last}'}:{port}" for first, last, port in runs if port is not None]
+    return " ".join([bytes(distances).hex().upper(), *lines])

@@ -1,7 +1,7 @@
 """The program that makes calls on single layers, and what it is asked, to compare code with an independent model of its rules.
 
 The program, tools/calls, is built without proofs in a folder of its own, once for the present sources, and kept as
-out/HASH/calls (workshop.builds.unproved). All four checks of a layer use it.
+out/HASH/calls (workshop.builds.unproved). `./check rows` and the checks of single layers use it.
 """
 
 from __future__ import annotations
@@ -12,16 +12,16 @@ import os
 import shutil
 import subprocess
 import sys
-from collections.abc import Iterable, Mapping, Sequence
+from collections.abc import Iterable, Iterator, Mapping, Sequence
 from concurrent.futures import ThreadPoolExecutor
 
 from workshop.builds.unproved import NotKept, build, keep, kept_for_sources
-from workshop.parts import ROOT
+from workshop.parts import ROOT, text_of
 
 # what it uses: these, and the crates below them
-USES = "bit_messages hex icp imp_channel imp_node interface leader1822 ncp_control packetiser routing sockets subnet terminal"
+USES = "bit_messages hex icp imp_channel imp_node interface leader1822 link_table ncp_control packetiser routing sockets subnet terminal"
 # an IMP without hosts and lines has nothing to announce
-EXAMPLE, WANTED = b"imp\nnew 1 0 0\nroute\n", b"ok\nok\n"
+EXAMPLE = b"imp 1 0 0\nroute\n= ok\n"
 CORES = os.cpu_count() or 1
 
 
@@ -64,37 +64,53 @@ def driver() -> str:
     kept = kept_at()
     if not os.path.exists(kept):
         print("building what makes the calls, which takes a minute or two, once for these sources", flush=True)
-        keep(kept_at, lambda room: build(with_driver(f"{room}/sources"), EXAMPLE, WANTED, room))
+        keep(kept_at, lambda room: build(with_driver(f"{room}/sources"), EXAMPLE, EXAMPLE, room))
     return kept
 
 
-def write_case(folder: str, name: str, lines: Iterable[str], owed: Iterable[str]) -> None:
-    """Writes what the program reads, and what it owes."""
+def write_case(folder: str, name: str, rows: Iterable[str]) -> None:
+    """Writes rows, which the program reads and has to print as they are."""
     os.makedirs(f"{folder}/cases", exist_ok=True)
-    for path, content in (f"{folder}/cases/{name}", lines), (f"{folder}/cases/{name}.stdout", owed):
-        with open(path, "w", encoding="utf-8") as file:
-            file.write("\n".join(content) + "\n")
+    with open(f"{folder}/cases/{name}", "w", encoding="utf-8") as file:
+        file.write("\n".join(rows) + "\n")
 
 
-def difference(program: str, layer: str, path: str) -> str | None:
-    """What a case comes to where that is something else than it owes; None where it is not."""
-    with open(path, "rb") as lines, open(f"{path}.stdout", "rb") as owed:
-        asked, wanted = lines.read(), owed.read()
-    ran = subprocess.run([program], input=f"{layer}\n".encode() + asked, capture_output=True)
-    if (ran.returncode, ran.stdout) == (0, wanted):
+def printed(program: str, rows: str) -> str:
+    """What the program prints for rows. Where it ends otherwise than it should, its words are printed last."""
+    ran = subprocess.run([program], input=rows.encode(), capture_output=True)
+    if ran.returncode == 0 and not ran.stderr:
+        return ran.stdout.decode()
+    return f"{ran.stdout.decode()}\n(status {ran.returncode}) {ran.stderr.decode(errors='replace')[-2000:]}"
+
+
+def difference(program: str, path: str) -> str | None:
+    """Where rows come to something else than they say, and to what; None where they do not."""
+    wanted = text_of(path)
+    found = printed(program, wanted)
+    if found == wanted:
         return None
-    sides = {"found": ran.stdout.decode().splitlines(), "owed": wanted.decode().splitlines()}
-    place = next((it for it, pair in enumerate(zip(*sides.values())) if pair[0] != pair[1]), min(map(len, sides.values())))
-    shown = (f"{what}: {' | '.join(printed[place : place + 1]) or 'nothing'}" for what, printed in sides.items())
-    return "\n".join([f"run {os.path.basename(path)}, line {place + 1} of what is printed:", *shown, ran.stderr.decode()[-2000:]])
+    sides = [wanted.splitlines(), found.splitlines()]
+    place = next((it for it, pair in enumerate(zip(*sides)) if pair[0] != pair[1]), min(map(len, sides)))
+    call = next((it for it in reversed(sides[0][:place]) if not it.startswith("= ")), "")
+    shown = [f"  {what}: {(rows[place:] or ['nothing'])[0]}" for what, rows in zip(("wanted", "found"), sides)]
+    return "\n".join([f"{os.path.basename(path)}, line {place + 1}, after {call}", *shown])
 
 
-def run_cases(layer: str, folder: str) -> str | None:
-    """Runs the program on the cases in a folder. What it says where one came to something else than is owed."""
+def made_driver() -> str:
+    """The program; it ends where that can't be built."""
     try:
-        program = driver()
+        return driver()
     except (NotKept, OSError) as why:
         sys.exit(f"the program that makes the calls was not built: {why}")
-    paths = sorted(it for it in glob.glob(f"{folder}/cases/*") if not it.endswith(".stdout"))
+
+
+def differences(paths: Iterable[str]) -> Iterator[str]:
+    """What files of rows come to, of those that come to something else than they say."""
+    program = made_driver()
     with ThreadPoolExecutor(CORES) as threads:
-        return next((it for it in threads.map(lambda path: difference(program, layer, path), paths) if it), None)
+        yield from (it for it in threads.map(lambda path: difference(program, path), paths) if it)
+
+
+def run_cases(folder: str) -> str | None:
+    """Runs the program on the rows in a folder. What it says where some came to something else than they say."""
+    return next(differences(sorted(glob.glob(f"{folder}/cases/*"))), None)

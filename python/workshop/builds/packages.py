@@ -132,7 +132,7 @@ def archive(files: Files) -> bytes:
 
 def npm_package(release: Release) -> bytes:
     """The package for npm."""
-    told = {
+    facts = {
         "name": "dorydate",
         "version": release.version,
         "description": f"Dorydate: {SUMMARY}",
@@ -142,7 +142,7 @@ def npm_package(release: Release) -> bytes:
         "bin": {"dorydate": "run/dorydate.mjs", "arpasim": "run/arpasim.mjs"},
     }
     files = {**of_module(release, (*BY_NODE, "dorydate.mjs")), **licences(), **below("examples", examples())}
-    files["package.json"] = ((json.dumps(told, indent=2) + "\n").encode(), 0o644)
+    files["package.json"] = ((json.dumps(facts, indent=2) + "\n").encode(), 0o644)
     return archive(below("package", files))
 
 

@@ -25,6 +25,7 @@ from concurrent.futures import ThreadPoolExecutor
 from dataclasses import dataclass
 
 from workshop.parts import any_program
+from workshop.rows import FOLDER as CALLS
 
 SECONDS = 120  # for one input
 PART = re.compile(r'("(?:[^"\\]|\\.)*")(?:\*(\d+))?(?: +|$)')
@@ -112,8 +113,10 @@ def cases_below(folder: str) -> Iterator[Case]:
 
 
 def stray_files(folder: str) -> Iterator[str]:
-    """Files beside an input that is not there."""
+    """Files beside an input that is not there. Calls, of which `./check rows` has a file each, are no inputs."""
     for place, _, files in os.walk(folder):
+        if os.path.realpath(place) == CALLS:
+            continue
         yield from (f"{place}/{it}" for it in files if it.endswith(BESIDE) and os.path.splitext(it)[0] not in files)
 
 

@@ -44,6 +44,7 @@ from workshop.documents import named_crates, notebook, paragraphs, planted, refe
 from workshop.documents import versions
 from workshop.drawings import pictures
 from workshop.parts import ROOT
+from workshop.rows import row_names
 
 MOST_REACHING = 0  # imports into another crate's proofs/ beside lemmas
 MOST_DEAD = 50  # declarations of proofs/ that nothing leads to that is proved; `python3 python dead` names them
@@ -84,7 +85,7 @@ def stands_on(crate: str) -> list[str]:
 @functools.cache
 def crates_of_tests() -> list[str]:
     """The crates that hold tests only."""
-    return sorted(os.path.basename(it) for it in glob.glob(f"{ROOT}/crates/*_tests"))
+    return sorted(os.path.basename(it) for it in glob.glob(f"{ROOT}/crates/*tests"))
 
 
 @functools.cache
@@ -123,7 +124,7 @@ def names_in(text: str) -> list[str]:
 
 
 def is_row(name: str, crate: str) -> bool:
-    return any(is_known(name, it) for it in (*crates_of_tests(), crate)) or os.path.exists(f"{ROOT}/cases/{name}")
+    return name in row_names() or any(is_known(name, it) for it in (*crates_of_tests(), crate)) or os.path.exists(f"{ROOT}/cases/{name}")
 
 
 def is_planted_bug(name: str, crate: str) -> bool:

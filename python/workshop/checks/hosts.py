@@ -1,4 +1,4 @@
-"""A host's program against the independent model in Python, on random calls (minutes): ./check hosts [RUNS | FOLDER]
+"""A host's program against the independent model in Python, on random calls (minutes): ./check hosts [RUNS]
 
 Compares hosts' programs with an independent model of their rules, on random calls.
 
@@ -9,15 +9,13 @@ goes out next have to be the same. The same calls are made each time. In half of
 they send, over boxes that may lose it; in the others one host gets what a peer of any kind may send. Besides, every command
 is cut at every length, and each octet of it is changed.
 
-The calls are made by tools/calls, built without proofs (workshop.builds.drivers): ./check hosts [RUNS]
-A folder of calls with what they owe can be tried too: ./check hosts FOLDER
+First the model answers the stored rows (cases/calls) of hosts. The calls are made by tools/calls,
+built without proofs (workshop.builds.drivers): ./check hosts [RUNS]
 """
 
 from __future__ import annotations
 
-import os
 import random
-import shutil
 import sys
 import tempfile
 from collections import Counter
@@ -30,7 +28,9 @@ from dorydate.model.crossings import Answer, Message, Reply
 from dorydate.model.names import Flow, HostName
 from workshop.builds.drivers import run_cases, write_case
 from workshop.checks.host_calls import Calls
+from workshop.checks.host_rows import open_hosts
 from workshop.checks.host_worked import worked_runs
+from workshop.checks.readings import read_stored
 
 T = TypeVar("T")
 
@@ -251,12 +251,12 @@ class Chance(Calls):
         ways = [self.answer] * bool(self.answers) + [self.take] * bool(self.messages)
         ways += [self.offer] * any(host.next_out() for host in self.hosts)
         if not ways or self.random.random() < self.users:
-            return self.call(place, *self.user_call(place), asked=self.random.random() < 0.3)
+            return self.call(place, *self.user_call(place))
         return self.random.choice(ways)()
 
     def run(self) -> Chance:
         """All calls."""
-        while len(self.owed) < CALLS:
+        while self.made < CALLS:
             self.something()
         return self
 
@@ -270,22 +270,19 @@ def with_runs(folder: str, runs: int) -> Counter[str]:
     made: list[tuple[str, Calls]] = [(f"{run:05}", Chance(run).run()) for run in range(runs)]
     made += [(f"worked{at:02}", worked) for at, worked in enumerate(worked_runs())]
     for name, calls in made:
-        write_case(folder, name, calls.lines, calls.owed)
+        write_case(folder, name, calls.rows)
         seen += calls.seen
-        seen["calls"] += len(calls.owed)
+        seen["calls"] += calls.made
     return seen
 
 
 def main() -> int:
     """The exit status."""
-    word = sys.argv[1] if len(sys.argv) > 1 else str(RUNS)
+    runs = int(sys.argv[1]) if len(sys.argv) > 1 else RUNS
+    is_stored = read_stored("hosts", open_hosts, "hosts")
     with tempfile.TemporaryDirectory() as folder:
-        if os.path.isdir(word):
-            shutil.copytree(word, f"{folder}/cases")
-            seen = Counter(calls=sum(not name.endswith(".stdout") for name in os.listdir(word)))
-        else:
-            seen = with_runs(folder, int(word))
-        said = run_cases("hosts", folder)
+        seen = with_runs(folder, runs)
+        said = run_cases(folder)
     if said is not None:
         print(said)
         print("check hosts: a run came to something else than the rules say (the runs are made again by their number)")
@@ -293,4 +290,4 @@ def main() -> int:
     print(f"check hosts: {seen.pop('calls')} calls agree")
     for name, count in sorted(seen.items()):
         print(f"  {name}: {count}")
-    return 0
+    return 0 if is_stored else 1

@@ -8,7 +8,8 @@ another form, with packets and frames spelled from the formats. Both run every c
 queries answer have to be the same. The same calls are made each time. So are those on whole networks of route tables, of up to 63 IMPs,
 that exchange their distances (`settle`): each has to end as python/dorydate/model/tables.py counts.
 
-The calls are made by tools/calls, built without proofs (workshop.builds.drivers): ./check imp [RUNS]
+First the model answers the stored rows (cases/calls) of IMPs and of tables. The calls are made by tools/calls,
+built without proofs (workshop.builds.drivers): ./check imp [RUNS]
 """
 
 from __future__ import annotations
@@ -17,53 +18,25 @@ import random
 import sys
 import tempfile
 from collections import Counter
-from collections.abc import Callable
+from collections.abc import Iterator
 
 from dorydate.model.bits import Bits, spell_bits
 from dorydate.model.channels import Channels
-from dorydate.model.crossings import Given, Message
 from dorydate.model.imp import Imp
 from dorydate.model.imp_state import NUMBERS
-from dorydate.model.names import Flow, HostName, Refused, spell_flow
+from dorydate.model.names import Flow, HostName, spell_flow
 from dorydate.model.packets import (
     ASK, CHANNELS, DATA, DEAD, INFINITE, MOST_IMPS, NEVER, PIECE, REQUESTS, RFNM, Carried, Content, Packet, Routes, answer, body, spell_frame,
 )  # fmt: skip
 from workshop.builds.drivers import run_cases, write_case
-from workshop.checks.imp_tables import table_rows
+from workshop.checks.imp_rows import ImpRows, open_imp
+from workshop.checks.imp_tables import open_tables, table_rows
+from workshop.checks.net_rows import open_net
+from workshop.checks.readings import read_stored
+from workshop.rows import spelled
 
 RUNS = 1000
 CALLS = 100
-
-# ---- what the driver prints
-
-
-def spell_given(given: Given | None) -> str:
-    """What a host takes."""
-    if given is None:
-        return "nothing"
-    return f"{given.kind} {spell_flow(given.flow)}{f' {spell_bits(given.text)}' if isinstance(given, Message) else ''}"
-
-
-def said_of(imp: Imp, flow: Flow) -> str:
-    """What an IMP's queries say of a flow."""
-    source, destination = flow.source.imp, flow.destination.imp
-    held = imp.everything()
-    last = imp.last.get(flow)
-    return " ".join(
-        str(word)
-        for word in (
-            int(imp.begins(flow)),
-            imp.outstanding.get(flow, "-"),
-            "-" if last is None else last,
-            imp.kept.get(flow, "-"),
-            int(any(source == kept.source.imp for kept in imp.kept)),
-            int(any(entry[:2] == (flow, last or 0) for entry in held)),
-            int(any(is_request and (it.source.imp, it.destination.imp) == (source, destination) for it, _, is_request in held)),
-            int(any(source in (it.source.imp, it.destination.imp) for it, _, _ in held)),
-            int(imp.awaits(destination)),
-        )
-    )
-
 
 # ---- random calls
 
@@ -76,7 +49,7 @@ class Chance:
         self.five = self.random.sample(range(1, MOST_IMPS + 1), 5)
         number = self.five[0]
         self.imp = Imp(number, self.random.choice((1, 2, 2, 3, 4, 4, 0)), self.random.choice((1, 1, 2, 2, 3, 5, 0)))
-        self.lines = [f"new {number} {len(self.imp.hosts)} {len(self.imp.ports)}"]
+        self.rows = [f"imp {number} {len(self.imp.hosts)} {len(self.imp.ports)}"]
         self.bodies: dict[tuple[Flow, int], Bits] = {}
         # runs differ: some free channels seldom, take seldom, stop nothing, know all routes, use many links or long
         # texts
@@ -159,58 +132,46 @@ class Chance:
         )
         return port, acknowledged, content
 
-    def call(self) -> tuple[str, Callable[[], str | None]]:
-        """A call: its line, and the same call on the independent model, with what it gives."""
+    def call(self) -> str:
+        """A call."""
         imp = self.imp
         choice = self.random.random()
         if choice < 0.5 and imp.ports:
             port, acknowledged, content = self.frame()
-            line = f"from_line {port} {spell_frame(acknowledged, content).hex().upper()}"
-            return line, lambda: imp.from_line(port, acknowledged, content)
+            return f"from_line {port} {spell_frame(acknowledged, content).hex().upper()}"
         if choice < 0.7:
             flow, text = self.flow(self.random.choice((1, 1, 0.6))), self.text()
-            return f"from_host {spell_flow(flow)} {spell_bits(text)}", lambda: imp.from_host(flow, text)
+            return f"from_host {spell_flow(flow)} {spell_bits(text)}"
         if choice < 0.7 + self.takes:
-            number = self.number_below(len(imp.hosts), 3)
-            return f"to_host {number}", lambda: spell_given(imp.to_host(number))
+            return f"to_host {self.number_below(len(imp.hosts), 3)}"
         return self.seldom_call()
 
-    def seldom_call(self) -> tuple[str, Callable[[], None]]:
+    def seldom_call(self) -> str:
         """One of the other calls."""
         imp = self.imp
         names = "end_up host_up resend route give_up ask forget abandon".split()
         name = self.random.choice(names + 2 * ["end_down", "host_down", "end_up", "host_up"] * self.stops)
         if name in ("resend", "route"):
-            return name, imp.resend if name == "resend" else imp.tell_routes
+            return name
         if name in ("end_down", "end_up", "host_down", "host_up"):
             number = self.number_below(len(imp.ports), 5) if name.startswith("end") else self.number_below(len(imp.hosts), 3)
-            calls = {"end_down": imp.end_down, "end_up": imp.end_up, "host_down": imp.host_down, "host_up": imp.host_up}
-            return f"{name} {number}", lambda: calls[name](number)
+            return f"{name} {number}"
         if name == "forget":
-            other = self.random.choice(self.five)
-            return f"{name} {other}", lambda: imp.forget(other)
+            return f"{name} {self.random.choice(self.five)}"
         pool = [*imp.slots] if name == "abandon" else [*imp.outstanding]
         flow = self.random.choice(pool) if pool and self.random.random() < 0.7 else self.flow()
-        of_flow = {"give_up": imp.give_up, "ask": imp.ask, "abandon": imp.abandon}
-        return f"{name} {spell_flow(flow)}", lambda: of_flow[name](flow)
+        return f"{name} {spell_flow(flow)}"
 
-    def run(self) -> tuple[list[str], list[str]]:
-        """The lines for the driver, and the lines that it owes."""
-        owed = ["ok"]
+    def run(self) -> Iterator[tuple[str, list[str]]]:
+        """Each call, with what the model answers."""
+        reading = ImpRows(self.imp)
         for _ in range(CALLS):
-            line, call = self.call()
-            self.imp.frames = []
-            try:
-                word = call() or "ok"
-                self.imp.pump()
-                frames = [f"{port}:{spell_frame(bits, content).hex().upper()}" for port, bits, content in self.imp.frames]
-                owed.append(";".join([word, *frames]))
-            except Refused as refused:
-                owed.append(f"refused {refused}")
+            call = self.call()
+            yield call, reading.answers(call, [])
             flow = self.flow(self.random.choice((0, 1, 0.5)))
-            self.lines += [line, f"query {spell_flow(flow)} {self.imp.last.get(flow) or 0}"]
-            owed.append(said_of(self.imp, flow))
-        return self.lines, owed
+            words = spell_flow(flow)
+            for query in (f"query {words} {self.imp.last.get(flow) or 0}", f"kept {words}", f"awaits {flow.destination.imp}"):
+                yield query, reading.answers(query, [])
 
 
 def with_cases(folder: str, runs: int) -> Counter[str]:
@@ -218,31 +179,31 @@ def with_cases(folder: str, runs: int) -> Counter[str]:
     seen: Counter[str] = Counter()
     for run in range(runs):
         chance = Chance(run)
-        lines, owed = chance.run()
+        for call, answers in chance.run():
+            chance.rows += spelled(call, answers)
+            name, word = call.split()[0], answers[0]
+            if name not in ("query", "kept", "awaits"):
+                seen[f"{name}: {word if word.startswith('refused') else word.split()[0]}"] += 1
         seen["from_line: lost for want of room"] += chance.imp.lost
-        for line, wanted in zip(lines, owed):
-            if not line.startswith("query"):
-                word = wanted.split(";")[0]
-                seen[f"{line.split()[0]}: {word if word.startswith('refused') else word.split()[0]}"] += 1
-        write_case(folder, f"{run:04}", lines, owed)
+        write_case(folder, f"{run:04}", chance.rows)
     return seen
 
 
 def main() -> int:
     """The exit status."""
     runs = int(sys.argv[1]) if len(sys.argv) > 1 else RUNS
+    networks = [*table_rows()]
+    is_stored = read_stored("imp", open_imp, "imp") & read_stored("imp", open_tables, "tables")
+    is_stored &= read_stored("imp", open_net, "line", "pieces", "sources", "destinations", "routes")
     with tempfile.TemporaryDirectory() as folder:
         seen = with_cases(folder, runs)
-        said = run_cases("imp", folder)
-    with tempfile.TemporaryDirectory() as folder:
-        rows = table_rows()
-        write_case(folder, "tables", *rows)
-        said = said or run_cases("tables", folder)
+        write_case(folder, "tables", ["tables", *(row for asked, owed in networks for row in spelled(asked, owed))])
+        said = run_cases(folder)
     if said is not None:
         print(said)
         print("check imp: a run came to something else than the rules say (the cases are made again by their number)")
         return 1
-    print(f"check imp: {runs * CALLS} calls in {runs} runs agree, and {len(rows[0])} networks of tables")
+    print(f"check imp: {runs * CALLS} calls in {runs} runs agree, and {len(networks)} networks of tables")
     for name, count in sorted(seen.items()):
         print(f"  {name}: {count}")
-    return 0
+    return 0 if is_stored else 1

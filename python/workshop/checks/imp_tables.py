@@ -7,6 +7,7 @@ from collections.abc import Iterator
 
 from dorydate.model.packets import INFINITE, MOST_IMPS
 from dorydate.model.tables import Exchange
+from workshop.checks.readings import Reading
 
 ROUNDS = 0, 1, 2, 7, 40, INFINITE, INFINITE + 1
 HEARD = None, 0, 5, INFINITE
@@ -24,7 +25,20 @@ def networks() -> Iterator[Exchange]:
         yield Exchange(count, [(a, b) for a, b in lines if a != b], chance.choice(HEARD))
 
 
-def table_rows() -> tuple[list[str], list[str]]:
-    """The lines for tools/calls, and the lines that it owes."""
-    rows = [(network.asked(rounds), network.owed(rounds)) for network in networks() for rounds in ROUNDS]
-    return [asked for asked, _ in rows], [owed for _, owed in rows]
+def table_rows() -> Iterator[tuple[str, list[str]]]:
+    """The networks as rows, each with what it has to come to."""
+    return ((network.asked(rounds), network.owed(rounds)) for network in networks() for rounds in ROUNDS)
+
+
+class TableRows:
+    """Networks, each a row, answered by the model."""
+
+    def answers(self, call: str, wanted: list[str]) -> list[str]:
+        count, rounds, heard, *lines = call.split(" ")
+        ends = [(int(a), int(b)) for a, b in (line.split("-") for line in lines)]
+        return Exchange(int(count), ends, None if heard == "-" else int(heard)).owed(int(rounds))
+
+
+def open_tables(call: str) -> tuple[Reading, list[str]]:
+    """What a block of networks begins with."""
+    return TableRows(), []

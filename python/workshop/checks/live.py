@@ -2,10 +2,10 @@
 
 Compiles examples/host.c with the system's `cc`, and lets it speak to `dorydate live` over UDP and TCP: with the echo
 service of a host with a program, with another host in C, twenty of them on the map of August 1972, in the weather of 20
-seeds, and while the session is killed again and again. A hostile host sends octets of no frame, leaders of no network
-and commands of no protocol. Of each session the replay is what was printed, and the audit says `kept`; the independent
-model prints the same, event by event. The host in C is right in the dialogues of `dorydate.conformance` that need no
-user, and faults that are planted in it are found.
+seeds (as many as a minute lets begin, which is said), and while the session is killed again and again. A hostile host
+sends octets of no frame, leaders of no network and commands of no protocol. Of each session the replay is what was
+printed, and the audit says `kept`; the independent model prints the same, event by event. The host in C is right in the
+dialogues of `dorydate.conformance` that need no user, and faults that are planted in it are found.
 """
 
 from __future__ import annotations
@@ -28,14 +28,15 @@ from dorydate.coupling import Mute
 from dorydate.export.leaders import leader
 from dorydate.live.frames import LAST, READY, Frame
 from dorydate.live.heard import had, without_a_user
+from dorydate.live.reverse import network_of as network_of_one
 from dorydate.model.runs import log_of, opened, with_texts
 from dorydate.model.script import EVERYTHING, read_line
 from dorydate.model.topology import network_of
 from dorydate.network import Host
 from dorydate.program import Program
 from dorydate.script import Script
-from workshop.checks.live_sessions import HERE, MINE, SRI, TRIANGLE, Process, Room, Running
-from workshop.checks.live_sessions import ended, outcome, session, with_strangers
+from workshop.checks.live_sessions import HERE, LINES, MINE, SRI, TRIANGLE, Process, Room, Running
+from workshop.checks.live_sessions import ended, free_ports, outcome, session, with_strangers
 from workshop.parts import ROOT, any_program, read_octets, text_of
 from workshop.tools import lacking
 
@@ -46,6 +47,7 @@ HOSTILE = 1_500  # datagrams of each kind
 KILLS = 4
 MODELLED = 3_000  # events of a session that the model prints, too
 SEEDS = 20
+SECONDS = 60.0  # after which no weather begins any more
 MOST_MEMORY = 200_000  # kB of a session
 # what is written in place of what in the host in C, the dialogue that finds it, and by which words
 PLANTED = [
@@ -83,8 +85,10 @@ def plain_talks(room: Room) -> Iterator[str]:
     yield from modelled(room, running)
 
 
-def in_weather(room: Room, seed: int) -> Iterator[str]:
-    """In the weather of a seed. A dialogue may come to nothing there."""
+def in_weather(room: Room, ends: float, seed: int) -> Iterator[str]:
+    """In the weather of a seed, if there is time. A dialogue may come to nothing there."""
+    if time.monotonic() > ends:
+        return
     with session(room, f"weather-{seed}", TRIANGLE, "--wild", str(seed), "--server", f"{HERE}:1") as running:
         with ended(room.echo(SRI, running.ports[SRI])):
             peer = SRI if seed % 2 else HERE
@@ -93,6 +97,23 @@ def in_weather(room: Room, seed: int) -> Iterator[str]:
     yield from running.faults()
     if seed < 3:
         yield from modelled(room, running)
+
+
+def reversed_roles(room: Room) -> Iterator[str]:
+    """The proved host program is a host of another session's network, and somebody types there."""
+    port = free_ports(1)[0]
+    with session(room, "near", TRIANGLE, "--server", f"{HERE}:1") as near:
+        words = ["--as", str(MINE), "--imp", f"127.0.0.1:{near.ports[MINE]}", "--terminal", f"{port}={MINE},{HERE}:1"]
+        with session(room, "far", network_of_one(MINE), *words, given=False) as far:
+            with socket.create_connection(("127.0.0.1", port), timeout=30) as typing, typing.makefile("rw") as terminal:
+                for line in LINES:
+                    terminal.write(f"{line}\n")
+                terminal.flush()
+                heard = [terminal.readline().strip() for _ in range(2 + len(LINES))]
+            if tuple(heard[2:]) != LINES:
+                yield f"far: what came back is {heard}"
+        yield from far.faults()
+    yield from near.faults()
 
 
 def killed(room: Room) -> Iterator[str]:
@@ -240,12 +261,16 @@ def main() -> int:
     wrong = [] if text_of(HOST).count("\n") <= MOST_LINES else [f"examples/host.c has more than {MOST_LINES} lines"]
     with tempfile.TemporaryDirectory() as folder:
         room = Room(Path(folder), program, compiled(Path(folder), text_of(HOST)))
-        parts = [partial(it, room) for it in (on_the_map, conformance, killed, hostile, plain_talks)]
-        wrong += run([*parts, *(partial(in_weather, room, seed) for seed in range(1, seeds + 1))])
+        several = on_the_map, conformance, killed, hostile, plain_talks, reversed_roles
+        parts = [partial(it, room) for it in several]
+        ends = time.monotonic() + SECONDS
+        wrong += run([*parts, *(partial(in_weather, room, ends, seed) for seed in range(1, seeds + 1))])
         outcomes = [text_of(str(it)) for it in room.folder.glob("weather-*/outcome")]
         done = sum(it.startswith("0 ") for it in outcomes)
         seconds = text_of(f"{folder}/map/outcome")
-        print(f"check live: ten dialogues on 28 IMPs in {seconds} s; {done} of {len(outcomes)} in weather")
+        print(f"check live: ten dialogues on 28 IMPs in {seconds} s; in weather {done} of {len(outcomes)}")
+        if len(outcomes) < seeds:
+            print(f"check live: in {SECONDS:g} seconds {len(outcomes)} of {seeds} seeds had time")
         if 2 * done < len(outcomes):
             wrong.append(f"only {done} dialogues were done in the weather of {len(outcomes)} seeds")
     print(*wrong, sep="\n", end="\n" if wrong else "")

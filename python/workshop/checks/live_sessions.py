@@ -19,7 +19,7 @@ from dorydate.program import Program
 from workshop.parts import ROOT
 
 BEGINS = 60.0  # seconds in which a session has to listen
-LIMIT = "40"  # seconds for a host's dialogue
+LIMIT = "60"  # seconds for a host's dialogue
 LINES = ("HELLO", "A SECOND LINE")
 Process: TypeAlias = "subprocess.Popen[str]"
 
@@ -63,12 +63,13 @@ class Room:
 class Running:
     """A session that runs. Its record is in `folder`."""
 
-    def __init__(self, room: Room, name: str, network: Network, *words: str) -> None:
+    def __init__(self, room: Room, name: str, network: Network, words: Sequence[str], given: bool) -> None:
         self.room, self.folder, self.network = room, room.folder / name, network
         topology = room.folder / f"{name}.toml"
         topology.write_text(network.toml())
-        self.ports = dict(zip(network.strangers(), free_ports(len(network.strangers()))))
-        self.asked = [str(topology), "--bind", *(f"{it}={port}" for it, port in self.ports.items()), *words]
+        self.ports = dict(zip(network.strangers(), free_ports(len(network.strangers()) if given else 0)))
+        bound = [str(topology), "--bind", *(f"{it}={port}" for it, port in self.ports.items())] if given else []
+        self.asked = [*bound, *words]
         self.process = self.begun("--record", str(self.folder))
 
     def begun(self, *words: str) -> Process:
@@ -114,9 +115,9 @@ class Running:
 
 
 @contextmanager
-def session(room: Room, name: str, network: Network, *words: str) -> Iterator[Running]:
-    """A session that ends with the block."""
-    running = Running(room, name, network, *words)
+def session(room: Room, name: str, network: Network, *words: str, given: bool = True) -> Iterator[Running]:
+    """A session that ends with the block; one that makes its network itself isn't given it."""
+    running = Running(room, name, network, words, given)
     try:
         yield running
     finally:

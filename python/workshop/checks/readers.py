@@ -21,45 +21,24 @@ import shutil
 import subprocess
 import tempfile
 from collections import Counter
-from collections.abc import Callable, Iterator
+from collections.abc import Iterator
 from concurrent.futures import ThreadPoolExecutor
-from typing import Any, TypeVar
+from typing import TypeVar
 
-from dorydate.model import formats as format_rules
-from dorydate.model.formats import told
 from dorydate.model.bits import Bits, bits_of, spell_bits
 from dorydate.model.runs import End
 from dorydate.model.inputs import ends
 from workshop.builds.drivers import run_cases, write_case
+from workshop.checks.format_rows import open_formats
+from workshop.checks.net_rows import open_net
+from workshop.checks.reader_rows import OF_BITS, READERS, TEXTS, open_readers, said_of
+from workshop.checks.readings import read_stored
 from workshop.parts import any_program
+from workshop.rows import spelled
 from workshop.tools import left_out
 
 Row = TypeVar("Row", bytes, Bits)
 CHANGES = b"\x00\x7f\xff"
-
-# ---- what is read
-
-READERS: dict[str, Callable[[Any], str]] = {
-    "from_host": lambda octets: format_rules.leader(octets, False),
-    "from_imp": lambda octets: format_rules.leader(octets, True),
-    "packet": format_rules.packet,
-    "frame": format_rules.frame,
-    "command": format_rules.one_command,
-    "commands": format_rules.control_text,
-    "header": format_rules.message_header,
-    "body": format_rules.stripped,
-}
-OF_BITS = "header", "body"
-FAULTS = {
-    "from_host": {"ShortLeader", "UnknownType", "BadImp"},
-    "from_imp": {"ShortLeader", "UnknownType", "BadImp"},
-    "packet": {"Short", "NotCanonical", "BadLength"},
-    "frame": {"Short", "BadVersion", "NotCanonical", "BadLength"},
-    "command": {"Short", "IllegalCode", "Erroneous"},
-    "commands": {"Short", "IllegalCode", "Erroneous"},
-    "header": {"malformed"},
-    "body": {"NoMark", "Range"},
-}
 
 STRIPES = "A5C3" * 31 + "A5"  # 63 octets
 RTS, STR, CLS = "01000000100000002105", "02000000210000001008", "030000001000000021"
@@ -76,7 +55,7 @@ WORKED = [
     ("from_host", "00020500", "regular 0/2 5 = 00020500"),
     ("from_host", "F0C2FF99AB", "regular 3/2 255 = 00C2FF00"),
     ("from_host", "04000000", "nop = 04000000"),
-    ("from_host", "02000500", "UnknownType 2"),
+    ("from_host", "02000500", "unknown type 2"),
     ("from_imp", "00410500", "regular 1/1 5 = 00410500"),
     ("from_imp", "05020500", "rfnm 0/2 5 = 05020500"),
     ("from_imp", "07BF0000", "dead 2/63 0 = 07BF0000"),
@@ -91,11 +70,11 @@ WORKED = [
     ("packet", DEAD, "dead 1/1 3/63 255 32767 0 last 0 - = " + DEAD),
     ("packet", ASK, "ask 0/1 0/2 9 0 0 last 0 - = " + ASK),
     ("packet", NEVER, "never 0/1 0/2 9 0 0 last 0 - = " + NEVER),
-    ("packet", "050102090000800000", "NotCanonical"),
-    ("packet", "0301020900008000108000", "BadLength"),
-    ("packet", "040102090000000000", "NotCanonical"),
-    ("packet", "0100020900FF800000", "NotCanonical"),
-    ("packet", "0101020500800000", "Short"),
+    ("packet", "050102090000800000", "packet not canonical"),
+    ("packet", "0301020900008000108000", "bad packet length"),
+    ("packet", "040102090000000000", "packet not canonical"),
+    ("packet", "0100020900FF800000", "packet not canonical"),
+    ("packet", "0101020500800000", "short packet"),
     ("packet", REQUEST, f"data 0/1 0/3 0 0 0 last 128 0008000A00{RTS}80 = {REQUEST}"),
     ("packet", FIRST, f"data 0/1 2/2 5 259 0 more 1008 {STRIPES * 2} = {FIRST}"),
     ("packet", LAST, f"data 0/1 2/2 5 259 7 last 32 A5C38000 = {LAST}"),
@@ -110,11 +89,11 @@ WORKED = [
     ("frame", "F2000000" + FIRST, f"packet  on 0 under 0 data 0/1 2/2 5 259 0 more 1008 {STRIPES * 2} = F2000000{FIRST}"),
     ("frame", "F20200" + DISTANCES, "routes  1 0 1" + " 63" * 60 + " = F20200" + DISTANCES),
     ("frame", "F2020F" + bytes(range(63)).hex().upper(), f"routes 0123 {' '.join(map(str, range(63)))} = F2020F{bytes(range(63)).hex().upper()}"),
-    ("frame", "F20200" + "40" + "3F" * 62, "NotCanonical"),
-    ("frame", "F20200" + "40" + "3F" * 61, "Short"),
-    ("frame", "0101", "BadVersion"),
-    ("frame", "F1", "BadVersion"),
-    ("frame", "0200010001" + "10" * 13, "BadVersion"),
+    ("frame", "F20200" + "40" + "3F" * 62, "not canonical"),
+    ("frame", "F20200" + "40" + "3F" * 61, "short"),
+    ("frame", "0101", "bad version"),
+    ("frame", "F1", "bad version"),
+    ("frame", "0200010001" + "10" * 13, "bad version"),
     ("command", "00", "NOP (00)"),
     ("command", RTS, f"RTS 16 33 5 ({RTS})"),
     ("command", STR, f"STR 33 16 8 ({STR})"),
@@ -129,14 +108,14 @@ WORKED = [
     ("command", ERR, f"ERR 3 0007000100FE00000000 ({ERR})"),
     ("command", "0C", "RST (0C)"),
     ("command", "0D", "RRP (0D)"),
-    ("command", "0EFF", "IllegalCode 2"),
-    ("command", "01000000110000002105", "Erroneous 10"),
-    ("command", STR[:-2] + "00" + "0705", "Erroneous 10"),
+    ("command", "0EFF", "illegal code 2"),
+    ("command", "01000000110000002105", "erroneous 10"),
+    ("command", STR[:-2] + "00" + "0705", "erroneous 10"),
     ("commands", RTS + ALL + "00" + "0941", f"RTS 16 33 5 ({RTS}), ALL 5 2 100 ({ALL}), NOP (00), ECO 65 (0941), end"),
     ("commands", STR + "050540C8" + RET + CLS, f"STR 33 16 8 ({STR}), GVB 5 64 200 (050540C8), RET 5 1 100 ({RET}), CLS 16 33 ({CLS}), end"),
-    ("commands", "01000000100000002120" + "0705" + "0805", "Erroneous 10, INR 5 (0705), INS 5 (0805), end"),
-    ("commands", "0C" + ERR + "0D" + "0E" + "0941", f"RST (0C), ERR 3 0007000100FE00000000 ({ERR}), RRP (0D), IllegalCode 3"),
-    ("commands", "0A41" + "0405", "ERP 65 (0A41), Short 2"),
+    ("commands", "01000000100000002120" + "0705" + "0805", "erroneous 10, INR 5 (0705), INS 5 (0805), end"),
+    ("commands", "0C" + ERR + "0D" + "0E" + "0941", f"RST (0C), ERR 3 0007000100FE00000000 ({ERR}), RRP (0D), illegal code 3"),
+    ("commands", "0A41" + "0405", "ERP 65 (0A41), short 2"),
     ("header", "72 002000010000000064", "1 32 = 40 0020000100"),
     ("header", "40 0000000000", "0 0 = 40 0000000000"),
     ("header", "120 0008000A00" + RTS, "10 8 = 40 0008000A00"),
@@ -172,32 +151,36 @@ def bits_around(bits: int, octets: bytes) -> list[Bits]:
     return [*prefixes(bits_of(octets)[:bits]), *changed]
 
 
-def lines_of(reader: str, spelled: str) -> tuple[list[str], list[str]]:
-    """What comes of a row: the lines for tools/calls, and what it owes, the row itself first."""
-    *bits, digits = spelled.split()
+def rows_of(reader: str, spelled_row: str) -> list[tuple[str, str]]:
+    """What comes of a row: rows for tools/calls, each with what it has to answer, the row itself first."""
+    *bits, digits = spelled_row.split()
     octets = bytes.fromhex(digits)
     if reader in OF_BITS:
-        rows = bits_around(int(bits[0]), octets)
-        return [f"{reader} {spell_bits(it)}" for it in rows], [told(READERS[reader], it) for it in rows]
-    around = octets_around(octets)
-    return [f"{reader} {it.hex().upper() or '-'}" for it in around], [told(READERS[reader], it) for it in around]
+        return [(f"{reader} {spell_bits(it)}", said_of(reader, it)) for it in bits_around(int(bits[0]), octets)]
+    return [(f"{reader} {it.hex().upper() or '-'}", said_of(reader, it)) for it in octets_around(octets)]
+
+
+def faults_in(reader: str, answer: str) -> Iterator[str]:
+    """The faults that an answer names."""
+    return (fault for fault in TEXTS[reader].values() if answer.startswith(fault) or f", {fault}" in answer)
 
 
 def check_octets() -> int:
     """How many rows are read otherwise by the second reading or by the code."""
     wrong, met, total = 0, {reader: Counter[str]() for reader in READERS}, 0
     with tempfile.TemporaryDirectory() as folder:
-        for number, (reader, spelled, wanted) in enumerate(WORKED, 1):
-            lines, owed = lines_of(reader, spelled)
-            if owed[0] != wanted:
+        for number, (reader, spelled_row, wanted) in enumerate(WORKED, 1):
+            rows = rows_of(reader, spelled_row)
+            if rows[0][1] != wanted:
                 wrong += 1
-                print(f"{reader} {spelled}: {wanted} has to be read, and the second reading gives {owed[0]}")
-            write_case(folder, f"row-{number:02}-{reader}", lines, owed)
-            met[reader].update(fault for it in owed for fault in FAULTS[reader] if fault in it)
-            total += len(owed)
-        said = run_cases("readers", folder)
-    for reader, faults in FAULTS.items():
-        unmet = faults - met[reader].keys()
+                print(f"{reader} {spelled_row}: {wanted} has to be read, and the second reading gives {rows[0][1]}")
+            lines = (line for call, answer in rows for line in spelled(call, [answer]))
+            write_case(folder, f"row-{number:02}-{reader}", ["readers", *lines])
+            met[reader].update(fault for _, answer in rows for fault in faults_in(reader, answer))
+            total += len(rows)
+        said = run_cases(folder)
+    for reader, faults in TEXTS.items():
+        unmet = set(faults.values()) - met[reader].keys()
         wrong += len(unmet)
         print(f"  {reader}: {dict(sorted(met[reader].items()))}" + (f", never {unmet}" if unmet else ""))
     if said is not None:
@@ -317,7 +300,8 @@ def main() -> int:
     if program is None:
         print("check readers: there is no program of these sources")
         return 1
-    wrong = check_inputs(program)
+    wrong = check_inputs(program) + (not read_stored("readers", open_readers, "readers"))
+    wrong += (not read_stored("readers", open_formats, "bits", "writers", "allocation")) + (not read_stored("readers", open_net, "boxes"))
     if shutil.which("rt"):
         wrong += check_octets()
     else:

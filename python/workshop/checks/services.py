@@ -7,7 +7,8 @@ is for readers to judge; this script tries it as well. python/dorydate/model/ser
 language and another form. Both are given random notices, most of them about the machine's own sockets, and what they ask
 for and come to has to be the same.
 
-The calls are made by tools/calls, built without proofs (workshop.builds.drivers): ./check services [RUNS]
+First the model answers the stored rows (cases/calls) of such machines. The calls are made by tools/calls,
+built without proofs (workshop.builds.drivers): ./check services [RUNS]
 """
 
 from __future__ import annotations
@@ -17,12 +18,15 @@ import sys
 import tempfile
 from collections import Counter
 from collections.abc import Callable, Iterable
-from typing import Any, TypeVar
+from typing import TypeVar
 
 from dorydate.model.bits import Bits, bits_of, spell_bits
 from dorydate.model.names import HostName, spell_host
 from dorydate.model.services import MOST_SOCKET, Echo, Request, Running, Server, Service, Terminal, User
 from workshop.builds.drivers import run_cases, write_case
+from workshop.checks.readings import read_stored
+from workshop.checks.service_rows import answers_of, first_answers, open_service
+from workshop.rows import spelled
 
 T = TypeVar("T")
 
@@ -38,12 +42,12 @@ class Chance:
         self.random = random.Random(seed)
         self.peer = self.one(*PEERS)
         kind = self.one("server", "user", "user", "echo", "terminal")
-        self.lines: list[str] = []
-        self.owed: list[str] = []
+        self.rows: list[str] = []
+        self.answers: list[str] = []  # all that was answered
         self.story: list[str] = []  # what a machine is notified of where all goes well
         self.pairs: list[tuple[int, int]] = []
         self.machine = self.made(kind)
-        self.answer(self.machine.start())
+        self.say(self.opening, first_answers(self.machine))
         for _ in range(NOTICES):
             self.tell()
 
@@ -62,7 +66,7 @@ class Chance:
     def make_server(self) -> Server:
         """A server."""
         listens, base = self.one((7, 100), (7, 100), (4294967295, 0), (1, 4294967294), (8, 100), (7, 101))
-        self.lines.append(f"server {listens} {base}")
+        self.opening = f"server {listens} {base}"
         user = self.one(16, 4294967292)
         # what may be opened, with a fitting socket of the user and with others
         self.pairs = [(listens, user), (base, user + 3), (base + 1, user + 2), (base, user + 3), (base + 1, user + 2), (listens, 40)]
@@ -72,7 +76,7 @@ class Chance:
     def make_user(self) -> User:
         """A user."""
         server, own = self.one((7, 16), (7, 16), (7, 4294967292), (7, 4294967294), (8, 16), (7, 17))
-        self.lines.append(f"user {spell_host(self.peer)} {server} {own}")
+        self.opening = f"user {spell_host(self.peer)} {server} {own}"
         self.pairs = [(own, server), (own, server), (own + 2, 101), (own + 3, 100)]
         if own + 3 <= MOST_SOCKET:
             opened = [f"opened {at} {spell_host(self.peer)} {foreign} 3 4" for at, foreign in self.pairs[1:]]
@@ -82,7 +86,7 @@ class Chance:
     def make_service(self, name: str, make: Callable[[int, int], Service]) -> Service:
         """An echo service or a terminal."""
         receives, sends = self.one((18, 19), (100, 101), (0, 4294967295))
-        self.lines.append(f"{name} {receives} {sends}")
+        self.opening = f"{name} {receives} {sends}"
         self.pairs = [(receives, 33), (receives, 33), (sends, 16)]
         return make(receives, sends)
 
@@ -107,9 +111,8 @@ class Chance:
     def tell(self) -> None:
         """Tells a notice, or that a request was refused."""
         if self.random.random() < 0.03:
-            self.lines.append("refused")
             self.machine.refused("InUse")
-            return self.answer([])
+            return self.answered("refused", [])
         if self.story and self.random.random() < 0.6:
             return self.hear(self.story.pop(0))
         own, foreign = self.socket()
@@ -126,41 +129,31 @@ class Chance:
 
     def hear(self, said: str) -> None:
         """Tells a notice."""
-        self.lines.append(said)
-        self.answer(self.machine.notice(*said.split(" ")))
+        self.answered(said, self.machine.notice(*said.split(" ")))
 
-    def answer(self, requests: Iterable[Request]) -> None:
-        """Notes what is owed for a line: the requests, and what the machine has come to."""
-        said = [" ".join([kind, *(self.spell(part) for part in parts)]) for kind, *parts in requests]
-        if isinstance(self.machine, Terminal):
-            said += [f"line {line.hex().upper()}" for line in self.machine.lines]
-            self.machine.lines = []
-        for report in self.machine.reports():
-            said.append(" ".join([report[0].split(" ")[0], *report[1:]]))
-        self.owed.append("".join(f"{it};" for it in said))
+    def answered(self, call: str, requests: Iterable[Request]) -> None:
+        """Notes a row and what is answered: the requests, and what the machine has come to."""
+        self.say(call, answers_of(self.machine, requests))
 
-    def spell(self, part: Any) -> str:
-        """A part of a request."""
-        match part:
-            case (_, _):
-                return spell_host(part)
-            case str():
-                return spell_bits(part)
-        return str(part)
+    def say(self, call: str, answers: list[str]) -> None:
+        self.rows += spelled(call, answers)
+        self.answers += answers
 
 
 def main() -> int:
     """The exit status."""
     runs = int(sys.argv[1]) if len(sys.argv) > 1 else RUNS
     seen: Counter[str] = Counter()
+    is_stored = read_stored("services", open_service, "server", "user", "echo", "terminal")
     with tempfile.TemporaryDirectory() as folder:
         for run in range(runs):
             made = Chance(run)
-            write_case(folder, f"{run:05}", made.lines, made.owed)
-            name = made.lines[0].split(" ")[0]
-            seen.update(f"{name}: {' '.join(it.split(' ')[: 2 if it.startswith('failed') else 1])}" for owed in made.owed for it in owed.split(";") if it)
-        wrong = run_cases("services", folder)
+            write_case(folder, f"{run:05}", made.rows)
+            name = made.opening.split(" ")[0]
+            words = (it if it.startswith(("failed", "refused")) else it.split(" ")[0] for it in made.answers)
+            seen.update(f"{name}: {it}" for it in words)
+        wrong = run_cases(folder)
     for said, count in sorted(seen.items()):
         print(f"check services: {count} {said}")
     print(f"check services: {wrong}" if wrong else f"check services: {runs} machines, all the same")
-    return 1 if wrong else 0
+    return 1 if wrong or not is_stored else 0

@@ -536,7 +536,7 @@ SUBNET_BROKEN = {
     "of an IMP that sends its lines are not named": named_less("out", lambda at, name: name.startswith("line")),
     "of an IMP that a frame reaches its other lines are not named": named_less("deliver", lambda at, name: at > 1),
     "the IMP that a frame reaches is not named": named_less("deliver", lambda at, name: at == 0),
-    "what neighbours told is left out": imps_with("routes", lambda heard: None),
+    "what neighbours said is left out": imps_with("routes", lambda heard: None),
     "distances are told as if all were 1": imps_with("routes", lambda heard: heard and dict.fromkeys(heard, 1)),
     "packets in channels are left out": imps_with("ports", lambda port: {**port, "sending": [{"bit": it["bit"]} for it in port["sending"]]}),
     "the bits of channels are left out": imps_with("ports", lambda port: {**port, "sending": each_with(bit=0)(port["sending"])}),

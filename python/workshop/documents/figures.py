@@ -75,7 +75,7 @@ def bugs() -> int:
 def naming(word: str) -> int:
     """How many sources outside of the crates of tests have a word."""
     paths = [it for end in ("rt", "antt") for it in glob.glob(f"{ROOT}/crates/*/**/*.{end}", recursive=True)]
-    return sum(1 for it in paths if "_tests/" not in it and "/out/" not in it and re.search(rf"\b{word}\b", read(it)))
+    return sum(1 for it in paths if "tests/" not in it and "/out/" not in it and re.search(rf"\b{word}\b", read(it)))
 
 
 def gates(column: int) -> str:
@@ -103,7 +103,7 @@ def stops() -> int:
 
 def octet_sequences() -> int:
     """How many sequences of octets `./check readers` gives to the readers."""
-    return sum(len(readers.lines_of(reader, spelled)[0]) for reader, spelled, _ in readers.WORKED)
+    return sum(len(readers.rows_of(reader, spelled)) for reader, spelled, _ in readers.WORKED)
 
 
 def searches() -> list[Row]:

@@ -17,6 +17,7 @@ from dataclasses import dataclass
 
 from workshop.parts import ROOT
 from workshop.drawings.repository import layers
+from workshop.rows import row_names
 
 PAGE = f"{ROOT}/docs/measured/rules.md"
 HEAD = """# From a rule to its code
@@ -221,8 +222,8 @@ def functions(crate: str) -> list[Function]:
 
 @functools.cache
 def tests() -> dict[str, Place]:
-    """The functions of the crates of tests, by their names."""
-    found: dict[str, Place] = {}
+    """The functions of the crates of tests and the stored rows, by their names."""
+    found = {name: Place(*place) for name, place in row_names().items()}
     for layer in layers():
         for crate in (it for it, kind in layer.crates.items() if kind == "tests"):
             found |= {it.name: it.place for it in functions(crate)}

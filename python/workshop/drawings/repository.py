@@ -29,7 +29,7 @@ def layers() -> list[Layer]:
         named = re.findall(r"\w+", coded[1]) if coded else []
         kinds = {}
         for crate in re.findall(r"^(\w+):", lines, re.MULTILINE):
-            kind = "tests" if crate.endswith("_tests") else "code" if "All" in named or crate in named else "laws"
+            kind = "tests" if crate.endswith("tests") else "code" if "All" in named or crate in named else "laws"
             kinds[crate] = kind
         found.append(Layer(name, words.split(". ")[0].removesuffix("."), kinds))
     return found

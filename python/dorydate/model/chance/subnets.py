@@ -7,10 +7,9 @@ from __future__ import annotations
 
 import random
 from collections import Counter
-from collections.abc import Iterable
+from collections.abc import Iterator
 from typing import Any
 
-from dorydate.model.chance.worlds import spell_event
 from dorydate.model.imp_state import NUMBERS
 from dorydate.model.names import Flow, HostName
 from dorydate.model.packets import MOST_IMPS
@@ -115,28 +114,9 @@ class Chance:
                 return self.random.choice(ends or [(self.random.choice(imps), self.random.choice([0, 1, 9]))])
         raise ValueError(kind)
 
-    def run(self) -> tuple[list[str], list[str]]:
-        """The lines for the driver, and the lines that it owes."""
-        lines = spell_network(self.imps, self.ends)
-        events: list[Event] = [("calm", self.random.choice([2, 3, 4]))] * (self.random.random() < 0.9)
+    def run(self) -> Iterator[Event]:
+        """Events, one by one: what comes before the next one is what each leads to."""
+        if self.random.random() < 0.9:
+            yield "calm", self.random.choice([2, 3, 4])
         for _ in range(self.events):
-            event = events.pop() if events else self.event()
-            lines.append(spell_event(*event))
-            before = len(self.subnet.printed)
-            if event[0] == "alive":
-                self.subnet.printed.append(f"alive {str(self.subnet.is_alive(*event[1:])).lower()}")
-                self.seen[f"alive: {self.subnet.printed[-1].split()[1]}"] += 1
-                continue
-            self.subnet.happen(*event)
-            said = self.subnet.printed[before:]
-            self.seen[f"{event[0]}: {said[0] if said and said[0].startswith('refused') else 'done'}"] += 1
-            self.seen["lines of crossings"] += sum(not line.startswith("refused") for line in said)
-        return lines, [*self.subnet.printed, "end"]
-
-
-# ---- what the driver reads
-
-
-def spell_network(imps: Iterable[tuple[int, int]], ends: Iterable[tuple[int, ...]]) -> list[str]:
-    """The two lines of a network."""
-    return [" ".join(f"{number}:{hosts}" for number, hosts in imps), " ".join("-".join(map(str, line)) for line in ends)]
+            yield self.event()

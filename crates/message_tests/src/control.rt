@@ -1,7 +1,0 @@
-//! Worked examples, with octets written by hand from the format.
-
-mod commands;
-mod copies;
-mod counters;
-mod headers;
-mod packing;
