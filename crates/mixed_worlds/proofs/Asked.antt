@@ -4,13 +4,14 @@ use Rattle.mixed_worlds.proofs.Common.{◌≡◌, inl, inr, ℕ, ◌*◌, ◌<�
 use Rattle.mixed_worlds.proofs.Common.{[], ◌∷◌, ◌++◌, take, drop, length, Option, Some, None, refl, ap, sym, subst, ◌∙◌}
 use Rattle.mixed_worlds.proofs.Common.{arith, map, Contains, drop-append_seam, Host, Flow, Answer, Crossing}
 use Rattle.mixed_worlds.proofs.Common.{HostMessage, or_false, header_bits, is_receive_socket, is_send_socket, Command}
-use Rattle.mixed_worlds.proofs.Common.{Legal, Order, orders_of, has_cls, is_ending, PairState, Parcel, Entry, Notice}
+use Rattle.mixed_worlds.proofs.Common.{Legal, Order, orders_of, is_ending, PairState, Parcel, Entry, Notice}
 use Rattle.mixed_worlds.proofs.Common.{CrossedAt, data_by, HasCrossed, coming, going, control_flow, accepted, pair_with}
 use Rattle.mixed_worlds.proofs.Common.{AreInOrder, message_for, next_in, offered, next_pair, pair_range, offer_read}
 use Rattle.mixed_worlds.proofs.Common.{Asked, Crossed, Moment, places, program, crossings_of, host_in, notices_by}
 use Rattle.mixed_worlds.proofs.Common.{places_same, Begins, Each, Ends, Goes, Hears, IsOther, MayTell, Quiet, Rules}
 use Rattle.mixed_worlds.proofs.Common.{each_weaker, message_keeps, offer_keeps, request_told, IsMixed, Orders, Says}
 use Rattle.mixed_worlds.proofs.Common.{older, ordered, ReportsData, IsReadBack, even_odd, send_odd}
+use Rattle.host_pairs.specs.Entries.{has_cls}
 use Rattle.world_keeps_lives.proofs.lemmas.{Done, answer_keeps}
 use Rattle.std.proofs.Common.{slice_index_or}
 use Rattle.std.proofs.lemmas.Bool.{eqb-true}
@@ -285,7 +286,7 @@ module _ (orders : Orders) (strange : Host → Bool) (hosts : List Host) (a : Ho
         (λ (y : Host). pair_with y (program a moments).peers ≡ out.peer.pair) to
         (next_pair (program a moments).peers out.peer (parcel.Commands count) order next) in
         let back : IsReadBack out.peer.pair (parcel.Commands count) = offer_read (program a moments) out.peer
-        (parcel.Commands count) (fit orders strange hosts a off moments below).ranged next in
+        (parcel.Commands count) (fit strange hosts a off moments below).ranged next in
         let reads : orders_of m.text ≡ map Legal (take count (pair_with p (program a moments).peers).queue) =
         ap (λ (y : HostMessage). orders_of y.text) (sym is) ∙ back
         ∙ ap (λ (q : PairState). map Legal (take count q.queue)) (sym same) in
@@ -310,7 +311,7 @@ module _ (orders : Orders) (strange : Host → Bool) (hosts : List Host) (a : Ho
         (Tells a p (crossing.Out m ∷ crossings_of moments) (Crossed (crossing.Out m))) p
         (rules a p (crossing.Out m ∷ crossings_of moments) (Crossed (crossing.Out m))) (program a moments)
         (places moments) out.peer out.parcel order out.next to
-        (pair_range p (program a moments).peers (fit orders strange hosts a off moments below).ranged.pairs).commands
+        (pair_range p (program a moments).peers (fit strange hosts a off moments below).ranged.pairs).commands
         (may out.parcel out.next out.message) old
 
   -- a message comes in

@@ -198,7 +198,7 @@ module _ (orders : Orders) (strange : Host → Bool) (hosts : List Host) where
     here P i = subst P same.lives i
 
     holds : (a : Host) (k : ℕ) → strange a ≡ false → Holds a k (program a moments) (mixed_kept strange moments)
-    holds a k off = held orders strange hosts a off k moments mixed
+    holds a k off = held strange hosts a off k moments mixed
 
     -- what is said of a stranger at a host
     reported : (a g : Host) (ns : List Notice) → strange a ≡ false → strange g ≡ true
@@ -377,7 +377,7 @@ module _ (orders : Orders) (strange : Host → Bool) (hosts : List Host) where
         let s : NcpState = program m.flow.source moments in
         let x : Says (program m.flow.source moments) m = says (program m.flow.source moments) m (now.happen.0 off) in
         let peer : x.peer.host ≡ g = ap (λ (y : HostMessage). y.flow.destination) x.message ∙ goes_to m.flow g is off in
-        let f : IsFit (program m.flow.source moments) = fit orders strange hosts m.flow.source off moments mixed in
+        let f : IsFit (program m.flow.source moments) = fit strange hosts m.flow.source off moments mixed in
         is_own (crossing.Out m) (kept_in (filling g)) off
         (at_host m.flow.source g (crossing.Out m) (notices_by (Crossed (crossing.Out m)) moments) off on is
         (subst (λ (h : Host). AreAbout h (notices_by (Crossed (crossing.Out m)) moments)) peer

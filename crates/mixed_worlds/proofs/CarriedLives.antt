@@ -193,7 +193,7 @@ module _ (orders : Orders) (strange : Host → Bool) (hosts : List Host) where
         → HasOpenEnd (program x.host moments) x
     live mixed there goes =
         live_end (program x.host moments) (mixed_kept strange moments) x there goes
-        (held orders strange hosts x.host own.plain x.socket moments mixed)
+        (held strange hosts x.host own.plain x.socket moments mixed)
 
   -- ---- the message of a notice of data
 
@@ -415,7 +415,7 @@ module _ (orders : Orders) (strange : Host → Bool) (hosts : List Host) where
           (offer_keeps Any IsCalm out.peer.host (calm_rules out.peer.host) (program m.flow.source moments)
           (places moments) out.peer z (ordered orders strange hosts m.flow.source moments off below) next refl
           (pair_range out.peer.host (program m.flow.source moments).peers
-          (fit orders strange hosts m.flow.source off moments below).ranged.pairs).commands may
+          (fit strange hosts m.flow.source off moments below).ranged.pairs).commands may
           (any_ends (pair_with out.peer.host (program m.flow.source moments).peers).entries)).told
 
       bytes : (e : Entry) (size count : ℕ)

@@ -7,14 +7,14 @@ pub use Rattle.host_keeps_ranges.specs.Ranges.{IsReadBack}
 pub use Rattle.host_keeps_streams.proofs.lemmas.{find_passes}
 pub use Rattle.host_pairs.proofs.lemmas.{both, what_goes}
 pub use Rattle.host_pairs.specs.About.{AreAbout, IsAbout}
-pub use Rattle.host_pairs.specs.Commands.{Ending, Open, Unconnected, asked_on_link, asked_with_size, changed, cls_taken_by, desk_taken, entry_joined, faulted, matched, matched_once, rts_taken_by, str_taken_by}
-pub use Rattle.host_pairs.specs.Control.{ERRONEOUS, Legal, NO_SOCKET, Order, Wrong, error, orders_of}
+pub use Rattle.host_pairs.specs.Commands.{Ending, Open, Unconnected, asked_on_link, changed, desk_taken, entry_joined, matched}
+pub use Rattle.host_pairs.specs.Control.{ERRONEOUS, Legal, Order, orders_of}
 pub use Rattle.host_pairs.specs.Data.{arrived, arrived_if, data_found, data_of, data_taken, is_acceptable, text_faulted}
-pub use Rattle.host_pairs.specs.Desk.{DeskState, command_queued, desk_of, desk_told, listener_on, listens_on, settled, swept}
-pub use Rattle.host_pairs.specs.Entries.{changed_at, changed_first, closed_by_partner, ending, entry_at, free_link, has_cls, is_at, is_ending, is_mine_on, is_open, is_over, is_receiving, opening_by, opening_notices, receives_on, receiving_end, sending_end, sends_on}
+pub use Rattle.host_pairs.specs.Desk.{DeskState, desk_of, desk_told, listener_on, listens_on, swept}
+pub use Rattle.host_pairs.specs.Entries.{changed_at, changed_first, closed_by_partner, ending, entry_at, free_link, is_at, is_ending, is_mine_on, is_open, is_over, is_receiving, opening_by, opening_notices, receives_on, receiving_end, sending_end, sends_on}
 pub use Rattle.host_pairs.specs.Pair.{PairState}
 pub use Rattle.host_pairs.specs.Parcels.{Parcel, asked_at, bits_gone, cls_sent, command_gone, commands_gone, may_send_on, next_of, pair_after, parcel_gone}
-pub use Rattle.host_pairs.specs.Turn.{TurnState, command_taken, if_ready, message_taken, order_taken, orders_taken, with_desk}
+pub use Rattle.host_pairs.specs.Turn.{TurnState, if_ready, message_taken, order_taken, orders_taken, with_desk}
 pub use Rattle.host_pairs.specs.declared.entry.Entry.{Entry}
 pub use Rattle.host_pairs.specs.declared.listener.Listener.{Listener}
 pub use Rattle.host_pairs.specs.declared.notice.Notice.{Notice}
@@ -31,12 +31,11 @@ pub use Rattle.masked_worlds.specs.Mixed.{IsMixed, closed, masked_crossing, mask
 pub use Rattle.masked_worlds.specs.Strangers.{masked_as, masked_log, strange_end, stranger_in, turn}
 pub use Rattle.masked_worlds.specs.Worked.{listener_taken}
 pub use Rattle.mixed_worlds.specs.Book.{beside_among, contacts_among, crossed_only, is_among, lives_among, mixed_kept}
-pub use Rattle.mixed_worlds.specs.Ends.{HasSome}
+pub use Rattle.world_keeps_lives.specs.SomeEnd.{HasSome}
 pub use Rattle.mixed_worlds.specs.Promised.{Promises}
 pub use Rattle.mixed_worlds.specs.Told.{ToldAmong, told_among}
 pub use Rattle.mixed_worlds.specs.Toward.{AreOf, HasAsked, IsCarried, IsNamed, NamesItself, ReportsData}
 pub use Rattle.mixed_worlds.specs.Worked.{sending_life}
-pub use Rattle.ncp_control.specs.Command.{spelling}
 pub use Rattle.ncp_control.specs.DataHeader.{data_bits, header_bits, header_of}
 pub use Rattle.ncp_control.specs.Numbers.{is_receive_socket, is_send_socket}
 pub use Rattle.ncp_control.specs.Phases.{is_ready}
@@ -44,13 +43,11 @@ pub use Rattle.ncp_control.specs.declared.command.Command.{Command}
 pub use Rattle.ncp_control.specs.declared.data_header.DataHeader.{DataHeader}
 pub use Rattle.net_sim.proofs.lemmas.{places_same, same_host-sym}
 pub use Rattle.net_sim.specs.Book.{Kept, all_told, asked, book_told, carried, changed_when, crossed, fates_where, handed_to, life_ended, lives_asked, lives_at, lives_between, lives_crossed, lives_on, lives_told, lives_with, new_life, returned, where_it}
-pub use Rattle.net_sim.specs.Reports.{IsBacked}
 pub use Rattle.net_sim.specs.Story.{Asked, Crossed, Moment, places, program}
 pub use Rattle.net_sim.specs.Timeline.{crossings_of}
 pub use Rattle.net_sim.specs.Told.{host_in, kept_by, kept_in, notices_by}
 pub use Rattle.pairing_law.specs.Ends.{End}
 pub use Rattle.pairing_law.specs.Marks.{Ask, Close, Mark}
-pub use Rattle.promise.specs.Connections.{JoinedBook}
 pub use Rattle.promise.specs.Fates.{ClosesWhole, IsBeside}
 pub use Rattle.promise.specs.Formed.{CrossedAt, FormedBook, HasCrossed, coming, data_by, flow_of, going, own_named, partner_named}
 pub use Rattle.promise.specs.Notices.{data_told}
@@ -58,7 +55,7 @@ pub use Rattle.promise.specs.Safe.{AreTwo, Match, Name, SafeBook, control_flow, 
 pub use Rattle.promise.specs.declared.book.Told.{Told}
 pub use Rattle.promise.specs.declared.life.Fate.{Fate}
 pub use Rattle.promise.specs.declared.life.Life.{Life}
-pub use Rattle.sockets.proofs.lemmas.{answer_leaves, message_about, message_leaves, next_is, next_pair, offer_leaves}
+pub use Rattle.sockets.proofs.lemmas.{answer_leaves, message_about, message_leaves, next_is, next_pair}
 pub use Rattle.sockets.specs.Accepting.{accepted, after_turn, turn_of}
 pub use Rattle.sockets.specs.Others.{peer_of}
 pub use Rattle.sockets.specs.Pairs.{NcpState, opening_state, owner_of, pair_with}

@@ -3,10 +3,11 @@ use Rattle.mixed_worlds.proofs.Common.{◌≡◌, ◌==◌, ℕ, Bool, true, fal
 use Rattle.mixed_worlds.proofs.Common.{refl, ap, sym, subst, ◌∙◌, Host, same_host, Flow, HostMessage, same_host-true, Command}
 use Rattle.mixed_worlds.proofs.Common.{Legal, orders_of, PairState, Parcel, Entry, Notice, control_flow, accepted}
 use Rattle.mixed_worlds.proofs.Common.{NcpState, opening_state, pair_with, served, message_for, next_in, offered}
-use Rattle.mixed_worlds.proofs.Common.{answer_leaves, message_leaves, next_pair, offer_leaves, pair_range, offer_read}
+use Rattle.mixed_worlds.proofs.Common.{answer_leaves, message_leaves, next_pair, pair_range, offer_read}
 use Rattle.mixed_worlds.proofs.Common.{Asked, Crossed, Moment, places, program, Begins, Each, Ends, Goes, Hears}
 use Rattle.mixed_worlds.proofs.Common.{Quiet, Rules, message_keeps, IsMixed, Orders, Says, older}
 use Rattle.mixed_worlds.proofs.Common.{ordered, says, IsReadBack}
+use Rattle.sockets.proofs.lemmas.{offer_leaves}
 use Rattle.std.proofs.lemmas.Bool.{eqb-true}
 use Rattle.interface.specs.declared.crossing.Crossing.TheVariants as crossing
 use Rattle.interface.specs.declared.crossing.Inbound.TheVariants as inbound
@@ -85,7 +86,7 @@ module _ (orders : Orders) (strange : Host → Bool) (hosts : List Host) (a : Ho
             (next_pair (program a moments).peers o.peer (parcel.Commands count)
             (ordered orders strange hosts a moments off below) next) in
             let back : IsReadBack o.peer.pair (parcel.Commands count) = offer_read (program a moments) o.peer
-            (parcel.Commands count) (fit orders strange hosts a off moments below).ranged next in
+            (parcel.Commands count) (fit strange hosts a off moments below).ranged next in
             moved
             (control_is m.flow a p from (sym to ∙ ap (λ (y : HostMessage). y.flow.destination) is)
             (sym (ap (λ (y : HostMessage). y.flow.link.0) is))) count
@@ -98,7 +99,7 @@ module _ (orders : Orders) (strange : Host → Bool) (hosts : List Host) (a : Ho
             (offer_passes P Free p walk (program a moments) (places moments) o.peer o.parcel
             (ordered orders strange hosts a moments off below) o.next to
             (pair_range p (program a moments).peers
-            (fit orders strange hosts a off moments below).ranged.pairs).commands (may o.parcel to o.next o.message) old).ends
+            (fit strange hosts a off moments below).ranged.pairs).commands (may o.parcel to o.next o.message) old).ends
         at false f = subst (λ (q : PairState). Each P q.entries)
             (sym (offer_leaves (program a moments) (places moments) o.peer o.parcel p o.next f)) old
 

@@ -240,8 +240,7 @@ module _ (orders : Orders) (strange : Host → Bool) (hosts : List Host) (x : Li
 
           unasked : Each (λ (e : Entry). All (Asks (places moments) e) queue) here
           unasked = asking (places moments) (pair_with x.peer (program x.host moments).peers)
-              (λ own foreign. (fit orders strange hosts x.host off moments
-              (older orders strange hosts (Crossed (crossing.Out m)) moments mixed)).ends own foreign x.peer)
+              (λ own foreign. (fit strange hosts x.host off moments (older orders strange hosts (Crossed (crossing.Out m)) moments mixed)).ends own foreign x.peer)
 
           start : Each So here
           start = each_weaker (λ (e : Entry). Contains here e) So here
@@ -252,7 +251,7 @@ module _ (orders : Orders) (strange : Host → Bool) (hosts : List Host) (x : Li
     stays (Asked g r) mixed = moved (Asked g r) mixed
         (λ own. (
           starts_so (share_of x) (total (Asked g r ∷ moments)) (places moments) (places moments) [],
-          asks r (own_request orders strange hosts x.host off g r moments mixed own).2 (Asked g r),
+          asks r (own_request strange hosts x.host off g r moments mixed own).2 (Asked g r),
         ))
     stays (Crossed c) mixed = moved (Crossed c) mixed tt
 
@@ -308,7 +307,7 @@ module _ (orders : Orders) (strange : Host → Bool) (hosts : List Host) (x : Li
         (nobody_passes (is_mine_on x.socket) ends none)
 
     lone : Each Lone ends
-    lone = by (held orders strange hosts x.host off x.socket all_now mixed).socket where
+    lone = by (held strange hosts x.host off x.socket all_now mixed).socket where
       by : IsFreeSocket x.host x.socket (program x.host all_now) (mixed_kept strange all_now)
           ⊎ IsOwned x.host x.socket (program x.host all_now) (mixed_kept strange all_now) → Each Lone ends
       by (inl free) = none_left (free.none x.peer)

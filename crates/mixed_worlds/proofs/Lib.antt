@@ -1,6 +1,5 @@
 pub mod Common
 pub mod Promised
-pub mod Ends
 pub mod Sockets
 pub mod Apart
 pub mod Among

@@ -16,7 +16,7 @@ use Rattle.std.proofs.lemmas.Option.{same_Some}
 use Rattle.ncp_control.specs.declared.command.Command.TheVariants as command
 use Rattle.host_pairs.specs.declared.notice.Notice.TheVariants as notice
 use Rattle.host_keeps_pairing.proofs.lemmas.{Found, at_one}
-use Rattle.mixed_worlds.proofs.Ends.{SomeEnd}
+use Rattle.world_keeps_lives.proofs.lemmas.{SomeEnd}
 use Rattle.mixed_worlds.proofs.Steps.{IsBegun, IsHeard, IsSame, OpenNone, OpensNone, Steps}
 use Rattle.mixed_worlds.proofs.Waiting.{all_changed}
 

@@ -233,12 +233,12 @@ module _ (orders : Orders) (strange : Host → Bool) (hosts : List Host) where
   module _ (h : Host) (off : strange h ≡ false) (moments : List Moment) (mixed : IsMixed strange hosts moments)
       (once : AreOnce moments (so_far moments)) where
     sound : AreSound (program h moments)
-    sound = (fit orders strange hosts h off moments mixed).ends
+    sound = (fit strange hosts h off moments mixed).ends
 
     -- the ends of its own are on sockets that don't listen
     silent_at : (p : Host) (e : Entry) → Contains (pair_with p (program h moments).peers).entries e
         → IsSilent (program h moments).listening e
-    silent_at p e there mine = elim (held orders strange hosts h off e.own moments mixed).socket [
+    silent_at p e there mine = elim (held strange hosts h off e.own moments mixed).socket [
       | inl f ↦ absurd (none_of (f.none p))
       | inr o ↦ o.silent
     ] where

@@ -36,7 +36,7 @@ module _ (orders : Orders) (strange : Host → Bool) (hosts : List Host) (a : Ho
     below = older orders strange hosts x moments mixed
 
     sound : AreSound (program a moments)
-    sound = (fit orders strange hosts a off moments below).ends
+    sound = (fit strange hosts a off moments below).ends
 
     by : (x : Moment) → IsMixed strange hosts (x ∷ moments) → PairFits (pair_with p (program a moments).peers)
         → PairFits (pair_with p (program a (x ∷ moments)).peers)
@@ -70,7 +70,7 @@ module _ (orders : Orders) (strange : Host → Bool) (hosts : List Host) (a : Ho
     by (Crossed (crossing.Up g)) mixed old = if_fits p (same_host a g) (opening_state a) (program a moments)
         (λ e. All-nil (λ x. All (Fits x) [])) old
     by (Asked g r) mixed old = if_fits p (same_host a g) (served (program a moments) r) (program a moments)
-        (λ e. request_fits (program a moments) r p (own_request orders strange hosts a off g r moments mixed e).2 sound
+        (λ e. request_fits (program a moments) r p (own_request strange hosts a off g r moments mixed e).2 sound
         old) old
 
 -- ---- the RTS that went out

@@ -9,6 +9,7 @@ use Rattle.net_sim.proofs.lemmas.{Coupled}
 use Rattle.net_sim.proofs.lemmas.AllOurs.{coupled}
 use Rattle.reset_law.specs.Network.{all_ours}
 use Rattle.world_keeps_pairing.proofs.lemmas.AllOurs.{life_alone, safe_partners, served_in}
+use Rattle.world_keeps_lives.proofs.lemmas.{taken}
 use Rattle.world_keeps_lives.specs.Laws.{Programs}
 use Rattle.world_keeps_streams.specs.Laws as ends
 
@@ -40,7 +41,7 @@ promised programs connections hosts moments addresses run time = record {
       sent = programs.handed hosts moments addresses run time;
     };
     grants = record {
-      taken = λ receiver there kind. programs.taken hosts moments addresses run time receiver there kind;
+      taken = λ receiver there kind. taken hosts moments addresses run time receiver there kind;
       sent = λ receiver sender here there m.
           connections.sent hosts moments addresses run time receiver sender here there m;
     };

@@ -1,7 +1,7 @@
 -- What is promised of the masked moments is so of the real book among hosts with programs, over all that crossed.
 use Rattle.mixed_worlds.proofs.Common.{◌≡◌, Bool, false, List, sym, subst, Contains, Host, Crossing, safe_messages, ClosesWhole, FormedBook, SafeBook, Fate, Life, Moment, crossings_of, kept_in, IsMixed, masked_log, masked_moments, Orders, masked_crossings, beside_among, contacts_among, lives_among, mixed_kept, Promises}
 use Rattle.promise.specs.Arrived.{ArrivedBook}
-use Rattle.promise.specs.Ends.{AreContacts, AreLeft}
+use Rattle.promise.specs.Ends.{AreLeft}
 use Rattle.promise.specs.Fates.{AreFated}
 use Rattle.promise.specs.declared.book.Called.{Called}
 use Rattle.net_sim.specs.Timeline.{contacts_of}
@@ -10,7 +10,7 @@ use Rattle.mixed_worlds.specs.Arrived.{ArrivedAmong}
 use Rattle.mixed_worlds.proofs.Books.{SameBook, same_book}
 use Rattle.mixed_worlds.proofs.RealArrived.{real_arrived}
 use Rattle.mixed_worlds.proofs.RealBooks.{real_safe, real_whole}
-use Rattle.mixed_worlds.proofs.RealEnds.{real_contacts, real_over, real_within}
+use Rattle.mixed_worlds.proofs.RealEnds.{real_over, real_within}
 use Rattle.mixed_worlds.proofs.RealFormed.{real_formed}
 use Rattle.mixed_worlds.proofs.SameContacts.{same_contacts}
 use Rattle.mixed_worlds.proofs.Settled.{plain_life}
@@ -87,11 +87,6 @@ module _ (orders : Orders) (strange : Host → Bool) (hosts : List Host) (moment
   over_among =
       real_over strange hosts log contacts lives plain fates
       (among (λ xs cs ys ts fs. AreLeft cs xs ys fs) promise.over)
-
-  pub followed_among : AreContacts contacts log
-  followed_among =
-      real_contacts strange hosts (contacts_of moments) log
-      (among (λ xs cs ys ts fs. AreContacts cs xs) promise.contacts)
 
   pub within_among : CountNothingLater contacts log lives
   within_among =

@@ -1,15 +1,13 @@
--- How far a life between hosts with programs is, and what follows a contact among these, is read of the real log as it
--- is where its strangers are masked.
-use Rattle.mixed_worlds.proofs.Common.{◌≡◌, ℕ, suc, ◌==◌, ◌&&◌, ◌||◌, not, Bool, true, false, if◌then◌else◌, List, [], ◌∷◌, length, Option, Some, None, refl, ap, sym, subst, ◌∙◌, list_any, Contains, Host, same_host, Flow, Crossing, control_flow, orders_of, Legal, Fate, Life, masked_as, masked_log, strange_end, stranger_in, turn, if_is, other_host, same_host-sym, contacts_among}
+-- How far a life between hosts with programs is, is read of the real log as it is where its strangers are masked.
+use Rattle.mixed_worlds.proofs.Common.{◌≡◌, ℕ, suc, ◌==◌, ◌&&◌, ◌||◌, not, Bool, true, false, if◌then◌else◌, List, ◌∷◌, length, Some, refl, ap, sym, subst, ◌∙◌, Contains, Host, same_host, Flow, Crossing, control_flow, Fate, Life, masked_log, strange_end, stranger_in, turn, if_is, other_host}
 use Rattle.std.proofs.Common.{◌≤◌}
-use Rattle.std.proofs.Math.Bool.{and-false, and-true}
+use Rattle.std.proofs.Math.Bool.{and-false}
 use Rattle.interface.specs.declared.crossing.Crossing.TheVariants as crossing
-use Rattle.ncp_control.specs.declared.command.Command.TheVariants as command
-use Rattle.promise.specs.Ends.{AreContacts, AreLeft, Course, Dropped, Leaves, Stage, called, contacts_now, course}
-use Rattle.promise.specs.Ends.{crosses, cut, ended_by, fails, is_contact, stage, still_contacts}
+use Rattle.promise.specs.Ends.{AreLeft, Course, Dropped, Leaves, Stage, called, course}
+use Rattle.promise.specs.Ends.{crosses, cut, ended_by, fails, stage}
 use Rattle.promise.specs.declared.book.Called.{Called}
 use Rattle.masked_worlds.specs.Strangers.{if_stranger}
-use Rattle.masked_worlds.proofs.lemmas.{end_none, stranger_is}
+use Rattle.masked_worlds.proofs.lemmas.{stranger_is}
 use Rattle.world_keeps_streams.specs.Within.{CountNothingLater}
 use Rattle.mixed_worlds.proofs.RealBooks.{beside_in}
 use Rattle.mixed_worlds.proofs.RealFormed.{before_same}
@@ -59,102 +57,6 @@ module _ (strange : Host → Bool) where
         (λ (n : ℕ) (c : Crossing) (k : Course). called contacts x (suc n) (crosses x n c k)) (λ c log. refl)
         (λ n c g b k e. ap (λ (j : Course). called contacts x (suc n) j)
         (turned n g b k (stranger_is strange c g e) ∙ sym (aside n c g k e))) log
-
-  -- ---- contacts
-
-  module _ (h peer : Host) (host : strange h ≡ false) (other : strange peer ≡ false) where
-    still_turned : (g : Host) (b calls : Bool) → strange g ≡ true → still_contacts h peer (turn b g) calls ≡ calls
-    still_turned g true calls on =
-        ap (λ (b : Bool). calls && not b) (other_host strange h g host on) ∙ and-true calls
-    still_turned g false calls on = refl
-
-    still_aside : (c : Crossing) (g : Host) (calls : Bool) → stranger_in strange c ≡ Some g
-        → still_contacts h peer c calls ≡ calls
-    still_aside (crossing.Out m) g calls e =
-        ap (λ (b : Bool). calls && not b) (other_ends h peer m.flow g host other e) ∙ and-true calls
-    still_aside (crossing.Down a) g calls e =
-        ap (λ (b : Bool). calls && not b) (other_host strange h a host (if_is strange a g e).0) ∙ and-true calls
-    still_aside c g calls e = refl
-
-    real_now : (contacts : List Called) (hosts : List Host) (log : List Crossing)
-        → contacts_now contacts h peer (masked_log strange hosts log) ≡ contacts_now contacts h peer log
-    real_now contacts hosts log =
-        same_read strange hosts (contacts_now contacts h peer)
-        (λ (n : ℕ) (c : Crossing) (calls : Bool). list_any (is_contact h peer (suc n)) contacts || still_contacts h peer
-        c calls) (λ c log. refl)
-        (λ n c g b calls e. ap (λ (v : Bool). list_any (is_contact h peer (suc n)) contacts || v)
-        (still_turned g b calls (stranger_is strange c g e) ∙ sym (still_aside c g calls e))) log
-
-  -- none of these contacts is between the ends of a flow of a stranger
-  module _ (f : Flow) (g : Host) (e : strange_end strange f ≡ Some g) where
-    none_called : (place : ℕ) (contacts : List Called)
-        → list_any (is_contact f.source f.destination place) (contacts_among strange contacts) ≡ false
-    none_called place [] = refl
-    none_called place (c ∷ contacts) = by (strange c.host) refl (strange c.peer) refl (none_called place contacts) where
-      apart : (a b z : Bool) → (a && b) ≡ false → (a && b && z) ≡ false
-      apart true true z is = absurd (cc)
-      apart true false z is = refl
-      apart false b z is = refl
-
-      by : (b : Bool) → strange c.host ≡ b → (d : Bool) → strange c.peer ≡ d
-          → list_any (is_contact f.source f.destination place) (contacts_among strange contacts) ≡ false
-          →
-          list_any (is_contact f.source f.destination place)
-          (if not b && not d then c ∷ contacts_among strange contacts else contacts_among strange contacts) ≡ false
-      by true off d other rest = rest
-      by false off true other rest = rest
-      by false off false other rest =
-          ap
-          (λ (b : Bool). b || list_any (is_contact f.source f.destination place) (contacts_among strange contacts))
-          (apart (same_host f.source c.host) (same_host f.destination c.peer) (c.place == place)
-          (ap (λ (b : Bool). b && same_host f.destination c.peer) (same_host-sym f.source c.host)
-          ∙ ap (λ (b : Bool). same_host c.host f.source && b) (same_host-sym f.destination c.peer)
-          ∙ other_ends c.host c.peer f g off other e)) ∙ rest
-
-    none_now : (contacts : List Called) (log : List Crossing)
-        → contacts_now (contacts_among strange contacts) f.source f.destination log ≡ false
-    none_now contacts [] = none_called 0 contacts
-    none_now contacts (c ∷ log) =
-        ap
-        (λ (b : Bool). b || still_contacts f.source f.destination c (contacts_now (contacts_among strange contacts)
-        f.source f.destination log)) (none_called (length (c ∷ log)) contacts)
-        ∙ ap (still_contacts f.source f.destination c) (none_now contacts log) ∙ still_none c where
-          still_none : (c : Crossing) → still_contacts f.source f.destination c false ≡ false
-          still_none (crossing.Out m) = refl
-          still_none c = refl
-
--- older crossings of such a log
-older_contacts : (contacts : List Called) (c : Crossing) (log : List Crossing) → AreContacts contacts (c ∷ log)
-    → AreContacts contacts log
-older_contacts contacts (crossing.Out m) log are = are.1
-older_contacts contacts c log are = are
-
-module _ (strange : Host → Bool) (hosts : List Host) (contacts : List Called) where
-  abbrev Are : List Crossing → Type 0
-  Are log = AreContacts (contacts_among strange contacts) log
-
-  more_contacts : (c : Crossing) (log : List Crossing) → Are (masked_log strange hosts (c ∷ log)) → Are log
-      → Are (c ∷ log)
-  more_contacts (crossing.Out m) log now rest = (by (strange_end strange m.flow) refl now, rest) where
-    by : (o : Option Host) → strange_end strange m.flow ≡ o
-        → Are (masked_as hosts o (crossing.Out m) (masked_log strange hosts log) ∷ masked_log strange hosts log)
-        → contacts_now (contacts_among strange contacts) m.flow.source m.flow.destination log ≡ true
-        → (m.flow.link.0 ≡ 0) × (orders_of m.text ≡ Legal command.Rst ∷ [])
-    by None e now calls =
-        now.0
-        (real_now strange m.flow.source m.flow.destination (end_none strange m.flow e).0
-        (end_none strange m.flow e).1 (contacts_among strange contacts) hosts log ∙ calls)
-    by (Some g) e now calls = absurd (let no : false ≡ true = sym (none_now strange m.flow g e contacts log)
-        ∙ calls in cc)
-  more_contacts c log now rest = rest
-
-  pub real_contacts : (log : List Crossing) → Are (masked_log strange hosts log) → Are log
-  real_contacts [] are = tt
-  real_contacts (c ∷ log) are =
-      more_contacts c log are
-      (real_contacts log
-      (older_contacts (contacts_among strange contacts)
-      (masked_as hosts (stranger_in strange c) c (masked_log strange hosts log)) (masked_log strange hosts log) are))
 
 -- ---- lives
 

@@ -37,7 +37,7 @@ module _ (orders : Orders) (logs : MaskedLogs) (strange : Host → Bool) (hosts 
     by false e =
         let none : program x.host (masked_moments strange hosts moments) ≡ opening_state x.host =
         masked_program orders strange hosts x.host moments off mixed
-        ∙ ap (without_strangers strange) (idle orders strange hosts x.host off moments mixed e) in
+        ∙ ap (without_strangers strange) (idle strange hosts x.host off moments mixed e) in
         absurd (let clash : [] ≡ o.end ∷ [] = sym
         (ap (λ (s : NcpState). mine_on x.socket (pair_with x.peer s.peers).entries) none) ∙ o.one in cc)
 

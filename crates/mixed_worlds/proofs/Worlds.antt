@@ -1,5 +1,7 @@
 -- The book of a world with strangers.
-use Rattle.mixed_worlds.proofs.Common.{◌≡◌, Bool, true, false, List, length, subst, sym, Contains, Host, Crossing, safe_messages, ClosesWhole, IsBeside, SafeBook, receives, sends, Life, IsMixed, Kept, Moment, crossings_of, beside_among, contacts_among, lives_among, mixed_kept, IsRun, JoinedBook, FormedBook, IsBacked, ToldAmong, HasAsked, IsCarried}
+use Rattle.mixed_worlds.proofs.Common.{◌≡◌, Bool, true, false, List, length, subst, sym, Contains, Host, Crossing, safe_messages, ClosesWhole, IsBeside, SafeBook, receives, sends, Life, IsMixed, Kept, Moment, crossings_of, beside_among, contacts_among, lives_among, mixed_kept, IsRun, FormedBook, ToldAmong, HasAsked, IsCarried}
+use Rattle.promise.specs.Connections.{JoinedBook}
+use Rattle.net_sim.specs.Reports.{IsBacked}
 use Rattle.interface.proofs.lemmas.{run_below}
 use Rattle.interface.specs.Calls.{Seen}
 use Rattle.promise.specs.Ends.{AreContacts, AreLeft}

@@ -38,7 +38,7 @@ use Rattle.world_keeps_streams.specs.Settled.{EachAgrees}
 use Rattle.world_keeps_streams.specs.Within.{CountNothingLater}
 use Rattle.mixed_worlds.specs.Arrived.{ArrivedAmong}
 use Rattle.mixed_worlds.specs.Book.{beside_among, book_among, contacts_among, lives_among, mixed_kept}
-use Rattle.mixed_worlds.specs.Ends.{HasSome}
+use Rattle.world_keeps_lives.specs.SomeEnd.{HasSome}
 use Rattle.mixed_worlds.specs.Promised.{Promises}
 use Rattle.mixed_worlds.specs.Told.{ToldAmong}
 use Rattle.mixed_worlds.specs.Toward.{AreOnce, HasAsked, IsCarried, ReportsData}

@@ -1,5 +1,4 @@
 pub mod Promised
-pub mod Ends
 pub mod Book
 pub mod Arrived
 pub mod Laws

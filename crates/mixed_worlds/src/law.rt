@@ -33,7 +33,6 @@ ghost use Rattle.mixed_worlds.specs.Laws.{Among, AsArrived, HaveSettled, Toward,
 use interface::Carrier;
 use masked_worlds::law::{masked, masked_logs};
 use net_sim::law::orders;
-use world_keeps_connections::law as connections;
 use world_keeps_lives::law::programs;
 use world_keeps_streams::law as streams;
 
@@ -46,7 +45,6 @@ pub fn among()
     orders();
     programs();
     streams::lives();
-    connections::lives();
 }
 
 /// A host with a program, toward strangers and all others.

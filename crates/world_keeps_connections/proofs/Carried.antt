@@ -106,11 +106,13 @@ module _ (origin : ℕ → ℕ) (own foreign : ℕ) where
       by false away = stays x y k (data_told_same origin own foreign s m stamp k mine away) (message_data origin own foreign s m stamp x mine away h) j knows
 
   -- of each peer: only what it says itself has to have RST and RRP by themselves
-  pub message_carries : (s : NcpState) (m : HostMessage) (stamp : ℕ) → same_host s.own m.flow.destination ≡ true → (p : Host) → (same_host p m.flow.source ≡ true → IsApart m.flow.link.0 m.text (message_on m.flow.link.0 m.text))
+  pub message_carries : (s : NcpState) (m : HostMessage) (stamp : ℕ) → same_host s.own m.flow.destination ≡ true
+      → (p : Host) → (same_host p m.flow.source ≡ true → IsApart m.flow.link.0 m.text (message_on m.flow.link.0 m.text))
       → (x y : End) (k : List Life) → (same_host p m.flow.source ≡ true → Fitting s m stamp x) → HasEnd origin own foreign (pair_with p s.peers) x
       → HasEnd origin own foreign (pair_with p (accepted s (inbound.Message m) stamp).0.peers) y → Knows k x → Knows (all_known origin p own foreign (accepted s (inbound.Message m) stamp).1 k) y
   message_carries s m stamp mine p apart x y k fit h j knows = by (same_host p m.flow.source) refl where
-    by : (b : Bool) → same_host p m.flow.source ≡ b → Knows (all_known origin p own foreign (accepted s (inbound.Message m) stamp).1 k) y
+    by : (b : Bool) → same_host p m.flow.source ≡ b
+        → Knows (all_known origin p own foreign (accepted s (inbound.Message m) stamp).1 k) y
     by true e =
         let is : p ≡ m.flow.source = same_host-true p m.flow.source e in
         subst (λ (g : Host). Knows (all_known origin g own foreign (accepted s (inbound.Message m) stamp).1 k) y) (sym is)

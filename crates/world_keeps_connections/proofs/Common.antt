@@ -14,7 +14,7 @@ pub use Rattle.net_sim.proofs.lemmas.{Coupled}
 pub use Rattle.net_sim.specs.Clean.{HaveAddresses, IsLawful}
 pub use Rattle.net_sim.specs.Reports.{IsBacked}
 pub use Rattle.net_sim.specs.Story.{Asked, Crossed, Moment}
-pub use Rattle.net_sim.specs.Timeline.{IsTimeline, crossings_of}
+pub use Rattle.net_sim.specs.Timeline.{crossings_of}
 pub use Rattle.net_sim.specs.World.{WorldState}
 pub use Rattle.pairing_law.specs.Ends.{End}
 pub use Rattle.pairing_law.specs.Links.{Sockets}

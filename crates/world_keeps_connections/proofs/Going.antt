@@ -1,6 +1,7 @@
 -- Each life of the book that continues is known to its user.
-use Rattle.world_keeps_connections.proofs.Common.{◌≡◌, ℕ, Bool, true, false, ◌&&◌, ◌==◌, if◌then◌else◌, List, [], ◌∷◌, refl, sym, subst, ◌∙◌, eq-eqb, arith, Contains, Host, same_host, Crossing, same_host-refl, same_host-true, Notice, Request, IsIn, all_known, Moment, Crossed, Asked, IsTimeline, crossings_of, is_between, life_of, known_in}
-use Rattle.std.proofs.Common.{inl, inr, zero, suc, ◌<◌, not, ◌++◌, length, get_or}
+use Rattle.world_keeps_connections.proofs.Common.{◌≡◌, ℕ, Bool, true, false, ◌&&◌, ◌==◌, if◌then◌else◌, List, [], ◌∷◌, refl, sym, subst, ◌∙◌, eq-eqb, arith, Contains, Host, same_host, Crossing, same_host-refl, same_host-true, Notice, Request, IsIn, all_known, Moment, Crossed, Asked, crossings_of, is_between, life_of, known_in}
+use Rattle.net_sim.specs.Timeline.{IsTimeline}
+use Rattle.std.proofs.Common.{inl, inr, zero, suc, ◌<◌, not, ◌++◌, length, get_or, ap}
 use Rattle.std.proofs.lemmas.Bool.{eqb-true}
 use Rattle.interface.specs.Mailboxes as mail
 use Rattle.interface.specs.declared.crossing.Crossing.TheVariants as crossing
@@ -9,9 +10,11 @@ use Rattle.host_pairs.proofs.lemmas.{both}
 use Rattle.sockets.specs.declared.request.Request.TheVariants as request
 use Rattle.pairing_law.specs.Sides.{Life}
 use Rattle.host_keeps_pairing.specs.Known.{known_after}
-use Rattle.net_sim.specs.Book.{Kept, all_told, carried, changed_when, life_ended, granted, lives_asked, lives_at, lives_between, lives_on, lives_told, lives_with, new_life, returned, book_told, where_it}
+use Rattle.net_sim.specs.Book.{Kept, all_told, carried, changed_when, crossed, life_ended, granted, lives_asked, lives_at, lives_between, lives_on, lives_told, lives_with, new_life, returned, book_told, where_it}
 use Rattle.promise.specs.declared.life.Life as book
-use Rattle.net_sim.specs.Told.{kept_by, kept_in, notices_by}
+use Rattle.net_sim.specs.Mixed.{Happened, mixed_kept}
+use Rattle.net_sim.specs.Told.{host_in, kept_by, notices_by}
+use Rattle.reset_law.specs.Network.{Network}
 use Rattle.interface.proofs.lemmas.{not_true, unlike}
 use Rattle.world_keeps_pairing.proofs.lemmas.{and_never}
 
@@ -158,16 +161,14 @@ module _ (origin : ℕ → ℕ) (h p : Host) (own foreign : ℕ) where
 
   -- ---- moments
 
-  abbrev Lives_in : List Moment → List book.Life
-  Lives_in moments = (kept_in moments).book.lives
-
   abbrev known : List Moment → List Life
   known moments = known_in origin h p own foreign moments
 
   -- a host that is down has no lives
-  pub record Follows (hosts : List Host) (moments : List Moment) : Type 0 where
-    pub are : AreKnown (known_in origin h p own foreign moments) (kept_in moments).book.lives
-    pub idle : mail.is_up hosts h (crossings_of moments) ≡ false → AreKnown [] (kept_in moments).book.lives
+  pub record Follows (hosts : Network) (moments : List Moment) : Type 0 where
+    pub are : AreKnown (known_in origin h p own foreign moments) (mixed_kept hosts.strange moments).book.lives
+    pub idle : mail.is_up hosts.all h (crossings_of moments) ≡ false
+        → AreKnown [] (mixed_kept hosts.strange moments).book.lives
 
   -- something is done by a host that is up
   acts : (hosts : List Host) (g : Host) (ns : List Notice) (k : List Life) (kept : Kept) (log : List Crossing) → mail.is_up hosts g log ≡ true → AreKnown k kept.book.lives → (mail.is_up hosts h log ≡ false → AreKnown [] kept.book.lives)
@@ -177,51 +178,85 @@ module _ (origin : ℕ → ℕ) (h p : Host) (own foreign : ℕ) where
     off down true e = absurd (unlike (mail.is_up hosts h log) (subst (λ (y : Host). mail.is_up hosts y log ≡ true) (sym (same_host-true h g e)) up) down)
     off down false e = all_told_by g false e ns [] kept (idle down)
 
-  down_follows : (hosts : List Host) (g : Host) (moments : List Moment) → Follows hosts moments → Follows hosts (Crossed (crossing.Down g) ∷ moments)
-  down_follows hosts g moments old = record { are = down_by g (known moments) (Lives_in moments) old.are (same_host h g) refl; idle = off (same_host h g) refl } where
-    off : (c : Bool) → same_host h g ≡ c → (if c then false else mail.is_up hosts h (crossings_of moments)) ≡ false → AreKnown [] (where_it (lives_on g) life_ended (Lives_in moments))
-    off true f down = down_by g (known moments) (Lives_in moments) old.are true f
-    off false f down = down_by g [] (Lives_in moments) (old.idle down) false f
+  module _ (hosts : Network) (plain : hosts.strange h ≡ false) where
+    -- what a stranger does is nothing to this host
+    away : (g : Host) → hosts.strange g ≡ true → (b : Bool) → same_host h g ≡ b → b ≡ false
+    away g on true e = absurd (unlike (hosts.strange g) on (subst (λ (y : Host). hosts.strange y ≡ false) (same_host-true h g e) plain))
+    away g on false e = refl
 
-  -- a host that starts was down
-  up_follows : (hosts : List Host) (g : Host) (moments : List Moment) → mail.is_up hosts g (crossings_of moments) ≡ false → Follows hosts moments → Follows hosts (Crossed (crossing.Up g) ∷ moments)
-  up_follows hosts g moments was old = record { are = on (same_host h g) refl; idle = off (same_host h g) refl } where
-    on : (b : Bool) → same_host h g ≡ b → AreKnown (if b then [] else known moments) (Lives_in moments)
-    on true e = old.idle (subst (λ (y : Host). mail.is_up hosts y (crossings_of moments) ≡ false) (sym (same_host-true h g e)) was)
-    on false e = old.are
+    acts_among : (g : Host) (ns : List Notice) (k : List Life) (kept only : Kept) (log : List Crossing) → (hosts.strange g ≡ false → mail.is_up hosts.all g log ≡ true) → AreKnown k kept.book.lives → (mail.is_up hosts.all h log ≡ false → AreKnown [] kept.book.lives)
+        → AreKnown k only.book.lives → (mail.is_up hosts.all h log ≡ false → AreKnown [] only.book.lives)
+        → AreKnown (if same_host h g then all_known origin p own foreign ns k else k) (if hosts.strange g then only else all_told g ns kept).book.lives
+        × (mail.is_up hosts.all h log ≡ false → AreKnown [] (if hosts.strange g then only else all_told g ns kept).book.lives)
+    acts_among g ns k kept only log up known idle old was = by (hosts.strange g) refl where
+      by : (b : Bool) → hosts.strange g ≡ b → AreKnown (if same_host h g then all_known origin p own foreign ns k else k) (if b then only else all_told g ns kept).book.lives
+          × (mail.is_up hosts.all h log ≡ false → AreKnown [] (if b then only else all_told g ns kept).book.lives)
+      by true on = (subst (λ (c : Bool). AreKnown (if c then all_known origin p own foreign ns k else k) only.book.lives) (sym (away g on (same_host h g) refl)) old, was)
+      by false off = acts hosts.all g ns k kept log (up off) known idle
 
-    off : (b : Bool) → same_host h g ≡ b → (if b then true else mail.is_up hosts h (crossings_of moments)) ≡ false → AreKnown [] (Lives_in moments)
-    off true e down = absurd (let r : true ≡ false = down in cc)
-    off false e down = old.idle down
+    -- at a stop and a start the same is kept of all
+    outage_kept : (c : Crossing) (moments : List Moment) → notices_by (Crossed c) moments ≡ [] → (mixed_kept hosts.strange (Crossed c ∷ moments)).book.lives ≡ (crossed c (mixed_kept hosts.strange moments)).book.lives
+    outage_kept c moments none = by (hosts.strange (host_in (Crossed c))) where
+      by : (b : Bool) → (if b then crossed c (mixed_kept hosts.strange moments) else all_told (host_in (Crossed c)) (notices_by (Crossed c) moments) (crossed c (mixed_kept hosts.strange moments))).book.lives ≡ (crossed c (mixed_kept hosts.strange moments)).book.lives
+      by true = refl
+      by false = ap (λ (ns : List Notice). (all_told (host_in (Crossed c)) ns (crossed c (mixed_kept hosts.strange moments))).book.lives) none
 
-  pub follows : (hosts : List Host) (moments : List Moment) → mail.IsRun hosts (crossings_of moments) → IsTimeline hosts moments → Follows hosts moments
-  follows hosts [] run time = record { are = tt; idle = λ down. tt }
-  follows hosts (Crossed (crossing.Out m) ∷ moments) run time =
-      let old : Follows hosts moments = follows hosts moments run.1 time.1 in
-      let r : AreKnown (if same_host h m.flow.source then all_known origin p own foreign (notices_by (Crossed (crossing.Out m)) moments) (known moments) else known moments) (Lives_in (Crossed (crossing.Out m) ∷ moments))
-      × (mail.is_up hosts h (crossings_of moments) ≡ false → AreKnown [] (Lives_in (Crossed (crossing.Out m) ∷ moments))) =
-      acts hosts m.flow.source (notices_by (Crossed (crossing.Out m)) moments) (known moments) (kept_by (Crossed (crossing.Out m)) (kept_in moments)) (crossings_of moments) run.0.0 old.are old.idle in
-      record { are = r.0; idle = r.1 }
-  follows hosts (Crossed (crossing.In m) ∷ moments) run time =
-      let old : Follows hosts moments = follows hosts moments run.1 time.1 in
-      let r : AreKnown (if same_host h m.flow.destination then all_known origin p own foreign (notices_by (Crossed (crossing.In m)) moments) (known moments) else known moments) (Lives_in (Crossed (crossing.In m) ∷ moments))
-      × (mail.is_up hosts h (crossings_of moments) ≡ false → AreKnown [] (Lives_in (Crossed (crossing.In m) ∷ moments))) =
-      acts hosts m.flow.destination (notices_by (Crossed (crossing.In m)) moments) (known moments) (kept_by (Crossed (crossing.In m)) (kept_in moments)) (crossings_of moments) run.0.0 old.are old.idle in
-      record { are = r.0; idle = r.1 }
-  follows hosts (Crossed (crossing.Answer kind f) ∷ moments) run time =
-      let old : Follows hosts moments = follows hosts moments run.1 time.1 in
-      let r : AreKnown (if same_host h f.source then all_known origin p own foreign (notices_by (Crossed (crossing.Answer kind f)) moments) (known moments) else known moments) (Lives_in (Crossed (crossing.Answer kind f) ∷ moments))
-      × (mail.is_up hosts h (crossings_of moments) ≡ false → AreKnown [] (Lives_in (Crossed (crossing.Answer kind f) ∷ moments))) =
-      acts hosts f.source (notices_by (Crossed (crossing.Answer kind f)) moments) (known moments) (kept_by (Crossed (crossing.Answer kind f)) (kept_in moments)) (crossings_of moments) run.0.0 old.are old.idle in
-      record { are = r.0; idle = r.1 }
-  follows hosts (Crossed (crossing.Down g) ∷ moments) run time = down_follows hosts g moments (follows hosts moments run.1 time.1)
-  follows hosts (Crossed (crossing.Up g) ∷ moments) run time = up_follows hosts g moments run.0.1 (follows hosts moments run.1 time.1)
-  follows hosts (Asked g r ∷ moments) run time =
-      let old : Follows hosts moments = follows hosts moments run time.1 in
-      let next : AreKnown (if same_host h g then all_known origin p own foreign (notices_by (Asked g r) moments) (known moments) else known moments) (Lives_in (Asked g r ∷ moments))
-      × (mail.is_up hosts h (crossings_of moments) ≡ false → AreKnown [] (Lives_in (Asked g r ∷ moments))) =
-      acts hosts g (notices_by (Asked g r) moments) (known moments) (kept_by (Asked g r) (kept_in moments)) (crossings_of moments) time.0.0 (asked_known g r (known moments) (Lives_in moments) old.are) (λ down. asked_known g r [] (Lives_in moments) (old.idle down)) in
-      record { are = next.0; idle = next.1 }
+    down_follows : (g : Host) (moments : List Moment) → Follows hosts moments
+        → Follows hosts (Crossed (crossing.Down g) ∷ moments)
+    down_follows g moments old = record {
+      are = subst (λ (lives : List book.Life). AreKnown (if same_host h g then [] else known moments) lives) (sym (outage_kept (crossing.Down g) moments refl)) (down_by g (known moments) (mixed_kept hosts.strange moments).book.lives old.are (same_host h g) refl);
+      idle = λ down. subst (λ (lives : List book.Life). AreKnown [] lives) (sym (outage_kept (crossing.Down g) moments refl)) (off (same_host h g) refl down);
+    } where
+      off : (c : Bool) → same_host h g ≡ c → (if c then false else mail.is_up hosts.all h (crossings_of moments)) ≡ false → AreKnown [] (where_it (lives_on g) life_ended (mixed_kept hosts.strange moments).book.lives)
+      off true f down = down_by g (known moments) (mixed_kept hosts.strange moments).book.lives old.are true f
+      off false f down = down_by g [] (mixed_kept hosts.strange moments).book.lives (old.idle down) false f
+
+    -- a host that starts was down
+    up_follows : (g : Host) (moments : List Moment) → mail.is_up hosts.all g (crossings_of moments) ≡ false
+        → Follows hosts moments → Follows hosts (Crossed (crossing.Up g) ∷ moments)
+    up_follows g moments was old = record {
+      are = subst (λ (lives : List book.Life). AreKnown (if same_host h g then [] else known moments) lives) (sym (outage_kept (crossing.Up g) moments refl)) (on (same_host h g) refl);
+      idle = λ down. subst (λ (lives : List book.Life). AreKnown [] lives) (sym (outage_kept (crossing.Up g) moments refl)) (off (same_host h g) refl down);
+    } where
+      on : (b : Bool) → same_host h g ≡ b
+          → AreKnown (if b then [] else known moments) (mixed_kept hosts.strange moments).book.lives
+      on true e = old.idle (subst (λ (y : Host). mail.is_up hosts.all y (crossings_of moments) ≡ false) (sym (same_host-true h g e)) was)
+      on false e = old.are
+
+      off : (b : Bool) → same_host h g ≡ b → (if b then true else mail.is_up hosts.all h (crossings_of moments)) ≡ false
+          → AreKnown [] (mixed_kept hosts.strange moments).book.lives
+      off true e down = absurd (let r : true ≡ false = down in cc)
+      off false e down = old.idle down
+
+    -- a message or an answer crosses
+    crossed_follows : (c : Crossing) (ns : List Notice) (moments : List Moment) → mail.is_up hosts.all (host_in (Crossed c)) (crossings_of moments) ≡ true → (crossed c (mixed_kept hosts.strange moments)).book.lives ≡ (mixed_kept hosts.strange moments).book.lives → Follows hosts moments
+        → AreKnown (if same_host h (host_in (Crossed c)) then all_known origin p own foreign ns (known moments) else known moments) (if hosts.strange (host_in (Crossed c)) then crossed c (mixed_kept hosts.strange moments) else all_told (host_in (Crossed c)) ns (crossed c (mixed_kept hosts.strange moments))).book.lives
+        × (mail.is_up hosts.all h (crossings_of moments) ≡ false → AreKnown [] (if hosts.strange (host_in (Crossed c)) then crossed c (mixed_kept hosts.strange moments) else all_told (host_in (Crossed c)) ns (crossed c (mixed_kept hosts.strange moments))).book.lives)
+    crossed_follows c ns moments up same old =
+        let are : AreKnown (known moments) (crossed c (mixed_kept hosts.strange moments)).book.lives = subst (λ (lives : List book.Life). AreKnown (known moments) lives) (sym same) old.are in
+        let idle : mail.is_up hosts.all h (crossings_of moments) ≡ false → AreKnown [] (crossed c (mixed_kept hosts.strange moments)).book.lives =
+        λ down. subst (λ (lives : List book.Life). AreKnown [] lives) (sym same) (old.idle down) in
+        acts_among (host_in (Crossed c)) ns (known moments) (crossed c (mixed_kept hosts.strange moments)) (crossed c (mixed_kept hosts.strange moments)) (crossings_of moments) (λ off. up) are idle are idle
+
+    pub follows : (moments : List Moment) → mail.IsRun hosts.all (crossings_of moments) → Happened hosts moments
+        → Follows hosts moments
+    follows [] run time = record { are = tt; idle = λ down. tt }
+    follows (Crossed (crossing.Out m) ∷ moments) run time =
+        let r = crossed_follows (crossing.Out m) (notices_by (Crossed (crossing.Out m)) moments) moments run.0.0 refl (follows moments run.1 time.1) in
+        record { are = r.0; idle = r.1 }
+    follows (Crossed (crossing.In m) ∷ moments) run time =
+        let r = crossed_follows (crossing.In m) (notices_by (Crossed (crossing.In m)) moments) moments run.0.0 refl (follows moments run.1 time.1) in
+        record { are = r.0; idle = r.1 }
+    follows (Crossed (crossing.Answer kind f) ∷ moments) run time =
+        let r = crossed_follows (crossing.Answer kind f) (notices_by (Crossed (crossing.Answer kind f)) moments) moments run.0.0 refl (follows moments run.1 time.1) in
+        record { are = r.0; idle = r.1 }
+    follows (Crossed (crossing.Down g) ∷ moments) run time = down_follows g moments (follows moments run.1 time.1)
+    follows (Crossed (crossing.Up g) ∷ moments) run time = up_follows g moments run.0.1 (follows moments run.1 time.1)
+    follows (Asked g r ∷ moments) run time =
+        let old : Follows hosts moments = follows moments run time.1 in
+        let next = acts_among g (notices_by (Asked g r) moments) (known moments) (kept_by (Asked g r) (mixed_kept hosts.strange moments)) (mixed_kept hosts.strange moments) (crossings_of moments) (λ off. (time.0 off).0)
+        (asked_known g r (known moments) (mixed_kept hosts.strange moments).book.lives old.are) (λ down. asked_known g r [] (mixed_kept hosts.strange moments).book.lives (old.idle down)) old.are old.idle in
+        record { are = next.0; idle = next.1 }
 
   -- ---- one of the lives
 
@@ -230,7 +265,7 @@ module _ (origin : ℕ → ℕ) (h p : Host) (own foreign : ℕ) where
   at_place x zero k (y ∷ xs) lt e g known = subst (λ (z : book.Life). goes z ≡ true → IsIn (life_of origin z) k) e known.0 g
   at_place x (suc n) k (y ∷ xs) lt e g known = at_place x n k xs (omega (arith, lt)) e g known.1
 
-  pub life_known : (hosts : List Host) (moments : List Moment) → mail.IsRun hosts (crossings_of moments) → IsTimeline hosts moments → (x : book.Life) → Contains (kept_in moments).book.lives x → is_between h p own foreign x ≡ true → x.ended ≡ false
+  pub life_known : (hosts : Network) (moments : List Moment) → mail.IsRun hosts.all (crossings_of moments) → Happened hosts moments → hosts.strange h ≡ false → (x : book.Life) → Contains (mixed_kept hosts.strange moments).book.lives x → is_between h p own foreign x ≡ true → x.ended ≡ false
       → IsIn (life_of origin x) (known_in origin h p own foreign moments)
-  life_known hosts moments run time x there between on =
-      at_place x there.0 (known_in origin h p own foreign moments) (kept_in moments).book.lives there.1 there.2 (rw (between, on) refl) (follows hosts moments run time).are
+  life_known hosts moments run time plain x there between on =
+      at_place x there.0 (known_in origin h p own foreign moments) (mixed_kept hosts.strange moments).book.lives there.1 there.2 (rw (between, on) refl) (follows hosts plain moments run time).are

@@ -69,7 +69,8 @@ module _ (s : Sockets) (is_pair : IsPair s) (who : Who) (h p : Host) (origin : �
   in_knows hosts m moments ours story run hears t next knows =
       turn_if (same_host h m.flow.destination) (accepted (program h moments) (inbound.Message m) (places moments)).0 (program h moments) (all_known origin p (own_of who s) (foreign_of who s) (accepted (program m.flow.destination moments) (inbound.Message m) (places moments)).1 (known moments)) (known moments)
       (end_of moments) (end_of (Crossed (crossing.In m) ∷ moments)) here t next knows where
-        our : same_host h m.flow.destination ≡ true → same_host p m.flow.source ≡ true → AreOurs hosts m.flow.source m.flow.destination
+        our : same_host h m.flow.destination ≡ true → same_host p m.flow.source ≡ true
+            → AreOurs hosts m.flow.source m.flow.destination
         our e f = (subst (λ (y : Host). hosts.strange y ≡ false) (same_host-true p m.flow.source f) ours.1, subst (λ (y : Host). hosts.strange y ≡ false) (same_host-true h m.flow.destination e) ours.0)
 
         fits : same_host h m.flow.destination ≡ true → same_host p m.flow.source ≡ true → Fitting origin (own_of who s) (foreign_of who s) (program h moments) m (places moments) (end_of moments)
@@ -85,25 +86,35 @@ module _ (s : Sockets) (is_pair : IsPair s) (who : Who) (h p : Host) (origin : �
             (message_carries origin (own_of who s) (foreign_of who s) (program h moments) m (places moments) mine p (λ f. story.0 (our e f)) (end_of moments) (end_of (Crossed (crossing.In m) ∷ moments)) (known moments) (fits e) t has knows)
 
   -- each moment
-  known_turn : (hosts : Network) (x : Moment) (moments : List Moment) → AreOurs hosts h p → IsStory hosts (x ∷ moments) → IsRun hosts (events_of (x ∷ moments)) → AreServed hosts (x ∷ moments)
+  known_turn : (hosts : Network) (x : Moment) (moments : List Moment) → AreOurs hosts h p → IsStory hosts (x ∷ moments)
+      → IsRun hosts (events_of (x ∷ moments)) → AreServed hosts (x ∷ moments)
       → ((m : HostMessage) (our : AreOurs hosts m.flow.source m.flow.destination) (story : IsStory hosts (Crossed (crossing.In m) ∷ moments)) (run : IsRun hosts (events_of (Crossed (crossing.In m) ∷ moments))) → x ≡ Crossed (crossing.In m) → same_host h m.flow.destination ≡ true → same_host p m.flow.source ≡ true
       → Hears s is_pair who origin hosts m moments our story run × IsFrom s is_pair who origin hosts m moments our story run)
       → Tie s is_pair who h p origin moments → Tie s is_pair who h p origin (x ∷ moments) → IsKnown moments → IsKnown (x ∷ moments)
-  known_turn hosts (Crossed (crossing.Out m)) moments ours story run served hears t next knows = out_knows hosts m moments ours.0 story t next knows
-  known_turn hosts (Crossed (crossing.In m)) moments ours story run served hears t next knows = in_knows hosts m moments ours story run (λ our. hears m our story run refl) t next knows
-  known_turn hosts (Crossed (crossing.Answer kind f)) moments ours story run served hears t next knows = answer_knows kind f moments t next knows
-  known_turn hosts (Crossed (crossing.Down g)) moments ours story run served hears t next knows = outage_knows g moments (end_of (Crossed (crossing.Down g) ∷ moments)) t next knows
-  known_turn hosts (Crossed (crossing.Up g)) moments ours story run served hears t next knows = outage_knows g moments (end_of (Crossed (crossing.Up g) ∷ moments)) t next knows
+  known_turn hosts (Crossed (crossing.Out m)) moments ours story run served hears t next knows =
+      out_knows hosts m moments ours.0 story t next knows
+  known_turn hosts (Crossed (crossing.In m)) moments ours story run served hears t next knows =
+      in_knows hosts m moments ours story run (λ our. hears m our story run refl) t next knows
+  known_turn hosts (Crossed (crossing.Answer kind f)) moments ours story run served hears t next knows =
+      answer_knows kind f moments t next knows
+  known_turn hosts (Crossed (crossing.Down g)) moments ours story run served hears t next knows =
+      outage_knows g moments (end_of (Crossed (crossing.Down g) ∷ moments)) t next knows
+  known_turn hosts (Crossed (crossing.Up g)) moments ours story run served hears t next knows =
+      outage_knows g moments (end_of (Crossed (crossing.Up g) ∷ moments)) t next knows
   known_turn hosts (Asked g r) moments ours story run served hears t next knows =
       asked_knows g r moments (λ e. (served.0 (subst (λ (y : Host). hosts.strange y ≡ false) (same_host-true h g e) ours.0)).0) t next knows
 
 -- all pairs of hosts with programs, one way and the other
 pub record AllKnown (hosts : Network) (origin : Host → Host → ℕ → ℕ) (moments : List Moment) : Type 0 where
-  pub receiver : (s : Sockets) (q : IsPair s) (a b : Host) → AreOurs hosts a b → IsKnown s q Receiver a b (origin a b) moments
-  pub sender : (s : Sockets) (q : IsPair s) (a b : Host) → AreOurs hosts a b → IsKnown s q Sender b a (origin b a) moments
+  pub receiver : (s : Sockets) (q : IsPair s) (a b : Host) → AreOurs hosts a b
+      → IsKnown s q Receiver a b (origin a b) moments
+  pub sender : (s : Sockets) (q : IsPair s) (a b : Host) → AreOurs hosts a b
+      → IsKnown s q Sender b a (origin b a) moments
 
-pub all_known_at : (hosts : Network) (origin : Host → Host → ℕ → ℕ) (moments : List Moment) → AreOrigins origin moments → IsStory hosts moments → IsRun hosts (events_of moments) → AreServed hosts moments → AllKnown hosts origin moments
-all_known_at hosts origin [] from story run served = record { receiver = λ s q a b ours. tt; sender = λ s q a b ours. tt }
+pub all_known_at : (hosts : Network) (origin : Host → Host → ℕ → ℕ) (moments : List Moment) → AreOrigins origin moments
+    → IsStory hosts moments → IsRun hosts (events_of moments) → AreServed hosts moments → AllKnown hosts origin moments
+all_known_at hosts origin [] from story run served =
+    record { receiver = λ s q a b ours. tt; sender = λ s q a b ours. tt }
 all_known_at hosts origin (x ∷ moments) from story run served =
     let below : AreServed hosts moments = served_below hosts x moments served in
     let old : AllKnown hosts origin moments = all_known_at hosts origin moments from.1 story.1 run.2 below in

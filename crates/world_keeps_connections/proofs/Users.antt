@@ -18,7 +18,8 @@ known hosts moments addresses run time =
     let c : Coupled hosts moments = coupled hosts addresses moments run time in
     all_known_at hosts (origin_in (crossings_of moments)) moments (are_origins 0 (crossings_of moments) [] moments refl) c.story c.run (served_in hosts moments time)
 
-tied : (hosts : Network) (moments : List Moment) → HaveAddresses hosts.all → mail.IsRun hosts.all (crossings_of moments) → Happened hosts moments → AllTied hosts (origin_in (crossings_of moments)) moments
+tied : (hosts : Network) (moments : List Moment) → HaveAddresses hosts.all → mail.IsRun hosts.all (crossings_of moments)
+    → Happened hosts moments → AllTied hosts (origin_in (crossings_of moments)) moments
 tied hosts moments addresses run time =
     let c : Coupled hosts moments = coupled hosts addresses moments run time in
     all_tied hosts (origin_in (crossings_of moments)) moments (are_origins 0 (crossings_of moments) [] moments refl) c.story c.run (served_in hosts moments time)

@@ -17,10 +17,9 @@ use Rattle.promise.specs.Connections.{IsConnected, JoinedBook}
 use Rattle.promise.specs.Safe.{Match, receives, sends}
 use Rattle.promise.specs.declared.life.Life as book
 use Rattle.net_sim.specs.Clean.{HaveAddresses, IsLawful}
-use Rattle.net_sim.specs.Mixed.{Happened}
+use Rattle.net_sim.specs.Mixed.{Happened, mixed_kept}
 use Rattle.net_sim.specs.Story.{Asked, Crossed, Moment}
-use Rattle.net_sim.specs.Timeline.{crossings_of, IsTimeline}
-use Rattle.net_sim.specs.Told.{kept_in}
+use Rattle.net_sim.specs.Timeline.{crossings_of}
 use Rattle.net_sim.specs.WorkedMoments.{connected}
 use Rattle.net_sim.specs.World.{WorldState}
 use Rattle.world_keeps_pairing.specs.Free.{law_events, origin_in}
@@ -53,19 +52,21 @@ pub record Users : Type 0 where
       IsIn x (known_in (origin_in (crossings_of moments) a b) a b s.receive s.send moments) →
       IsIn y (known_in (origin_in (crossings_of moments) b a) b a s.send s.receive moments) → ArePartners x y
 
--- The lives of the book that continue, over any list of moments of a world.
+-- The lives of the book that continue, over any list of moments of a network, whatever its strangers do.
 pub record Lives : Type 0 where
   -- each is an opening that the user of its host knows of
   pub known :
-      (hosts : List Host) (moments : List Moment) → mail.IsRun hosts (crossings_of moments) → IsTimeline hosts moments →
-      (origin : ℕ → ℕ) (x : book.Life) → Contains (kept_in moments).book.lives x → x.ended ≡ false →
+      (hosts : Network) (moments : List Moment) → mail.IsRun hosts.all (crossings_of moments) → Happened hosts moments →
+      (origin : ℕ → ℕ) (x : book.Life) → hosts.strange x.host ≡ false →
+      Contains (mixed_kept hosts.strange moments).book.lives x → x.ended ≡ false →
       IsIn (life_of origin x) (known_in origin x.host x.peer x.socket x.foreign moments)
-  -- so where a life that receives and one that sends continue at the two ends of the same sockets, they match: each has
-  -- the other's own request for its partner's
+  -- so where a life that receives and one that sends continue at the two ends of the same sockets, of two hosts with
+  -- programs, they match: each has the other's own request for its partner's
   pub matches :
-      (hosts : List Host) (moments : List Moment) → HaveAddresses hosts → mail.IsRun hosts (crossings_of moments) →
-      IsTimeline hosts moments → (receiver sender : book.Life) → Contains (kept_in moments).book.lives receiver →
-      Contains (kept_in moments).book.lives sender → receiver.ended ≡ false → sender.ended ≡ false →
+      (hosts : Network) (moments : List Moment) → HaveAddresses hosts.all → mail.IsRun hosts.all (crossings_of moments) →
+      Happened hosts moments → (receiver sender : book.Life) → AreOurs hosts receiver.host receiver.peer →
+      Contains (mixed_kept hosts.strange moments).book.lives receiver →
+      Contains (mixed_kept hosts.strange moments).book.lives sender → receiver.ended ≡ false → sender.ended ≡ false →
       AreOpposite receiver sender → receives receiver ≡ true → sends sender ≡ true →
       Match (crossings_of moments) receiver sender
 

@@ -1,8 +1,11 @@
 -- A life that begins has both requests in messages that crossed, and the link of its end.
-use Rattle.world_keeps_lives.proofs.Common.{◌≡◌, ◌⊎◌, inl, inr, ℕ, ◌==◌, Bool, true, false, ◌&&◌, if◌then◌else◌, List, [], ◌∷◌, filter, Some, refl, ap, sym, subst, ◌∙◌, eq-eqb, Contains, eqb-true, Host, Flow, is_receive_socket, is_mine_on, Entry, both, pair_with, HaveAddresses, HasCrossed, coming, going, request, receives, Moment, program, IsTimeline, crossings_of, kept_in, Life, HasOpenEnd, mine_on}
+use Rattle.world_keeps_lives.proofs.Common.{◌≡◌, ◌⊎◌, inl, inr, ℕ, ◌==◌, Bool, true, false, ◌&&◌, if◌then◌else◌, List, [], ◌∷◌, filter, Some, refl, ap, sym, subst, ◌∙◌, eq-eqb, Contains, eqb-true, Host, Flow, is_receive_socket, is_mine_on, Entry, both, pair_with, HaveAddresses, HasCrossed, coming, going, request, receives, Moment, program, crossings_of, Life, HasOpenEnd, mine_on}
 use Rattle.interface.specs.Mailboxes as mail
+use Rattle.reset_law.specs.Network.{AreOurs, Network}
+use Rattle.net_sim.specs.Mixed.{Happened, mixed_kept}
 use Rattle.world_keeps_lives.proofs.Facts.{no}
-use Rattle.world_keeps_lives.proofs.Laws.{live}
+use Rattle.world_keeps_lives.proofs.Laws.{live_end}
+use Rattle.world_keeps_lives.proofs.Sockets.{held}
 use Rattle.world_keeps_lives.proofs.Linked.{HasRequests, Linked}
 use Rattle.world_keeps_lives.proofs.Walk.Rules.{Each, each_filter, each_in, each_weaker}
 use Rattle.world_keeps_lives.proofs.Grounds.{Grounded, IsAnswered, IsAsked, Opens, grounds}
@@ -69,7 +72,8 @@ one_is P s es x one h = (
 
 -- ---- a life that begins has the link of its end
 
-module _ (hosts : List Host) (addresses : HaveAddresses hosts) (moments : List Moment) (run : mail.IsRun hosts (crossings_of moments)) (time : IsTimeline hosts moments) where
+module _ (hosts : Network) (addresses : HaveAddresses hosts.all) (moments : List Moment)
+    (run : mail.IsRun hosts.all (crossings_of moments)) (time : Happened hosts moments) where
   begun_by : (x : Life) → (o : HasOpenEnd (program x.host moments) x) → Grounded x.host x.peer (crossings_of moments) o.end × (is_mine_on x.socket o.end ≡ true) → Begun moments x
   begun_by x o g = by (is_receive_socket x.socket) refl where
     on : (o.end.mine ≡ true) × ((o.end.own == x.socket) ≡ true)
@@ -117,13 +121,14 @@ module _ (hosts : List Host) (addresses : HaveAddresses hosts) (moments : List M
       bound = tied answered.named (answered.link (ap is_receive_socket own ∙ r));
     }
 
-  pub begins : (x : Life) → Contains (kept_in moments).book.lives x → Opens x.host x.peer (crossings_of moments) x.socket x.foreign x.own_stamp x.partner_stamp → Begun moments x
-  begins x there o = by x.ended refl where
+  pub begins : (x : Life) → AreOurs hosts x.host x.peer → Contains (mixed_kept hosts.strange moments).book.lives x
+      → Opens x.host x.peer (crossings_of moments) x.socket x.foreign x.own_stamp x.partner_stamp → Begun moments x
+  begins x ours there o = by x.ended refl where
     by : (z : Bool) → x.ended ≡ z → Begun moments x
     by true f = record { link = o.link; asked = record { size = o.size; own = o.own; partner = o.partner }; bound = λ g. no x.ended f g }
     by false f =
-        let e : HasOpenEnd (program x.host moments) x = live hosts moments addresses run time x there f in
-        begun_by x e (one_is (Grounded x.host x.peer (crossings_of moments)) x.socket (pair_with x.peer (program x.host moments).peers).entries e.end e.one (grounds hosts addresses moments run time x.host x.peer))
+        let e : HasOpenEnd (program x.host moments) x = live_end (program x.host moments) (mixed_kept hosts.strange moments) x there f (held hosts addresses x.host ours.0 x.socket moments run time) in
+        begun_by x e (one_is (Grounded x.host x.peer (crossings_of moments)) x.socket (pair_with x.peer (program x.host moments).peers).entries e.end e.one (grounds hosts addresses moments run time x.host x.peer ours))
 
 -- ---- the flow of a message
 

@@ -14,6 +14,8 @@ use Rattle.world_keeps_lives.proofs.Facts.{no}
 use Rattle.world_keeps_lives.proofs.Walk.Rules.{Each, MayTell, each_weaker}
 use Rattle.world_keeps_lives.proofs.Walk.ByRules.{Ends, answer_keeps, message_keeps, offer_keeps, request_told}
 use Rattle.world_keeps_lives.proofs.Grounds.{Going, Grounded, Tells, flow_is, going_now, going_rules, grounded_hears, grounded_rules, grounds, still_grounded}
+use Rattle.reset_law.specs.Network.{all_ours}
+use Rattle.net_sim.proofs.lemmas.AllOurs.{happened}
 
 -- ---- data
 
@@ -71,7 +73,7 @@ bytes_told s stamp g e size count next = ap (λ (o : Option (Peer × Parcel)). (
 
 module _ (hosts : List Host) (addresses : HaveAddresses hosts) (moments : List Moment) (run : mail.IsRun hosts (crossings_of moments)) (time : IsTimeline hosts moments) where
   grounds_after : (a b : Host) (c : Crossing) → Ends (Grounded a b (c ∷ crossings_of moments)) b (program a moments)
-  grounds_after a b c = each_weaker (Grounded a b (crossings_of moments)) (Grounded a b (c ∷ crossings_of moments)) (pair_with b (program a moments).peers).entries (still_grounded a b c (crossings_of moments)) (grounds hosts addresses moments run time a b)
+  grounds_after a b c = each_weaker (Grounded a b (crossings_of moments)) (Grounded a b (c ∷ crossings_of moments)) (pair_with b (program a moments).peers).entries (still_grounded a b c (crossings_of moments)) (grounds (all_ours hosts) addresses moments run (happened hosts moments time) a b (refl, refl))
 
   -- a message with commands, an RST or an RRP goes out
   pub offer_told : (m : HostMessage) (n : IsNext (program m.flow.source moments) m) (z : Parcel) → next_in (program m.flow.source moments).peers ≡ Some (n.peer, z) → m ≡ message_for (program m.flow.source moments).own n.peer z
@@ -80,7 +82,7 @@ module _ (hosts : List Host) (addresses : HaveAddresses hosts) (moments : List M
       → Each (Tells m.flow.source m.flow.destination (crossing.Out m ∷ crossings_of moments)) (notices_by (Crossed (crossing.Out m)) moments)
   offer_told m n z next is may =
       (offer_keeps (Going a b log queue) (Tells a b log) b (going_rules a b log queue) (program a moments) (places moments) n.peer z n.order next (sym (ap (λ (x : HostMessage). x.flow.destination) is)) (queued_commands hosts moments addresses run time a b) may
-      (going_now hosts addresses moments run time a b log (grounds_after a b (crossing.Out m)))).told where
+      (going_now (all_ours hosts) addresses moments run (happened hosts moments time) a b (refl, refl) log (grounds_after a b (crossing.Out m)))).told where
         a : Host
         a = m.flow.source
 

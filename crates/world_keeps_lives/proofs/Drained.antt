@@ -22,6 +22,7 @@ use Rattle.world_keeps_lives.proofs.Laws.{holds, live, own_socket}
 use Rattle.world_keeps_lives.proofs.Owners.{owner_found}
 use Rattle.world_keeps_lives.proofs.Pairs.{IsPair, IsUnsent, Later, moment_later, pair_front, pair_one, pair_there, prefix_same}
 use Rattle.world_keeps_lives.proofs.Walk.Rules.{Begins, Each, Goes, Hears, Rules, each_filter}
+use Rattle.net_sim.proofs.lemmas.AllOurs.{happened}
 
 one_is : (e f : Entry) → e ∷ [] ≡ f ∷ [] → e ≡ f
 one_is e f h = cc
@@ -252,7 +253,7 @@ module _ (hosts : List Host) (addresses : HaveAddresses hosts) where
     placed_first : (r : Life) → HasOpenEnd (program r.host ms) r → r.own_stamp < places ms
     placed_first r o =
         let g : Grounded r.host r.peer (crossings_of ms) o.end × (is_mine_on r.socket o.end ≡ true) =
-        begun.one_is (Grounded r.host r.peer (crossings_of ms)) r.socket (pair_with r.peer (program r.host ms).peers).entries o.end o.one (grounds hosts addresses ms run time r.host r.peer) in
+        begun.one_is (Grounded r.host r.peer (crossings_of ms)) r.socket (pair_with r.peer (program r.host ms).peers).entries o.end o.one (grounds (all_ours hosts) addresses ms run (happened hosts ms time) r.host r.peer (refl, refl)) in
         let mine : o.end.mine ≡ true = (both o.end.mine (o.end.own == r.socket) g.1).0 in
         let asked : IsAsked r.host r.peer (crossings_of ms) o.end r.own_stamp = g.0.asked mine r.own_stamp o.own in
         let less : r.own_stamp < length (crossings_of ms) =
@@ -329,7 +330,7 @@ module _ (hosts : List Host) (addresses : HaveAddresses hosts) where
 
       may : (y : Moment) → mail.IsRun hosts (crossings_of (y ∷ ms)) → IsTimeline hosts (y ∷ ms)
           → May (IsShut r.socket r.own_stamp) Nothing r.host r.peer (shut_rules r.socket r.own_stamp r.peer) y ms
-      may (Crossed (crossing.Out m)) on t = (out, (coupled hosts addresses (Crossed (crossing.Out m) ∷ ms) on t).story.0 refl) where
+      may (Crossed (crossing.Out m)) on t = (out, λ from. (coupled hosts addresses (Crossed (crossing.Out m) ∷ ms) on t).story.0 refl) where
         out : MayOut (IsShut r.socket r.own_stamp) Nothing r.host r.peer (shut_rules r.socket r.own_stamp r.peer) m ms
         out g parcel.Reset from to next order is = tt
         out g parcel.Reply from to next order is = tt

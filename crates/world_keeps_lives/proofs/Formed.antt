@@ -4,14 +4,16 @@ use Rattle.interface.specs.declared.crossing.Crossing.TheVariants as crossing
 use Rattle.ncp_control.specs.declared.command.Command.TheVariants as command
 use Rattle.promise.specs.Formed.{FormedBook, flow_of, link_of, own_named, partner_named}
 use Rattle.world_keeps_lives.specs.Firsts.{AreAfter, IsBefore}
-use Rattle.world_keeps_lives.proofs.FirstBooks.{good}
-use Rattle.world_keeps_lives.proofs.FirstEnds.{AtEnd, Good, Lawful, Together, Tracked, at_end, is_end, lives_in, str_foreign}
-use Rattle.world_keeps_lives.proofs.FirstLists.{From, from_map, life_of, mapped}
+use Rattle.world_keeps_lives.proofs.Firsts.Books.{good}
+use Rattle.world_keeps_lives.proofs.Firsts.Ends.{AtEnd, Good, Lawful, Together, Tracked, at_end, is_end, lives_in, str_foreign}
+use Rattle.world_keeps_lives.proofs.Firsts.Lists.{From, from_map, life_of, mapped}
 use Rattle.world_keeps_lives.proofs.Linked as by_link
 use Rattle.world_keeps_lives.proofs.Linked.{HasRequests, IsFirst, Linked, LinkedBook, all_data}
 use Rattle.world_keeps_lives.proofs.Named.{Names, named_there, names_of}
 use Rattle.world_keeps_lives.proofs.OneRequest.{NamesOnce, in_once, out_once}
 use Rattle.world_keeps_lives.proofs.Walk.Rules.{Each, each_in, each_of, each_weaker}
+use Rattle.reset_law.specs.Network.{all_ours}
+use Rattle.net_sim.proofs.lemmas.AllOurs.{happened}
 
 -- ---- data
 
@@ -61,12 +63,12 @@ module _ (hosts : List Host) (ms : List Moment) (l : Lawful hosts ms) where
           own_is
           ∙ ap (λ (n : ℕ). Some n)
           (named_rts p.life.socket p.life.foreign own.named p.link a.own.message.text e
-          (out_once hosts l.0 ms l.1 l.2 a.own.message p.life.own_stamp a.own.crossed (ap (λ (f : Flow). f.link.0 == 0) a.own.flow)) own.there (own_by true e))
+          (out_once (all_ours hosts) l.0 ms l.1 (happened hosts ms l.2) a.own.message (refl, refl) p.life.own_stamp a.own.crossed (ap (λ (f : Flow). f.link.0 == 0) a.own.flow)) own.there (own_by true e))
       by false e =
           partner_is
           ∙ ap (λ (n : ℕ). Some n)
           (named_rts p.life.foreign p.life.socket partner.named p.link a.partner.message.text (str_foreign a.own.message.text p.life.socket p.life.foreign a.size e (own_by false e))
-          (in_once hosts l.0 ms l.1 l.2 a.partner.message p.life.partner_stamp a.partner.crossed (ap (λ (f : Flow). f.link.0 == 0) a.partner.flow)) partner.there (partner_by false e))
+          (in_once (all_ours hosts) l.0 ms l.1 (happened hosts ms l.2) a.partner.message (refl, refl) p.life.partner_stamp a.partner.crossed (ap (λ (f : Flow). f.link.0 == 0) a.partner.flow)) partner.there (partner_by false e))
 
   -- ---- one life
 

@@ -1,6 +1,6 @@
 -- The requests of each end of a host's program, in the messages that crossed.
-use Rattle.world_keeps_lives.proofs.Common.{◌≡◌, inl, inr, ℕ, ◌<◌, Bool, true, false, if◌then◌else◌, zero, suc, List, [], ◌∷◌, map, take, drop, length, slice_index_or, Some, refl, ap, sym, subst, ◌∙◌, arith, Contains, eqb-true, take-append-drop, Contains-append_left, Host, same_host, Flow, Answer, Crossing, HostMessage, or_false, same_host-true, is_receive_socket, is_send_socket, Command, Legal, Order, orders_of, has_cls, is_ending, is_receiving, PairState, Parcel, asked_at, link_for, Entry, Notice, offer_read, AreCommands, IsReadBack, accepted, NcpState, opening_state, pair_with, AreInOrder, served, message_for, next_in, offered, Peer, next_pair, HaveAddresses, CrossedAt, HasCrossed, coming, going, request, control_flow, Asked, Crossed, IsNext, Moment, places, program, IsTimeline, crossings_of, coupled, places_same, even_odd, programs_ranged, served_in, queued_commands}
-use Rattle.reset_law.specs.Network.{all_ours}
+use Rattle.world_keeps_lives.proofs.Common.{◌≡◌, inl, inr, ℕ, ◌<◌, Bool, true, false, if◌then◌else◌, zero, suc, List, [], ◌∷◌, map, take, drop, length, slice_index_or, Some, refl, ap, sym, subst, ◌∙◌, arith, Contains, eqb-true, take-append-drop, Contains-append_left, Host, same_host, Flow, Answer, Crossing, HostMessage, or_false, same_host-true, is_receive_socket, is_send_socket, Command, Legal, Order, orders_of, has_cls, is_ending, is_receiving, PairState, Parcel, asked_at, link_for, Entry, Notice, offer_read, AreCommands, IsReadBack, accepted, NcpState, opening_state, pair_with, AreInOrder, served, message_for, next_in, offered, Peer, next_pair, HaveAddresses, CrossedAt, HasCrossed, coming, going, request, control_flow, Asked, Crossed, IsNext, Moment, places, program, crossings_of, places_same, even_odd, programs_ranged}
+use Rattle.reset_law.specs.Network.{AreOurs, Network}
 use Rattle.std.proofs.lemmas.Option.{same_Some}
 use Rattle.interface.specs.Mailboxes as mail
 use Rattle.interface.specs.declared.crossing.Crossing.TheVariants as crossing
@@ -12,7 +12,10 @@ use Rattle.host_pairs.specs.declared.notice.Notice.TheVariants as notice
 use Rattle.sockets.proofs.lemmas.{answer_leaves, message_leaves, offer_leaves}
 use Rattle.net_sim.proofs.lemmas.{flow_of, program_own}
 use Rattle.world_keeps_pairing.proofs.lemmas.{send_odd}
-use Rattle.world_keeps_pairing.proofs.lemmas.AllOurs.{queued_link}
+use Rattle.net_sim.proofs.lemmas.{coupled}
+use Rattle.net_sim.specs.Mixed.{Happened}
+use Rattle.net_sim.specs.Story.{Follows}
+use Rattle.world_keeps_pairing.proofs.lemmas.{queued_commands, queued_link, served_in}
 use Rattle.world_keeps_lives.proofs.Facts.{no_place}
 use Rattle.world_keeps_lives.proofs.Walk.Rules.{Begins, Each, Goes, Hears, IsOther, MayTell, Quiet, Rules, each_of, each_weaker}
 use Rattle.world_keeps_lives.proofs.Walk.ByRules.{Done, Ends, MayTake, answer_keeps, message_keeps, offer_keeps, request_keeps}
@@ -256,7 +259,7 @@ module _ (P : Entry → Type 0) (N : Notice → Type 0) (a b : Host) (rules : Ru
   out_done m moments n ok may from to h =
       offer_keeps P N b rules (program a moments) (places moments) n.peer n.parcel n.order n.next (sym (to ∙ ap (λ (x : HostMessage). x.flow.destination) n.message)) ok (may n.peer n.parcel from to n.next n.order n.message) h
 
-  pub out_ends : (m : HostMessage) (moments : List Moment) → IsNext (program m.flow.source moments) m → AreCommands (pair_with b (program a moments).peers).queue → MayOut m moments → Ends P b (program a moments) → Ends P b (program a (Crossed (crossing.Out m) ∷ moments))
+  pub out_ends : (m : HostMessage) (moments : List Moment) → (a ≡ m.flow.source → IsNext (program m.flow.source moments) m) → AreCommands (pair_with b (program a moments).peers).queue → MayOut m moments → Ends P b (program a moments) → Ends P b (program a (Crossed (crossing.Out m) ∷ moments))
   out_ends m moments n ok may h = if_ends (same_host a m.flow.source) (offered (program a moments) (places moments)).0 (program a moments) here h where
     here : same_host a m.flow.source ≡ true → Ends P b (offered (program a moments) (places moments)).0
     here e = by (same_host b m.flow.destination) refl where
@@ -264,7 +267,7 @@ module _ (P : Entry → Type 0) (N : Notice → Type 0) (a b : Host) (rules : Ru
       from = same_host-true a m.flow.source e
 
       own : IsNext (program a moments) m
-      own = subst (λ (y : Host). IsNext (program y moments) m) (sym from) n
+      own = subst (λ (y : Host). IsNext (program y moments) m) (sym from) (n from)
 
       by : (c : Bool) → same_host b m.flow.destination ≡ c → Ends P b (offered (program a moments) (places moments)).0
       by true f = (out_done m moments own ok may from (same_host-true b m.flow.destination f) h).ends
@@ -290,7 +293,8 @@ module _ (P : Entry → Type 0) (N : Notice → Type 0) (a b : Host) (rules : Ru
       by false g = subst (λ (q : PairState). Each P q.entries) (sym (answer_leaves (program a moments) kind f (places moments) b g)) h
 
   abbrev pub May : Moment → List Moment → Type 0
-  May (Crossed (crossing.Out m)) moments = MayOut m moments × IsNext (program m.flow.source moments) m
+  May (Crossed (crossing.Out m)) moments =
+      MayOut m moments × (a ≡ m.flow.source → IsNext (program m.flow.source moments) m)
   May (Crossed (crossing.In m)) moments = MayIn m moments
   May x moments = Unit {0}
 
@@ -315,15 +319,16 @@ each_both : (P Q R : Entry → Type 0) (es : List Entry) → ((e : Entry) → P 
 each_both P Q R [] k h j = tt
 each_both P Q R (e ∷ es) k h j = (k e h.0 j.0, each_both P Q R es k h.1 j.1)
 
-module _ (hosts : List Host) (addresses : HaveAddresses hosts) where
-  module _ (moments : List Moment) (run : mail.IsRun hosts (crossings_of moments)) (time : IsTimeline hosts moments) (a b : Host) (log : List Crossing) where
+module _ (hosts : Network) (addresses : HaveAddresses hosts.all) where
+  module _ (moments : List Moment) (run : mail.IsRun hosts.all (crossings_of moments)) (time : Happened hosts moments)
+      (a b : Host) (ours : AreOurs hosts a b) (log : List Crossing) where
     -- commands that go out of a host's program hold the requests that waited
     pub goes_of : (m : HostMessage) (g : Peer) (count : ℕ) → CrossedAt (places moments) (going m) log → b ≡ m.flow.destination → next_in (program a moments).peers ≡ Some (g, parcel.Commands count) → AreInOrder (program a moments).peers → m ≡ message_for (program a moments).own g (parcel.Commands count)
         → Goes (Going a b log (pair_with b (program a moments).peers).queue) (places moments) (take count (pair_with b (program a moments).peers).queue)
     goes_of m g count crossed to next order is =
         let there : g.host ≡ b = sym (to ∙ ap (λ (x : HostMessage). x.flow.destination) is) in
         let same : pair_with b (program a moments).peers ≡ g.pair = subst (λ (y : Host). pair_with y (program a moments).peers ≡ g.pair) there (next_pair (program a moments).peers g (parcel.Commands count) order next) in
-        let back : IsReadBack g.pair (parcel.Commands count) = offer_read (program a moments) g (parcel.Commands count) (programs_ranged (all_ours hosts) moments (served_in hosts moments time) a refl) next in
+        let back : IsReadBack g.pair (parcel.Commands count) = offer_read (program a moments) g (parcel.Commands count) (programs_ranged hosts moments (served_in hosts moments time) a ours.0) next in
         let reads : orders_of m.text ≡ map Legal (take count (pair_with b (program a moments).peers).queue) =
         ap (λ (x : HostMessage). orders_of x.text) is ∙ back ∙ ap (λ (q : PairState). map Legal (take count q.queue)) (sym same) in
         going_goes a b log m (places moments) count (pair_with b (program a moments).peers).queue
@@ -333,15 +338,15 @@ module _ (hosts : List Host) (addresses : HaveAddresses hosts) where
     pub going_now : Ends (Grounded a b log) b (program a moments) → Ends (Going a b log (pair_with b (program a moments).peers).queue) b (program a moments)
     going_now h =
         each_both (Grounded a b log) (λ (e : Entry). Contains (pair_with b (program a moments).peers).entries e) (Going a b log (pair_with b (program a moments).peers).queue) (pair_with b (program a moments).peers).entries
-        (λ e g there. (g, λ mine l waits. queued_link hosts moments addresses run time a b l e waits there mine)) h (each_of (pair_with b (program a moments).peers).entries)
+        (λ e g there. (g, λ mine l waits. queued_link hosts moments addresses run time a b ours l e waits there mine)) h (each_of (pair_with b (program a moments).peers).entries)
 
     commands : AreCommands (pair_with b (program a moments).peers).queue
-    commands = queued_commands hosts moments addresses run time a b
+    commands = queued_commands hosts moments addresses run time a b ours
 
-    out_grounds : (m : HostMessage) → IsNext (program m.flow.source moments) m → CrossedAt (places moments) (going m) log → Ends (Grounded a b log) b (program a moments) → Ends (Grounded a b log) b (program a (Crossed (crossing.Out m) ∷ moments))
+    out_grounds : (m : HostMessage) → Follows hosts (Crossed (crossing.Out m)) moments → CrossedAt (places moments) (going m) log → Ends (Grounded a b log) b (program a moments) → Ends (Grounded a b log) b (program a (Crossed (crossing.Out m) ∷ moments))
     out_grounds m n crossed h =
         each_weaker (Going a b log (pair_with b (program a moments).peers).queue) (Grounded a b log) _ (λ e g. g.0)
-        (out_ends (Going a b log (pair_with b (program a moments).peers).queue) Nothing a b (quietly (Going a b log (pair_with b (program a moments).peers).queue) (Tells a b log) b (going_rules a b log (pair_with b (program a moments).peers).queue)) m moments n commands may (going_now h)) where
+        (out_ends (Going a b log (pair_with b (program a moments).peers).queue) Nothing a b (quietly (Going a b log (pair_with b (program a moments).peers).queue) (Tells a b log) b (going_rules a b log (pair_with b (program a moments).peers).queue)) m moments (λ from. n (subst (λ (g : Host). hosts.strange g ≡ false) from ours.0)) commands may (going_now h)) where
           may : MayOut (Going a b log (pair_with b (program a moments).peers).queue) Nothing a b (quietly (Going a b log (pair_with b (program a moments).peers).queue) (Tells a b log) b (going_rules a b log (pair_with b (program a moments).peers).queue)) m moments
           may g parcel.Reset from to next order is = tt
           may g parcel.Reply from to next order is = tt
@@ -353,18 +358,19 @@ module _ (hosts : List Host) (addresses : HaveAddresses hosts) where
         in_ends (Grounded a b log) Nothing a b (quietly (Grounded a b log) (Tells a b log) b (grounded_rules a b log)) m moments
         (λ to from. ((λ zero. grounded_hears a b log m (places moments) (flow_is m.flow b a from to (eqb-true m.flow.link.0 0 zero)) crossed), (λ off e k f o t. tt))) h
 
-  pub grounds : (moments : List Moment) → mail.IsRun hosts (crossings_of moments) → IsTimeline hosts moments → (a b : Host) → Ends (Grounded a b (crossings_of moments)) b (program a moments)
-  grounds [] run time a b = tt
-  grounds (Asked g r ∷ moments) run time a b =
-      step_ends (Grounded a b (crossings_of moments)) (Tells a b (crossings_of moments)) a b (grounded_rules a b (crossings_of moments)) (grounded_begins a b (crossings_of moments)) (Asked g r) moments (queued_commands hosts moments addresses run time.1 a b) tt (grounds moments run time.1 a b)
-  grounds (Crossed c ∷ moments) run time a b = by c run time (each_weaker (Grounded a b (crossings_of moments)) (Grounded a b (c ∷ crossings_of moments)) (pair_with b (program a moments).peers).entries (still_grounded a b c (crossings_of moments)) (grounds moments run.1 time.1 a b)) where
-    by : (c : Crossing) → mail.IsRun hosts (c ∷ crossings_of moments) → IsTimeline hosts (Crossed c ∷ moments) → Ends (Grounded a b (c ∷ crossings_of moments)) b (program a moments) → Ends (Grounded a b (c ∷ crossings_of moments)) b (program a (Crossed c ∷ moments))
+  pub grounds : (moments : List Moment) → mail.IsRun hosts.all (crossings_of moments) → Happened hosts moments
+      → (a b : Host) → AreOurs hosts a b → Ends (Grounded a b (crossings_of moments)) b (program a moments)
+  grounds [] run time a b ours = tt
+  grounds (Asked g r ∷ moments) run time a b ours =
+      step_ends (Grounded a b (crossings_of moments)) (Tells a b (crossings_of moments)) a b (grounded_rules a b (crossings_of moments)) (grounded_begins a b (crossings_of moments)) (Asked g r) moments (queued_commands hosts moments addresses run time.1 a b ours) tt (grounds moments run time.1 a b ours)
+  grounds (Crossed c ∷ moments) run time a b ours = by c run time (each_weaker (Grounded a b (crossings_of moments)) (Grounded a b (c ∷ crossings_of moments)) (pair_with b (program a moments).peers).entries (still_grounded a b c (crossings_of moments)) (grounds moments run.1 time.1 a b ours)) where
+    by : (c : Crossing) → mail.IsRun hosts.all (c ∷ crossings_of moments) → Happened hosts (Crossed c ∷ moments) → Ends (Grounded a b (c ∷ crossings_of moments)) b (program a moments) → Ends (Grounded a b (c ∷ crossings_of moments)) b (program a (Crossed c ∷ moments))
     by (crossing.Out m) run time h =
-        out_grounds moments run.1 time.1 a b (crossing.Out m ∷ crossings_of moments) m ((coupled hosts addresses (Crossed (crossing.Out m) ∷ moments) run time).story.0 refl) (inl (refl, places_same moments)) h
-    by (crossing.In m) run time h = in_grounds moments run.1 time.1 a b (crossing.In m ∷ crossings_of moments) m (inl (refl, places_same moments)) h
+        out_grounds moments run.1 time.1 a b ours (crossing.Out m ∷ crossings_of moments) m ((coupled hosts addresses (Crossed (crossing.Out m) ∷ moments) run time).story.0) (inl (refl, places_same moments)) h
+    by (crossing.In m) run time h = in_grounds moments run.1 time.1 a b ours (crossing.In m ∷ crossings_of moments) m (inl (refl, places_same moments)) h
     by (crossing.Answer kind f) run time h =
-        step_ends (Grounded a b (crossing.Answer kind f ∷ crossings_of moments)) (Tells a b (crossing.Answer kind f ∷ crossings_of moments)) a b (grounded_rules a b (crossing.Answer kind f ∷ crossings_of moments)) (grounded_begins a b (crossing.Answer kind f ∷ crossings_of moments)) (Crossed (crossing.Answer kind f)) moments (queued_commands hosts moments addresses run.1 time.1 a b) tt h
+        step_ends (Grounded a b (crossing.Answer kind f ∷ crossings_of moments)) (Tells a b (crossing.Answer kind f ∷ crossings_of moments)) a b (grounded_rules a b (crossing.Answer kind f ∷ crossings_of moments)) (grounded_begins a b (crossing.Answer kind f ∷ crossings_of moments)) (Crossed (crossing.Answer kind f)) moments (queued_commands hosts moments addresses run.1 time.1 a b ours) tt h
     by (crossing.Down g) run time h =
-        step_ends (Grounded a b (crossing.Down g ∷ crossings_of moments)) (Tells a b (crossing.Down g ∷ crossings_of moments)) a b (grounded_rules a b (crossing.Down g ∷ crossings_of moments)) (grounded_begins a b (crossing.Down g ∷ crossings_of moments)) (Crossed (crossing.Down g)) moments (queued_commands hosts moments addresses run.1 time.1 a b) tt h
+        step_ends (Grounded a b (crossing.Down g ∷ crossings_of moments)) (Tells a b (crossing.Down g ∷ crossings_of moments)) a b (grounded_rules a b (crossing.Down g ∷ crossings_of moments)) (grounded_begins a b (crossing.Down g ∷ crossings_of moments)) (Crossed (crossing.Down g)) moments (queued_commands hosts moments addresses run.1 time.1 a b ours) tt h
     by (crossing.Up g) run time h =
-        step_ends (Grounded a b (crossing.Up g ∷ crossings_of moments)) (Tells a b (crossing.Up g ∷ crossings_of moments)) a b (grounded_rules a b (crossing.Up g ∷ crossings_of moments)) (grounded_begins a b (crossing.Up g ∷ crossings_of moments)) (Crossed (crossing.Up g)) moments (queued_commands hosts moments addresses run.1 time.1 a b) tt h
+        step_ends (Grounded a b (crossing.Up g ∷ crossings_of moments)) (Tells a b (crossing.Up g ∷ crossings_of moments)) a b (grounded_rules a b (crossing.Up g ∷ crossings_of moments)) (grounded_begins a b (crossing.Up g ∷ crossings_of moments)) (Crossed (crossing.Up g)) moments (queued_commands hosts moments addresses run.1 time.1 a b ours) tt h

@@ -4,7 +4,7 @@ use Rattle.interface.specs.Mailboxes as mail
 use Rattle.promise.specs.Safe.{IsGranted}
 use Rattle.world_keeps_lives.proofs.Books.{One, each_weaker}
 use Rattle.world_keeps_lives.proofs.Hosts.{Holds}
-use Rattle.world_keeps_lives.proofs.Moments.{held}
+use Rattle.world_keeps_lives.proofs.AllOurs.{held}
 
 -- ---- lists
 

@@ -11,6 +11,9 @@ pub mod Hosts
 pub mod Owners
 pub mod Asks
 pub mod Moments
+pub mod AnyPeer
+pub mod Sockets
+pub mod AllOurs
 pub mod Laws
 pub mod Walk
 pub mod Grounds
@@ -22,17 +25,13 @@ pub mod OneRequest
 pub mod Pairs
 pub mod Drained
 pub mod Notices
-pub mod FirstLists
 pub mod Texts
 pub mod Stamps
 pub mod Unopened
 pub mod Calms
-pub mod FirstEnds
 pub mod Firsts
-pub mod FirstBooks
 pub mod Formed
 pub mod FormedRows
-pub mod FirstRows
 pub mod NoticesRows
 pub mod Rows
 pub mod lemmas

@@ -22,7 +22,8 @@ has_ends hosts moments addresses run time a p own foreign two = elim two [
   | inl r ↦ (_, ((tied hosts moments addresses run time).tied a p (refl, refl)).receiver (record { receive = own; send = foreign }) (r.0, r.1))
   | inr s ↦ (_, ((tied hosts moments addresses run time).tied p a (refl, refl)).sender (record { receive = foreign; send = own }) (s.1, s.0))
 ] where
-  tied : (hosts : List Host) (moments : List Moment) → HaveAddresses hosts → mail.IsRun hosts (crossings_of moments) → IsTimeline hosts moments → AllTied (all_ours hosts) (origin_in (crossings_of moments)) moments
+  tied : (hosts : List Host) (moments : List Moment) → HaveAddresses hosts → mail.IsRun hosts (crossings_of moments)
+      → IsTimeline hosts moments → AllTied (all_ours hosts) (origin_in (crossings_of moments)) moments
   tied hosts moments addresses run time =
       let c : Coupled (all_ours hosts) moments = coupled hosts addresses moments run time in
       all_tied (all_ours hosts) (origin_in (crossings_of moments)) moments (are_origins 0 (crossings_of moments) [] moments refl) c.story c.run (served_in hosts moments time)
@@ -36,25 +37,6 @@ idle_if a h up s new down needs is = by (same_host a h) refl where
 
 pub up_at : (hosts : List Host) (a h : Host) (log : List Crossing) → mail.is_up hosts h log ≡ true → same_host a h ≡ true → mail.is_up hosts a log ≡ true
 up_at hosts a h log up e = subst (λ (g : Host). mail.is_up hosts g log ≡ true) (sym (same_host-true a h e)) up
-
-idle_program : (hosts : List Host) (a : Host) (moments : List Moment) → mail.IsRun hosts (crossings_of moments) → IsTimeline hosts moments → mail.is_up hosts a (crossings_of moments) ≡ false → program a moments ≡ opening_state a
-idle_program hosts a [] run time down = refl
-idle_program hosts a (Crossed (crossing.Out m) ∷ moments) run time down =
-    idle_if a m.flow.source (mail.is_up hosts a (crossings_of moments)) (program a moments) _ down (up_at hosts a m.flow.source (crossings_of moments) run.0.0) (idle_program hosts a moments run.1 time.1 down)
-idle_program hosts a (Crossed (crossing.In m) ∷ moments) run time down =
-    idle_if a m.flow.destination (mail.is_up hosts a (crossings_of moments)) (program a moments) _ down (up_at hosts a m.flow.destination (crossings_of moments) run.0.0) (idle_program hosts a moments run.1 time.1 down)
-idle_program hosts a (Crossed (crossing.Answer kind f) ∷ moments) run time down =
-    idle_if a f.source (mail.is_up hosts a (crossings_of moments)) (program a moments) _ down (up_at hosts a f.source (crossings_of moments) run.0.0) (idle_program hosts a moments run.1 time.1 down)
-idle_program hosts a (Crossed (crossing.Down h) ∷ moments) run time down = by (idle_program hosts a moments run.1 time.1) (same_host a h) refl down where
-  by : (mail.is_up hosts a (crossings_of moments) ≡ false → program a moments ≡ opening_state a) → (b : Bool) → same_host a h ≡ b → (if b then false else mail.is_up hosts a (crossings_of moments)) ≡ false → (if b then opening_state a else program a moments) ≡ opening_state a
-  by rest true e d = refl
-  by rest false e d = rest d
-idle_program hosts a (Crossed (crossing.Up h) ∷ moments) run time down = by (idle_program hosts a moments run.1 time.1) (same_host a h) refl down where
-  by : (mail.is_up hosts a (crossings_of moments) ≡ false → program a moments ≡ opening_state a) → (b : Bool) → same_host a h ≡ b → (if b then true else mail.is_up hosts a (crossings_of moments)) ≡ false → (if b then opening_state a else program a moments) ≡ opening_state a
-  by rest true e d = refl
-  by rest false e d = rest d
-idle_program hosts a (Asked h r ∷ moments) run time down =
-    idle_if a h (mail.is_up hosts a (crossings_of moments)) (program a moments) _ down (up_at hosts a h (crossings_of moments) time.0.0) (idle_program hosts a moments run time.1 down)
 
 module _ (a : Host) (k : ℕ) where
   -- a program that starts
@@ -98,45 +80,3 @@ module _ (a : Host) (k : ℕ) where
   -- what crosses is added
   pub crossed_holds : (s : NcpState) (c : Crossing) (κ : Kept) → ((P : Life → List Bool → Type 0) → EachIn a k P κ → EachIn a k P (crossed c κ)) → Holds a k s κ → Holds a k s (crossed c κ)
   crossed_holds s c κ w h = holds_same a k s κ (crossed c κ) w h
-
-  pub held : (hosts : List Host) → HaveAddresses hosts → (moments : List Moment) → mail.IsRun hosts (crossings_of moments) → IsTimeline hosts moments → Holds a k (program a moments) (kept_in moments)
-  held hosts addresses [] run time = opening_holds opening_kept tt
-  held hosts addresses (Crossed (crossing.Out m) ∷ moments) run time =
-      let old : Holds a k (program a moments) (kept_in moments) = held hosts addresses moments run.1 time.1 in
-      acts m.flow.source (λ h. (offered (program h moments) (places moments)).1) (program a moments) (offered (program a moments) (places moments)).0 (kept_in moments) (λ h. crossed (crossing.Out m) (kept_in moments))
-      (λ e. offer_holds a k (program a moments) (places moments) (crossed (crossing.Out m) (kept_in moments)) ((coupled hosts addresses moments run.1 time.1).order a refl)
-      (λ p. (pair_range p (program a moments).peers (programs_ranged (all_ours hosts) moments (served_in hosts moments time.1) a refl).pairs).commands)
-      (λ p. (origin_in (crossings_of moments) a p, has_ends hosts moments addresses run.1 time.1 a p))
-      (crossed_holds (program a moments) (crossing.Out m) (kept_in moments) (λ P i. i) old))
-      (λ f P i. i) old
-  held hosts addresses (Crossed (crossing.In m) ∷ moments) run time =
-      let old : Holds a k (program a moments) (kept_in moments) = held hosts addresses moments run.1 time.1 in
-      acts m.flow.destination (λ h. (accepted (program h moments) (inbound.Message m) (places moments)).1) (program a moments) (accepted (program a moments) (inbound.Message m) (places moments)).0 (kept_in moments) (λ h. crossed (crossing.In m) (kept_in moments))
-      (λ e. message_holds a k (program a moments) m (places moments) (crossed (crossing.In m) (kept_in moments)) (crossed_holds (program a moments) (crossing.In m) (kept_in moments) (λ P i. i) old))
-      (λ f P i. i) old
-  held hosts addresses (Crossed (crossing.Answer kind f) ∷ moments) run time =
-      let old : Holds a k (program a moments) (kept_in moments) = held hosts addresses moments run.1 time.1 in
-      acts f.source (λ h. (accepted (program h moments) (inbound.Answer kind f) (places moments)).1) (program a moments) (accepted (program a moments) (inbound.Answer kind f) (places moments)).0 (kept_in moments) (λ h. crossed (crossing.Answer kind f) (kept_in moments))
-      (λ e. answer_holds a k (program a moments) kind f (places moments) (crossed (crossing.Answer kind f) (kept_in moments)) (crossed_holds (program a moments) (crossing.Answer kind f) (kept_in moments) (λ P i. i) old))
-      (λ g P i. i) old
-  held hosts addresses (Crossed (crossing.Down h) ∷ moments) run time =
-      let old : Holds a k (program a moments) (kept_in moments) = held hosts addresses moments run.1 time.1 in
-      acts h (λ g. []) (program a moments) (opening_state a) (kept_in moments) (λ g. crossed (crossing.Down g) (kept_in moments)) (λ e. ended_holds (program a moments) (kept_in moments) old)
-      (λ f P i. each_ending a k (lives_on h) P (kept_in moments).book.lives (kept_in moments).handed i) old
-  held hosts addresses (Crossed (crossing.Up h) ∷ moments) run time =
-      let old : Holds a k (program a moments) (kept_in moments) = held hosts addresses moments run.1 time.1 in
-      acts h (λ g. []) (program a moments) (opening_state a) (kept_in moments) (λ g. crossed (crossing.Up h) (kept_in moments))
-      (λ e. let down : mail.is_up hosts a (crossings_of moments) ≡ false = subst (λ (g : Host). mail.is_up hosts g (crossings_of moments) ≡ false) (sym (same_host-true a h e)) run.0.1 in
-      crossed_holds (opening_state a) (crossing.Up h) (kept_in moments) (λ P i. i) (subst (λ (s : NcpState). Holds a k s (kept_in moments)) (idle_program hosts a moments run.1 time.1 down) old))
-      (λ f P i. i) old
-  held hosts addresses (Asked h r ∷ moments) run time =
-      let old : Holds a k (program a moments) (kept_in moments) = held hosts addresses moments run time.1 in
-      acts h (λ g. served_notices (program g moments) r) (program a moments) (served (program a moments) r) (kept_in moments) (λ g. asked g r (kept_in moments))
-      (λ e. request_holds a k (program a moments) r (kept_in moments) ((coupled hosts addresses moments run time.1).order a refl)
-      (subst (λ (g : Host). refusal (program g moments) r ≡ None) (sym (same_host-true a h e)) time.0.2) old)
-      (λ f. asked_away h r (kept_in moments) (off f)) old where
-        off : same_host a h ≡ false → same_host h a ≡ false
-        off f = by (same_host h a) refl where
-          by : (b : Bool) → same_host h a ≡ b → b ≡ false
-          by true e = clash (true ≡ false) (same_host a h) (subst (λ (g : Host). same_host g h ≡ true) (same_host-true h a e) (same_host-refl h)) f
-          by false e = refl

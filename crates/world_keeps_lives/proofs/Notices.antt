@@ -14,9 +14,10 @@ use Rattle.world_keeps_lives.proofs.Desks.{IsAnOpen, open_mine, open_parts}
 use Rattle.world_keeps_lives.proofs.Walk.Rules.{Each, each_in, each_of, each_weaker, found_in}
 use Rattle.world_keeps_lives.proofs.Grounds.{Grounded, IsAnswered, IsAsked, Tells, goes_of, grounds}
 use Rattle.world_keeps_lives.proofs.DataTold.{TakesIf, answer_told, asking_told, bytes_told, control_told, message_takes, offer_told}
-use Rattle.world_keeps_lives.proofs.FirstBooks.{some_link}
+use Rattle.world_keeps_lives.proofs.Firsts.Books.{some_link}
 use Rattle.host_keeps_streams.proofs.lemmas.{link_is}
 use Rattle.world_keeps_pairing.proofs.lemmas.{some_is}
+use Rattle.net_sim.proofs.lemmas.AllOurs.{happened}
 
 -- ---- lists of notices
 
@@ -167,7 +168,7 @@ module _ (hosts : List Host) (addresses : HaveAddresses hosts) where
           among = subst (λ (q : PairState). Contains q.entries e) (sym same) found
 
           ground : Grounded m.flow.source m.flow.destination (crossings_of moments) e
-          ground = each_in (Grounded m.flow.source m.flow.destination (crossings_of moments)) (pair_with m.flow.destination (program m.flow.source moments).peers).entries e among (grounds hosts addresses moments run time m.flow.source m.flow.destination)
+          ground = each_in (Grounded m.flow.source m.flow.destination (crossings_of moments)) (pair_with m.flow.destination (program m.flow.source moments).peers).entries e among (grounds (all_ours hosts) addresses moments run (happened hosts moments time) m.flow.source m.flow.destination (refl, refl))
 
           text : drop 40 m.text ≡ take (size * count) e.bits
           text =
@@ -205,7 +206,7 @@ module _ (hosts : List Host) (addresses : HaveAddresses hosts) where
           (each_of (pair_with m.flow.source (program m.flow.destination moments).peers).entries)
 
       ground : Grounded m.flow.destination m.flow.source (crossings_of moments) t.end
-      ground = each_in (Grounded m.flow.destination m.flow.source (crossings_of moments)) (pair_with m.flow.source (program m.flow.destination moments).peers).entries t.end among (grounds hosts addresses moments run time m.flow.destination m.flow.source)
+      ground = each_in (Grounded m.flow.destination m.flow.source (crossings_of moments)) (pair_with m.flow.source (program m.flow.destination moments).peers).entries t.end among (grounds (all_ours hosts) addresses moments run (happened hosts moments time) m.flow.destination m.flow.source (refl, refl))
 
       on : (is_receiving t.end ≡ true) × (is_link m.flow.link.0 t.end.link ≡ true)
       on = both (is_receiving t.end) (is_link m.flow.link.0 t.end.link) (find_passes (receives_on m.flow.link.0) t.end (pair_with m.flow.source (program m.flow.destination moments).peers).entries t.found)
@@ -235,7 +236,7 @@ module _ (hosts : List Host) (addresses : HaveAddresses hosts) where
       by (parcel.Commands count) next is =
           quiet (control (parcel.Commands count) is refl)
           (offer_told hosts addresses moments run time m n (parcel.Commands count) next is
-          (goes_of hosts addresses moments run time m.flow.source m.flow.destination (crossing.Out m ∷ crossings_of moments) m n.peer count (inl (refl, places_same moments)) refl next n.order is))
+          (goes_of (all_ours hosts) addresses moments run (happened hosts moments time) m.flow.source m.flow.destination (refl, refl) (crossing.Out m ∷ crossings_of moments) m n.peer count (inl (refl, places_same moments)) refl next n.order is))
       by (parcel.Bytes e size count) next is = sent_told m n e size count next is
 
     in_told : (m : HostMessage) → Told_in (Crossed (crossing.In m) ∷ moments)

@@ -17,7 +17,7 @@ use Rattle.net_sim.specs.WorkedResets.{rrp, rst}
 use Rattle.world_keeps_lives.specs.WorkedFormed.{arrived_told, sent_told, stray, stray_arrived, stray_sent, untaken_log}
 use Rattle.world_keeps_lives.proofs.Walk.Rules.{Each, each_in}
 use Rattle.world_keeps_lives.proofs.FormedRows.{rts_holds, rts_read, str_holds}
-use Rattle.world_keeps_lives.proofs.FirstBooks.{same_out}
+use Rattle.world_keeps_lives.proofs.Firsts.Books.{same_out}
 
 -- ---- good ones
 

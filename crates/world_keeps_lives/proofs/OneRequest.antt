@@ -1,13 +1,15 @@
 -- A message of a host's program has one RTS of two sockets at most, where it goes out and where it comes in.
-use Rattle.world_keeps_lives.proofs.Common.{◌≡◌, inl, inr, ℕ, ◌<◌, ◌==◌, Bool, true, false, if◌then◌else◌, zero, suc, List, [], ◌∷◌, ◌++◌, map, take, drop, length, slice_index_or, Some, refl, ap, sym, subst, ◌∙◌, arith, eq-eqb, Contains, take-append-drop, Contains-append_left, same_flow, Host, same_host, Flow, Crossing, HostMessage, same_flow-true, Command, MayGo, Legal, Order, orders_of, PairState, Parcel, next_of, Entry, what_goes, offer_read, IsReadBack, pair_with, message_for, next_in, next_is, next_pair, HaveAddresses, Agrees, Asked, Crossed, IsNext, IsStory, Moment, events_of, program, IsTimeline, crossings_of, Coupled, coupled, data_away, story_agrees, CrossedAt, coming, going, pair, programs_ranged, served_in}
-use Rattle.reset_law.specs.Network.{all_ours}
+use Rattle.world_keeps_lives.proofs.Common.{◌≡◌, inl, inr, ℕ, ◌<◌, ◌==◌, Bool, true, false, if◌then◌else◌, zero, suc, List, [], ◌∷◌, ◌++◌, map, take, drop, length, slice_index_or, Some, refl, ap, sym, subst, ◌∙◌, arith, eq-eqb, Contains, take-append-drop, Contains-append_left, same_flow, Host, same_host, Flow, Crossing, HostMessage, same_flow-true, Command, MayGo, Legal, Order, orders_of, PairState, Parcel, next_of, Entry, what_goes, offer_read, IsReadBack, pair_with, message_for, next_in, next_is, next_pair, HaveAddresses, Agrees, Asked, Crossed, IsNext, IsStory, Moment, events_of, program, crossings_of, Coupled, data_away, story_agrees, CrossedAt, coming, going, pair, programs_ranged}
+use Rattle.reset_law.specs.Network.{AreOurs, Network}
 use Rattle.interface.specs.Mailboxes as mail
 use Rattle.interface.specs.declared.crossing.Crossing.TheVariants as crossing
 use Rattle.ncp_control.specs.declared.command.Command.TheVariants as command
 use Rattle.host_pairs.specs.Parcels as parcel
 use Rattle.host_pairs.specs.Parcels.{link_of}
 use Rattle.net_sim.proofs.lemmas.{cleared_waits, fetched_waits}
-use Rattle.world_keeps_pairing.proofs.lemmas.AllOurs.{queued_once}
+use Rattle.net_sim.proofs.lemmas.{coupled}
+use Rattle.net_sim.specs.Mixed.{Happened}
+use Rattle.world_keeps_pairing.proofs.lemmas.{queued_once, served_in}
 use Rattle.world_keeps_lives.proofs.Facts.{no}
 use Rattle.world_keeps_lives.proofs.Walk.Rules.{Each, each_in}
 
@@ -33,8 +35,11 @@ none_of own foreign l c other there = each_in (λ (d : Command). d ≡ command.R
 
 -- ---- where it goes out
 
-module _ (hosts : List Host) (addresses : HaveAddresses hosts) where
-  module _ (moments : List Moment) (run : mail.IsRun hosts (crossings_of moments)) (time : IsTimeline hosts moments) (story : IsStory (all_ours hosts) moments) (m : HostMessage) (n : IsNext (program m.flow.source moments) m) (zero_link : (m.flow.link.0 == 0) ≡ true) where
+module _ (hosts : Network) (addresses : HaveAddresses hosts.all) where
+  module _ (moments : List Moment) (run : mail.IsRun hosts.all (crossings_of moments)) (time : Happened hosts moments) (story : IsStory hosts moments) (m : HostMessage) (ours : AreOurs hosts m.flow.source m.flow.destination) (n : IsNext (program m.flow.source moments) m) (zero_link : (m.flow.link.0 == 0) ≡ true) where
+    peers : AreOurs hosts m.flow.source n.peer.host
+    peers = (ours.0, subst (λ (g : Host). hosts.strange g ≡ false) (ap (λ (x : HostMessage). x.flow.destination) n.message) ours.1)
+
     same : pair_with n.peer.host (program m.flow.source moments).peers ≡ n.peer.pair
     same = next_pair (program m.flow.source moments).peers n.peer n.parcel n.order n.next
 
@@ -45,7 +50,7 @@ module _ (hosts : List Host) (addresses : HaveAddresses hosts) where
     by parcel.Reply e back is next own foreign l k one other =
         absurd (none_of own foreign l command.Rrp (λ f. (let d : command.Rrp ≡ command.Rts own foreign l = f in absurd (cc)))
         (read_back (command.Rrp ∷ []) (command.Rts own foreign l) (subst (λ (os : List Order). Contains os (Legal (command.Rts own foreign l))) (ap (λ (x : HostMessage). orders_of x.text) is ∙ back) one)))
-    by (parcel.Commands count) e back is next own foreign l k one other = queued_once hosts moments addresses run time m.flow.source n.peer.host own foreign l k (waits l one) (waits k other) where
+    by (parcel.Commands count) e back is next own foreign l k one other = queued_once hosts moments addresses run time m.flow.source n.peer.host peers own foreign l k (waits l one) (waits k other) where
       waits : (j : ℕ) → Contains (orders_of m.text) (Legal (command.Rts own foreign j)) → Contains (pair_with n.peer.host (program m.flow.source moments).peers).queue (command.Rts own foreign j)
       waits j there =
           subst (λ (q : PairState). Contains q.queue (command.Rts own foreign j)) (sym same)
@@ -53,24 +58,27 @@ module _ (hosts : List Host) (addresses : HaveAddresses hosts) where
           (read_back (take count n.peer.pair.queue) (command.Rts own foreign j) (subst (λ (os : List Order). Contains os (Legal (command.Rts own foreign j))) (ap (λ (x : HostMessage). orders_of x.text) is ∙ back) there)))
     by (parcel.Bytes d size count) e back is next own foreign l k one other =
         let may : MayGo n.peer.pair (parcel.Bytes d size count) = what_goes n.peer.pair (parcel.Bytes d size count) next in
-        let agrees : Agrees n.peer.pair (pair m.flow.source n.peer.host (events_of moments)) = subst (λ (q : PairState). Agrees q (pair m.flow.source n.peer.host (events_of moments))) same (story_agrees (all_ours hosts) moments m.flow.source n.peer.host (refl, refl) story) in
+        let agrees : Agrees n.peer.pair (pair m.flow.source n.peer.host (events_of moments)) = subst (λ (q : PairState). Agrees q (pair m.flow.source n.peer.host (events_of moments))) same (story_agrees hosts moments m.flow.source n.peer.host peers story) in
         let away : (link_of d.link == 0) ≡ false = data_away n.peer.pair d size count agrees.linked may.1.linked next in
         no (m.flow.link.0 == 0) zero_link (ap (λ (x : HostMessage). x.flow.link.0 == 0) is ∙ away)
 
     pub said_once : NamesOnce m.text
     said_once =
-        by n.parcel refl (offer_read (program m.flow.source moments) n.peer n.parcel (programs_ranged (all_ours hosts) moments (served_in hosts moments time) m.flow.source refl) n.next) n.message
+        by n.parcel refl (offer_read (program m.flow.source moments) n.peer n.parcel (programs_ranged hosts moments (served_in hosts moments time) m.flow.source ours.0) n.next) n.message
         (next_is n.peer n.parcel (program m.flow.source moments).peers n.next)
 
-  pub out_once : (moments : List Moment) → mail.IsRun hosts (crossings_of moments) → IsTimeline hosts moments → (m : HostMessage) (place : ℕ) → CrossedAt place (going m) (crossings_of moments) → (m.flow.link.0 == 0) ≡ true → NamesOnce m.text
-  out_once [] run time m place i zero_link = absurd i
-  out_once (Asked h r ∷ moments) run time m place i zero_link = out_once moments run time.1 m place i zero_link
-  out_once (Crossed c ∷ moments) run time m place (inl i) zero_link =
-      let k : Coupled (all_ours hosts) (Crossed c ∷ moments) = coupled hosts addresses (Crossed c ∷ moments) run time in
-      said_once moments run.1 time.1 k.story.1 m (next_by c k.story (sym i.0)) zero_link where
-        next_by : (c : Crossing) → IsStory (all_ours hosts) (Crossed c ∷ moments) → c ≡ crossing.Out m → IsNext (program m.flow.source moments) m
-        next_by c story e = (subst (λ (d : Crossing). IsStory (all_ours hosts) (Crossed d ∷ moments)) e story).0 refl
-  out_once (Crossed c ∷ moments) run time m place (inr i) zero_link = out_once moments run.1 time.1 m place i zero_link
+  pub out_once : (moments : List Moment) → mail.IsRun hosts.all (crossings_of moments) → Happened hosts moments → (m : HostMessage) → AreOurs hosts m.flow.source m.flow.destination → (place : ℕ) → CrossedAt place (going m) (crossings_of moments) → (m.flow.link.0 == 0) ≡ true → NamesOnce m.text
+  out_once [] run time m ours place i zero_link = absurd i
+  out_once (Asked h r ∷ moments) run time m ours place i zero_link =
+      out_once moments run time.1 m ours place i zero_link
+  out_once (Crossed c ∷ moments) run time m ours place (inl i) zero_link =
+      let k : Coupled hosts (Crossed c ∷ moments) = coupled hosts addresses (Crossed c ∷ moments) run time in
+      said_once moments run.1 time.1 k.story.1 m ours (next_by c k.story (sym i.0)) zero_link where
+        next_by : (c : Crossing) → IsStory hosts (Crossed c ∷ moments) → c ≡ crossing.Out m
+            → IsNext (program m.flow.source moments) m
+        next_by c story e = (subst (λ (d : Crossing). IsStory hosts (Crossed d ∷ moments)) e story).0 ours.0
+  out_once (Crossed c ∷ moments) run time m ours place (inr i) zero_link =
+      out_once moments run.1 time.1 m ours place i zero_link
 
 -- ---- where it comes in
 
@@ -118,7 +126,7 @@ came_out hosts (c ∷ log) run m place (inl i) = by c (sym i.0) run where
       (more_out m.flow m.text (crossing.In m) log (waiting m.flow m.text log (subst (λ (x : Crossing). mail.IsRun hosts (x ∷ log)) e r).0.1))
 came_out hosts (c ∷ log) run m place (inr i) = more_out m.flow m.text c log (came_out hosts log run.1 m place i)
 
-pub in_once : (hosts : List Host) → HaveAddresses hosts → (moments : List Moment) → mail.IsRun hosts (crossings_of moments) → IsTimeline hosts moments → (m : HostMessage) (place : ℕ) → CrossedAt place (coming m) (crossings_of moments) → (m.flow.link.0 == 0) ≡ true → NamesOnce m.text
-in_once hosts addresses moments run time m place i zero_link =
-    let w : WentOut m.flow m.text (crossings_of moments) = came_out hosts (crossings_of moments) run m place i in
-    subst NamesOnce w.same (out_once hosts addresses moments run time w.message w.place w.crossed (ap (λ (f : Flow). f.link.0 == 0) w.flow ∙ zero_link))
+pub in_once : (hosts : Network) → HaveAddresses hosts.all → (moments : List Moment) → mail.IsRun hosts.all (crossings_of moments) → Happened hosts moments → (m : HostMessage) → AreOurs hosts m.flow.source m.flow.destination → (place : ℕ) → CrossedAt place (coming m) (crossings_of moments) → (m.flow.link.0 == 0) ≡ true → NamesOnce m.text
+in_once hosts addresses moments run time m ours place i zero_link =
+    let w : WentOut m.flow m.text (crossings_of moments) = came_out hosts.all (crossings_of moments) run m place i in
+    subst NamesOnce w.same (out_once hosts addresses moments run time w.message (subst (λ (f : Flow). AreOurs hosts f.source f.destination) (sym w.flow) ours) w.place w.crossed (ap (λ (f : Flow). f.link.0 == 0) w.flow ∙ zero_link))

@@ -1,6 +1,9 @@
 -- No end opens of which a CLS was queued or taken: so no life begins then.
-use Rattle.world_keeps_lives.proofs.Common.{◌≡◌, ◌⊎◌, inl, inr, ℕ, Bool, List, ◌∷◌, None, refl, ap, sym, subst, ◌∙◌, Contains, Host, HostMessage, Command, Order, has_cls, is_ending, Parcel, Entry, Notice, pair_with, HaveAddresses, Asked, Crossed, IsNext, IsStory, Moment, places, program, IsTimeline, crossings_of, host_in, notices_by, queued_commands}
-use Rattle.reset_law.specs.Network.{all_ours}
+use Rattle.world_keeps_lives.proofs.Common.{◌≡◌, ◌⊎◌, inl, inr, ℕ, Bool, List, ◌∷◌, None, refl, ap, sym, subst, ◌∙◌, Contains, Host, HostMessage, Command, Order, has_cls, is_ending, Parcel, Entry, Notice, pair_with, HaveAddresses, Asked, Crossed, IsNext, IsStory, Moment, places, program, crossings_of, host_in, notices_by, programs_ranged}
+use Rattle.reset_law.specs.Network.{Network}
+use Rattle.host_keeps_ranges.proofs.lemmas.{pair_range}
+use Rattle.net_sim.specs.Mixed.{Happened}
+use Rattle.world_keeps_pairing.proofs.lemmas.{served_in}
 use Rattle.std.proofs.Common.{true, false}
 use Rattle.std.proofs.lemmas.Bool.{or_right}
 use Rattle.interface.specs.Mailboxes as mail
@@ -70,7 +73,8 @@ module _ (p : Host) (own foreign : ℕ) where
 
   -- ---- one moment
 
-  module _ (hosts : List Host) (addresses : HaveAddresses hosts) (moments : List Moment) (run : mail.IsRun hosts (crossings_of moments)) (time : IsTimeline hosts moments) where
+  module _ (hosts : Network) (addresses : HaveAddresses hosts.all) (moments : List Moment)
+      (run : mail.IsRun hosts.all (crossings_of moments)) (time : Happened hosts moments) where
     abbrev AreShut : Host → Type 0
     AreShut h = (e : Entry) → Contains (pair_with p (program h moments).peers).entries e → e.own ≡ own → e.foreign ≡ foreign → is_ending e ≡ true
 
@@ -80,21 +84,23 @@ module _ (p : Host) (own foreign : ℕ) where
         (λ e there at is foreign_is. inl (shut e (subst (λ (x : Host). Contains (pair_with x (program h moments).peers).entries e) at there) is foreign_is))
         (each_of (pair_with g (program h moments).peers).entries)
 
-    pub unopened : (y : Moment) → IsStory (all_ours hosts) (y ∷ moments) → AreShut (host_in y) → Each (IsNoOpening p own foreign) (notices_by y moments)
-    unopened (Crossed (crossing.Out m)) story shut =
+    pub unopened : (y : Moment) → hosts.strange (host_in y) ≡ false → IsStory hosts (y ∷ moments) → AreShut (host_in y)
+        → Each (IsNoOpening p own foreign) (notices_by y moments)
+    unopened (Crossed (crossing.Out m)) plain story shut =
         (offer_keeps (Shut m.flow.destination ⊥) (IsNoOpening p own foreign) m.flow.destination (shut_rules m.flow.destination ⊥) (program m.flow.source moments) (places moments) n.peer n.parcel n.order n.next
-        (sym (ap (λ (x : HostMessage). x.flow.destination) n.message)) (queued_commands hosts moments addresses run time m.flow.source m.flow.destination) (may n.parcel) (at_first m.flow.source m.flow.destination ⊥ shut)).told where
+        (sym (ap (λ (x : HostMessage). x.flow.destination) n.message)) (pair_range m.flow.destination (program m.flow.source moments).peers (programs_ranged hosts moments (served_in hosts moments time) m.flow.source plain).pairs).commands (may n.parcel) (at_first m.flow.source m.flow.destination ⊥ shut)).told where
           n : IsNext (program m.flow.source moments) m
-          n = story.0 refl
+          n = story.0 plain
 
           may : (z : Parcel) → MayTell (Shut m.flow.destination ⊥) (IsNoOpening p own foreign) m.flow.destination (shut_rules m.flow.destination ⊥) (places moments) z (pair_with m.flow.destination (program m.flow.source moments).peers)
           may (parcel.Commands count) = shut_goes m.flow.destination (places moments) _
           may z = tt
-    unopened (Crossed (crossing.In m)) story shut =
+    unopened (Crossed (crossing.In m)) plain story shut =
         (message_keeps (Shut m.flow.source (Unit {0})) (IsNoOpening p own foreign) m.flow.source (shut_rules m.flow.source (Unit {0})) (program m.flow.destination moments) m (places moments) refl
         ((λ zero. shut_hears m.flow.source (places moments) _), (λ off e k f o t. tt)) (at_first m.flow.destination m.flow.source (Unit {0}) shut)).told
-    unopened (Crossed (crossing.Answer kind f)) story shut =
+    unopened (Crossed (crossing.Answer kind f)) plain story shut =
         (answer_keeps (Shut f.destination ⊥) (IsNoOpening p own foreign) f.destination (shut_rules f.destination ⊥) (program f.source moments) kind f (places moments) refl (at_first f.source f.destination ⊥ shut)).told
-    unopened (Crossed (crossing.Down g)) story shut = tt
-    unopened (Crossed (crossing.Up g)) story shut = tt
-    unopened (Asked h r) story shut = request_told (Shut h ⊥) (IsNoOpening p own foreign) h (shut_rules h ⊥) (program h moments) r
+    unopened (Crossed (crossing.Down g)) plain story shut = tt
+    unopened (Crossed (crossing.Up g)) plain story shut = tt
+    unopened (Asked h r) plain story shut =
+        request_told (Shut h ⊥) (IsNoOpening p own foreign) h (shut_rules h ⊥) (program h moments) r

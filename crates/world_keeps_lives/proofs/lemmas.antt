@@ -1,5 +1,7 @@
 -- The lemmas of this crate that others may use: the proofs of headline, mixed_worlds and world_keeps_streams do.
 -- All others in proofs/ are its own.
+pub use Rattle.world_keeps_lives.proofs.AllOurs
+pub use Rattle.world_keeps_lives.proofs.AnyPeer.{SomeEnd, any_message, one_order}
 pub use Rattle.world_keeps_lives.proofs.Asks.{request_holds}
 pub use Rattle.world_keeps_lives.proofs.Books.{all_told_append, each_ending}
 pub use Rattle.world_keeps_lives.proofs.Calms.{map_two}
@@ -7,8 +9,8 @@ pub use Rattle.world_keeps_lives.proofs.Desks.{AreAside, At, Elsewhere, IsLess, 
 pub use Rattle.world_keeps_lives.proofs.Drained.{drained, world_drained}
 pub use Rattle.world_keeps_lives.proofs.Ends.{IsRefusing, found_changed, none_changed, refusing_found}
 pub use Rattle.world_keeps_lives.proofs.Facts.{no}
-pub use Rattle.world_keeps_lives.proofs.FirstBooks.{WasAt, linked_book, linked_end, same_out, was_or_begins}
-pub use Rattle.world_keeps_lives.proofs.FirstEnds.{HasOwner, Together, not_zero}
+pub use Rattle.world_keeps_lives.proofs.Firsts.Books.{WasAt, linked_book, linked_end, same_out, was_or_begins}
+pub use Rattle.world_keeps_lives.proofs.Firsts.Ends.{HasOwner, Together, not_zero}
 pub use Rattle.world_keeps_lives.proofs.Formed.{end_link, first_book, formed_book}
 pub use Rattle.world_keeps_lives.proofs.Goes.{IsOfTwo, Waits, all_go, unasked_by}
 pub use Rattle.world_keeps_lives.proofs.Grounds.{crossed_below}
@@ -16,8 +18,7 @@ pub use Rattle.world_keeps_lives.proofs.Hosts.{HasEnds, Holds, answer_holds, mes
 pub use Rattle.world_keeps_lives.proofs.Hosts.{offer_holds, same_turned, waits}
 pub use Rattle.world_keeps_lives.proofs.Laws.{handed, live, live_end, safe_life, taken, world_handed, world_taken}
 pub use Rattle.world_keeps_lives.proofs.Linked.{Linked, LinkedBook}
-pub use Rattle.world_keeps_lives.proofs.Moments.{acts, asked_away, crossed_holds, ended_holds, has_ends}
-pub use Rattle.world_keeps_lives.proofs.Moments.{held, idle_if, opening_holds, up_at}
+pub use Rattle.world_keeps_lives.proofs.Moments.{has_ends}
 pub use Rattle.world_keeps_lives.proofs.Named.{NamedAt, Names, found_at, named_again, named_is, named_there, names_of, some_named, way_of}
 pub use Rattle.world_keeps_lives.proofs.Named.{none_some}
 pub use Rattle.world_keeps_lives.proofs.Walk.Never.{has_not, never_earlier}
@@ -30,6 +31,8 @@ pub use Rattle.world_keeps_lives.proofs.Walk.ByRules.{offer_keeps, request_keeps
 pub use Rattle.world_keeps_lives.proofs.Walk.Rules.{Begins, Each, Goes, Hears, IsOther, MayTell, Quiet}
 pub use Rattle.world_keeps_lives.proofs.Walk.Rules.{Rules, each_first, each_in, each_of, each_weaker, found_in, quiet_off, quiet_sent}
 pub use Rattle.world_keeps_lives.proofs.Rows.{none_there}
+pub use Rattle.world_keeps_lives.proofs.Sockets.{IsFit}
+pub use Rattle.world_keeps_lives.proofs.Sockets
 pub use Rattle.world_keeps_lives.proofs.Steps.{called_less, closed_less, good_queued, heard_less, sent_less}
 pub use Rattle.world_keeps_lives.proofs.Takes.{G, good_data, good_taken}
 pub use Rattle.world_keeps_lives.proofs.Texts.{before_still, texts_none, texts_one, texts_same}

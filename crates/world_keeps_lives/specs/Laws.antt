@@ -11,36 +11,42 @@ use Rattle.net_sim.specs.Clean.{HaveAddresses, IsLawful}
 use Rattle.net_sim.specs.Story.{Moment, program}
 use Rattle.net_sim.specs.Timeline.{IsTimeline, crossings_of}
 use Rattle.net_sim.specs.Told.{kept_in}
+use Rattle.net_sim.specs.Mixed.{Happened, mixed_kept}
 use Rattle.net_sim.specs.World.{WorldState}
+use Rattle.reset_law.specs.Network.{Network}
 use Rattle.world_keeps_lives.specs.Drained.{AllDrained, AllSent}
 use Rattle.world_keeps_lives.specs.Lives.{HasOpenEnd, IsBounded, IsFreeSocket, IsOwned, IsSteady}
 
--- What each host has, over every list of moments in which what crosses is a run of the mailboxes.
+-- What each host has, over every list of moments in which what crosses is a run of the mailboxes. The first five are of a
+-- host with a program, whatever strangers do, the others where all hosts run the program.
 pub record Programs : Type 0 where
   -- each of its sockets is free, or has one end of the host's own, whose lives are all that continue there
   pub sockets :
-      (hosts : List Host) (moments : List Moment) → HaveAddresses hosts → mail.IsRun hosts (crossings_of moments) →
-      IsTimeline hosts moments → (h : Host) (socket : ℕ) →
-      IsFreeSocket h socket (program h moments) (kept_in moments) ⊎ IsOwned h socket (program h moments)
-      (kept_in moments)
+      (hosts : Network) (moments : List Moment) → HaveAddresses hosts.all → mail.IsRun hosts.all (crossings_of moments) →
+      Happened hosts moments → (h : Host) → hosts.strange h ≡ false → (socket : ℕ) →
+      IsFreeSocket h socket (program h moments) (mixed_kept hosts.strange moments) ⊎
+      IsOwned h socket (program h moments) (mixed_kept hosts.strange moments)
   -- ends that aren't its own refuse, and pairs that aren't through a reset have none
   pub steady :
-      (hosts : List Host) (moments : List Moment) → HaveAddresses hosts → mail.IsRun hosts (crossings_of moments) →
-      IsTimeline hosts moments → (h : Host) → IsSteady (program h moments)
+      (hosts : Network) (moments : List Moment) → HaveAddresses hosts.all → mail.IsRun hosts.all (crossings_of moments) →
+      Happened hosts moments → (h : Host) → hosts.strange h ≡ false → IsSteady (program h moments)
   -- a life that isn't over is that of the one end on its socket
   pub live :
-      (hosts : List Host) (moments : List Moment) → HaveAddresses hosts → mail.IsRun hosts (crossings_of moments) →
-      IsTimeline hosts moments → (x : Life) → Contains (kept_in moments).book.lives x → x.ended ≡ false →
+      (hosts : Network) (moments : List Moment) → HaveAddresses hosts.all → mail.IsRun hosts.all (crossings_of moments) →
+      Happened hosts moments → (x : Life) → hosts.strange x.host ≡ false →
+      Contains (mixed_kept hosts.strange moments).book.lives x → x.ended ≡ false →
       HasOpenEnd (program x.host moments) x
   -- what a receiving life took, with what was returned, is within what it granted
   pub taken :
-      (hosts : List Host) (moments : List Moment) → HaveAddresses hosts → mail.IsRun hosts (crossings_of moments) →
-      IsTimeline hosts moments → (receiver : Life) → Contains (kept_in moments).book.lives receiver →
+      (hosts : Network) (moments : List Moment) → HaveAddresses hosts.all → mail.IsRun hosts.all (crossings_of moments) →
+      Happened hosts moments → (receiver : Life) → hosts.strange receiver.host ≡ false →
+      Contains (mixed_kept hosts.strange moments).book.lives receiver →
       receives receiver ≡ true → IsGranted receiver receiver.messages (length receiver.bits)
   -- of what a receiving life granted, all but what a counter can hold was taken or returned
   pub bounded :
-      (hosts : List Host) (moments : List Moment) → HaveAddresses hosts → mail.IsRun hosts (crossings_of moments) →
-      IsTimeline hosts moments → (receiver : Life) → Contains (kept_in moments).book.lives receiver →
+      (hosts : Network) (moments : List Moment) → HaveAddresses hosts.all → mail.IsRun hosts.all (crossings_of moments) →
+      Happened hosts moments → (receiver : Life) → hosts.strange receiver.host ≡ false →
+      Contains (mixed_kept hosts.strange moments).book.lives receiver →
       receives receiver ≡ true → IsBounded receiver
   -- what each sending life sent is a prefix of what was handed over in it
   pub handed :

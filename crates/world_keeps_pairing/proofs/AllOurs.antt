@@ -3,8 +3,6 @@ use Rattle.world_keeps_pairing.proofs.Common.{◌≡◌, ℕ, false, true, List,
 use Rattle.interface.specs.Calls.{Seen}
 use Rattle.interface.specs.Mailboxes as mail
 use Rattle.interface.proofs.lemmas.{run_below}
-use Rattle.host_pairs.specs.declared.entry.Entry.{Entry}
-use Rattle.ncp_control.specs.declared.command.Command.TheVariants as command
 use Rattle.promise.specs.declared.life.Life.{Life}
 use Rattle.reset_law.specs.Network.{all_ours}
 use Rattle.reset_law.specs.Runs.{IsRun}
@@ -28,12 +26,6 @@ served_in hosts moments time = all.served_in (all_ours hosts) moments (happened 
 module _ (hosts : List Host) (moments : List Moment) (addresses : HaveAddresses hosts) (run : mail.IsRun hosts (crossings_of moments)) (time : IsTimeline hosts moments) where
   pub queued_commands : (a b : Host) → AreCommands (pair_with b (program a moments).peers).queue
   queued_commands a b = links.queued_commands (all_ours hosts) moments addresses run (happened hosts moments time) a b (refl, refl)
-
-  pub queued_once : (a b : Host) (own foreign l k : ℕ) → Contains (pair_with b (program a moments).peers).queue (command.Rts own foreign l) → Contains (pair_with b (program a moments).peers).queue (command.Rts own foreign k) → l ≡ k
-  queued_once a b = links.queued_once (all_ours hosts) moments addresses run (happened hosts moments time) a b (refl, refl)
-
-  pub queued_link : (a b : Host) (l : ℕ) (e : Entry) → Contains (pair_with b (program a moments).peers).queue (command.Rts e.own e.foreign l) → Contains (pair_with b (program a moments).peers).entries e → e.mine ≡ true → e.link ≡ Some l
-  queued_link a b = links.queued_link (all_ours hosts) moments addresses run (happened hosts moments time) a b (refl, refl)
 
 module _ (hosts : List Host) (moments : List Moment) (story : IsStory (all_ours hosts) moments) (run : IsRun (all_ours hosts) (events_of moments)) (mails : mail.IsRun hosts (crossings_of moments)) (served : AreServed (all_ours hosts) moments) where
   abbrev book : List Life

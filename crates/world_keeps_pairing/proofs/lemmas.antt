@@ -2,7 +2,7 @@
 pub use Rattle.world_keeps_pairing.proofs.AllOurs
 pub use Rattle.world_keeps_pairing.proofs.BookPartners.{life_in, life_matches, life_paired, one_own, partner_named, place_there, safe_partners}
 pub use Rattle.world_keeps_pairing.proofs.BookPartners.{other_sends}
-pub use Rattle.world_keeps_pairing.proofs.LifeLists.{between_itself, in_among, told_in}
+pub use Rattle.world_keeps_pairing.proofs.LifeLists.{between_itself, in_among, in_book, told_in}
 pub use Rattle.world_keeps_pairing.proofs.LinkDesks.{and_never}
 pub use Rattle.world_keeps_pairing.proofs.LinkGone.{some_commands}
 pub use Rattle.world_keeps_pairing.proofs.LinkRun.{AllTied, all_tied, heard_off_in, queued_commands, queued_link, queued_once, takes}

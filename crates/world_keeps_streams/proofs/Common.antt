@@ -53,7 +53,7 @@ pub use Rattle.net_sim.specs.Book.{Kept, all_told, book_told, carried, changed_w
 pub use Rattle.net_sim.specs.Clean.{HaveAddresses, IsLawful}
 pub use Rattle.net_sim.specs.Projection.{Agrees, AllPlain, ArePlain, IsApart, control_message, event_by, is_rrp, is_rst, message_on}
 pub use Rattle.net_sim.specs.Story.{Asked, Crossed, IsNext, IsStory, Moment, event_in, events_of, places, program}
-pub use Rattle.net_sim.specs.Timeline.{Happens, IsTimeline, contacts_of, crossings_of, seen_box}
+pub use Rattle.net_sim.specs.Timeline.{IsTimeline, contacts_of, crossings_of, seen_box}
 pub use Rattle.net_sim.specs.Told.{host_in, kept_by, notices_by}
 pub use Rattle.net_sim.specs.WorkedMoments.{bits_sent, eight_sent, sent_moments}
 pub use Rattle.net_sim.specs.World.{WorldState}
@@ -98,7 +98,8 @@ pub use Rattle.stream_law.proofs.lemmas.{Inv, came_inv, for_here, safe_inv, some
 pub use Rattle.stream_law.specs.Streams.{Stream, opening_stream}
 pub use Rattle.stream_law.specs.Within.{IsSafe, message_bits, waiting_in}
 pub use Rattle.stream_law.specs.Words.{All, Cls, Gvb, Ret, Rts, Str, Word, covers, for, holds, is_size}
-pub use Rattle.world_keeps_lives.proofs.lemmas.{At, Each, Elsewhere, GoodTurn, IsOfTwo, Linked, LinkedBook, Near, Place, all_told_append, clash, each_in, good_queued, good_ready, good_taken, has_ends, held, linked_end, live, none_there, open_mine, open_parts, owner_found, refusing_found, same_turned, texts_one, unopened}
+pub use Rattle.world_keeps_lives.proofs.lemmas.AllOurs.{held}
+pub use Rattle.world_keeps_lives.proofs.lemmas.{At, Each, Elsewhere, GoodTurn, IsOfTwo, Linked, LinkedBook, Near, Place, all_told_append, clash, each_in, good_queued, good_ready, good_taken, has_ends, linked_end, live, none_there, open_mine, open_parts, owner_found, refusing_found, same_turned, texts_one, unopened}
 pub use Rattle.world_keeps_lives.specs.Drained.{ClosesFirst}
 pub use Rattle.world_keeps_lives.specs.Lives.{AreRefusing, HasOpenEnd, IsLifeOf, at_socket, mine_on}
 pub use Rattle.world_keeps_lives.specs.WorkedFormed.{gave, sent_log}

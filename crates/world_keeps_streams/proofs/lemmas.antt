@@ -13,6 +13,6 @@ pub use Rattle.world_keeps_streams.proofs.Books.Handed.{world_handed_over}
 pub use Rattle.world_keeps_streams.proofs.Books.Later.{world_closes}
 pub use Rattle.world_keeps_streams.proofs.Books.Settled.{world_settles}
 pub use Rattle.world_keeps_streams.proofs.Books.Firsts.{world_firsts, world_formed}
-pub use Rattle.world_keeps_streams.proofs.Ends.Contacts.{world_contacts}
+pub use Rattle.world_keeps_streams.proofs.Ends.Contacts.{contacts_now_are, world_contacts}
 pub use Rattle.world_keeps_streams.proofs.Ends.Fits.{world_over}
 pub use Rattle.world_keeps_streams.proofs.Ends.Within.{world_within}

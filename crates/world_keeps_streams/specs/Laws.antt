@@ -24,6 +24,8 @@ use Rattle.promise.specs.Ends.{AreContacts, AreLeft}
 use Rattle.promise.specs.Safe.{IsGranted, Match, Source, receives}
 use Rattle.promise.specs.declared.life.Fate.TheVariants as fate
 use Rattle.promise.specs.declared.life.Life.{Life}
+use Rattle.reset_law.specs.Network.{AreOurs, Network}
+use Rattle.net_sim.specs.Mixed.{Happened}
 use Rattle.net_sim.specs.Clean.{HaveAddresses, IsLawful}
 use Rattle.net_sim.specs.Story.{Asked, Crossed, Moment, events_of, program}
 use Rattle.net_sim.specs.Timeline.{IsTimeline, contacts_of, crossings_of}
@@ -45,24 +47,24 @@ use Rattle.world_keeps_streams.specs.Within.{CountNothingLater}
 pub record Programs : Type 0 where
   -- its calls since it dropped its ends with the peer last follow one another, and lead to the ends that it has
   pub calls :
-      (hosts : List Host) (moments : List Moment) → HaveAddresses hosts → mail.IsRun hosts (crossings_of moments) →
-      IsTimeline hosts moments → (a b : Host) →
+      (hosts : Network) (moments : List Moment) → HaveAddresses hosts.all → mail.IsRun hosts.all (crossings_of moments) →
+      Happened hosts moments → (a b : Host) → AreOurs hosts a b →
       IsHistory b (own_calls a b moments) ×
       (ends_now b (own_calls a b moments) ≡ (pair_with b (program a moments).peers).entries)
   -- each of them may be made, on each link of a connection: what the laws of one host's calls ask for is so
   pub allowed :
-      (hosts : List Host) (moments : List Moment) → HaveAddresses hosts → mail.IsRun hosts (crossings_of moments) →
-      IsTimeline hosts moments → (a b : Host) (link : ℕ) → (link == 0) ≡ false →
+      (hosts : Network) (moments : List Moment) → HaveAddresses hosts.all → mail.IsRun hosts.all (crossings_of moments) →
+      Happened hosts moments → (a b : Host) → AreOurs hosts a b → (link : ℕ) → (link == 0) ≡ false →
       AreAllowed numbered b link (own_calls a b moments)
   -- so what the program has on the link is what the law of streams has there
   pub receiver :
-      (hosts : List Host) (moments : List Moment) → HaveAddresses hosts → mail.IsRun hosts (crossings_of moments) →
-      IsTimeline hosts moments → (a b : Host) (link : ℕ) → (link == 0) ≡ false →
+      (hosts : Network) (moments : List Moment) → HaveAddresses hosts.all → mail.IsRun hosts.all (crossings_of moments) →
+      Happened hosts moments → (a b : Host) → AreOurs hosts a b → (link : ℕ) → (link == 0) ≡ false →
       HasReceiver (name_now numbered b (own_calls a b moments)) link (pair_with b (program a moments).peers).entries
       (receiver_now numbered b link (own_calls a b moments))
   pub sender :
-      (hosts : List Host) (moments : List Moment) → HaveAddresses hosts → mail.IsRun hosts (crossings_of moments) →
-      IsTimeline hosts moments → (a b : Host) (link : ℕ) → (link == 0) ≡ false →
+      (hosts : Network) (moments : List Moment) → HaveAddresses hosts.all → mail.IsRun hosts.all (crossings_of moments) →
+      Happened hosts moments → (a b : Host) → AreOurs hosts a b → (link : ℕ) → (link == 0) ≡ false →
       IsSending (name_now numbered b (own_calls a b moments)) link (pair_with b (program a moments).peers).entries
       (sender_now numbered b link (own_calls a b moments))
 
@@ -71,15 +73,15 @@ pub record Programs : Type 0 where
 pub record Streams : Type 0 where
   -- what the one has taken in a connection is a prefix of what the other has sent in it
   pub front :
-      (hosts : List Host) (moments : List Moment) → HaveAddresses hosts → mail.IsRun hosts (crossings_of moments) →
-      IsTimeline hosts moments → (a b : Host) (link : ℕ) → (link == 0) ≡ false →
+      (hosts : Network) (moments : List Moment) → HaveAddresses hosts.all → mail.IsRun hosts.all (crossings_of moments) →
+      Happened hosts moments → (a b : Host) → AreOurs hosts a b → (link : ℕ) → (link == 0) ≡ false →
       stay.stays a b (events_of moments) ≡ true → stay.stays b a (events_of moments) ≡ true → (c : ℕ) →
       IsPrefix ((receiver_now numbered b link (own_calls a b moments)).taken c)
       ((sender_now numbered_by_peer a link (own_calls b a moments)).sent c)
   -- and all of it, where it has heard the other's CLS and its own user hasn't closed the end
   pub whole :
-      (hosts : List Host) (moments : List Moment) → HaveAddresses hosts → mail.IsRun hosts (crossings_of moments) →
-      IsTimeline hosts moments → (a b : Host) (link : ℕ) → (link == 0) ≡ false →
+      (hosts : Network) (moments : List Moment) → HaveAddresses hosts.all → mail.IsRun hosts.all (crossings_of moments) →
+      Happened hosts moments → (a b : Host) → AreOurs hosts a b → (link : ℕ) → (link == 0) ≡ false →
       stay.stays a b (events_of moments) ≡ true → stay.stays b a (events_of moments) ≡ true → (c : ℕ) →
       (receiver_now numbered b link (own_calls a b moments)).over c ≡ true →
       (HasClosed numbered b link c (own_calls a b moments) → ⊥) →
@@ -87,15 +89,15 @@ pub record Streams : Type 0 where
       ≡ (sender_now numbered_by_peer a link (own_calls b a moments)).sent c
   -- with what was returned, what was taken is within what was granted, and so is what was sent
   pub taken :
-      (hosts : List Host) (moments : List Moment) → HaveAddresses hosts → mail.IsRun hosts (crossings_of moments) →
-      IsTimeline hosts moments → (a b : Host) (link : ℕ) → (link == 0) ≡ false →
+      (hosts : Network) (moments : List Moment) → HaveAddresses hosts.all → mail.IsRun hosts.all (crossings_of moments) →
+      Happened hosts moments → (a b : Host) → AreOurs hosts a b → (link : ℕ) → (link == 0) ≡ false →
       stay.stays a b (events_of moments) ≡ true → stay.stays b a (events_of moments) ≡ true → (c : ℕ) →
       AreGranted ((receiver_now numbered b link (own_calls a b moments)).taken c)
       ((receiver_now numbered b link (own_calls a b moments)).returned c)
       ((receiver_now numbered b link (own_calls a b moments)).granted c)
   pub sent :
-      (hosts : List Host) (moments : List Moment) → HaveAddresses hosts → mail.IsRun hosts (crossings_of moments) →
-      IsTimeline hosts moments → (a b : Host) (link : ℕ) → (link == 0) ≡ false →
+      (hosts : Network) (moments : List Moment) → HaveAddresses hosts.all → mail.IsRun hosts.all (crossings_of moments) →
+      Happened hosts moments → (a b : Host) → AreOurs hosts a b → (link : ℕ) → (link == 0) ≡ false →
       stay.stays a b (events_of moments) ≡ true → stay.stays b a (events_of moments) ≡ true → (c : ℕ) →
       AreGranted ((sender_now numbered_by_peer a link (own_calls b a moments)).sent c)
       ((receiver_now numbered b link (own_calls a b moments)).returned c)

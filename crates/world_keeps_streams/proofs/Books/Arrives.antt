@@ -1,5 +1,7 @@
 -- Data that are taken where they come for a receiving life whose end is open, or which no user of its host has closed, arrive there.
 use Rattle.world_keeps_streams.proofs.Common.{◌≡◌, inl, inr, ◌==◌, ◌&&◌, not, ℕ, Bool, true, false, List, [], ◌∷◌, ◌++◌, length, filter, find, drop, Option, Some, is_some, refl, ap, sym, subst, ◌∙◌, eq-eqb, eqb-true, Contains, Seen, Host, same_host, HostMessage, same_host-refl, data_bits, header_of, is_receive_socket, DataHeader, covers, Inv, some_is, waits_of, found_in, arrived_if, data_found, data_of, data_taken, is_acceptable, DeskState, desk_of, has_cls, is_link, is_mine_on, is_open, receives_on, message_taken, Entry, both, AreReceiver, HasReceiver, IsReceiver, HasClosed, name_now, numbered, receiver_now, accept_same, bits_there, closed_first, accepted, turn_of, NcpState, pair_with, HaveAddresses, IsLawful, Crossed, Moment, events_of, places, program, IsTimeline, crossings_of, WorldState, program_own, HasOpenEnd, held, book_run, mail_below, Arrives, ComesFor, own_calls}
+use Rattle.reset_law.specs.Network.{all_ours}
+use Rattle.net_sim.proofs.lemmas.AllOurs.{happened}
 use Rattle.interface.specs.Mailboxes as mail
 use Rattle.interface.specs.declared.crossing.Crossing.TheVariants as crossing
 use Rattle.interface.specs.declared.crossing.Inbound.TheVariants as inbound
@@ -99,22 +101,22 @@ module _ (hosts : List Host) (addresses : HaveAddresses hosts) (m : HostMessage)
   here : receives_on link f.end.end ≡ true
   here = on_link link f.end.end x own f.receiving f.link
 
-  has : HasReceiver (name_now numbered x.peer (own_calls x.host x.peer ms)) link es (joined link f.off_control hosts addresses x.host x.peer ms lawful.1 time.1).x.receiver
-  has = subst (λ (r : Receiver). HasReceiver (name_now numbered x.peer (own_calls x.host x.peer ms)) link es r) (sym ((joined link f.off_control hosts addresses x.host x.peer ms lawful.1 time.1).received_a stays))
-      (has_receiver hosts addresses link f.off_control x.host x.peer ms lawful.1 time.1)
+  has : HasReceiver (name_now numbered x.peer (own_calls x.host x.peer ms)) link es (joined link f.off_control (all_ours hosts) addresses x.host x.peer (refl, refl) ms lawful.1 (happened hosts ms time.1)).x.receiver
+  has = subst (λ (r : Receiver). HasReceiver (name_now numbered x.peer (own_calls x.host x.peer ms)) link es r) (sym ((joined link f.off_control (all_ours hosts) addresses x.host x.peer (refl, refl) ms lawful.1 (happened hosts ms time.1)).received_a stays))
+      (has_receiver (all_ours hosts) addresses link f.off_control x.host x.peer (refl, refl) ms lawful.1 (happened hosts ms time.1))
 
-  the_end : (filter (receives_on link) es ≡ f.end.end ∷ []) × IsReceiver (name_now numbered x.peer (own_calls x.host x.peer ms) f.end.end.own f.end.end.foreign) f.end.end (joined link f.off_control hosts addresses x.host x.peer ms lawful.1 time.1).x.receiver
+  the_end : (filter (receives_on link) es ≡ f.end.end ∷ []) × IsReceiver (name_now numbered x.peer (own_calls x.host x.peer ms) f.end.end.own f.end.end.foreign) f.end.end (joined link f.off_control (all_ours hosts) addresses x.host x.peer (refl, refl) ms lawful.1 (happened hosts ms time.1)).x.receiver
   the_end =
-      one_end (name_now numbered x.peer (own_calls x.host x.peer ms)) f.end.end (filter (receives_on link) es) (joined link f.off_control hosts addresses x.host x.peer ms lawful.1 time.1).x.receiver has
+      one_end (name_now numbered x.peer (own_calls x.host x.peer ms)) f.end.end (filter (receives_on link) es) (joined link f.off_control (all_ours hosts) addresses x.host x.peer (refl, refl) ms lawful.1 (happened hosts ms time.1)).x.receiver has
       (among_kept (receives_on link) es f.end.end at_it.0 here)
 
-  in_box : Boxed m.text (joined link f.off_control hosts addresses x.host x.peer ms lawful.1 time.1).x.box
+  in_box : Boxed m.text (joined link f.off_control (all_ours hosts) addresses x.host x.peer (refl, refl) ms lawful.1 (happened hosts ms time.1)).x.box
   in_box = lies_there hosts addresses m ms run time x.host x.peer (record { stays = stays; host = f.host; peer = f.peer; off_control = f.off_control })
 
   -- ---- the end finds it acceptable
 
   abbrev r : Receiver
-  r = (joined link f.off_control hosts addresses x.host x.peer ms lawful.1 time.1).x.receiver
+  r = (joined link f.off_control (all_ours hosts) addresses x.host x.peer (refl, refl) ms lawful.1 (happened hosts ms time.1)).x.receiver
 
   abbrev c : ℕ
   c = name_now numbered x.peer (own_calls x.host x.peer ms) f.end.end.own f.end.end.foreign
@@ -123,16 +125,16 @@ module _ (hosts : List Host) (addresses : HaveAddresses hosts) (m : HostMessage)
   same_connection : in_box.connection ≡ c
   same_connection =
       some_is in_box.connection c
-      (sym (waits_of (joined link f.off_control hosts addresses x.host x.peer ms lawful.1 time.1).x (joined link f.off_control hosts addresses x.host x.peer ms lawful.1 time.1).joint.inv_x
+      (sym (waits_of (joined link f.off_control (all_ours hosts) addresses x.host x.peer (refl, refl) ms lawful.1 (happened hosts ms time.1)).x (joined link f.off_control (all_ours hosts) addresses x.host x.peer (refl, refl) ms lawful.1 (happened hosts ms time.1)).joint.inv_x
       in_box.connection in_box.size in_box.bits in_box.is) ∙ the_end.1.end)
 
-  inv : Inv (joined link f.off_control hosts addresses x.host x.peer ms lawful.1 time.1).x
-  inv = (joined link f.off_control hosts addresses x.host x.peer ms lawful.1 time.1).joint.inv_x
+  inv : Inv (joined link f.off_control (all_ours hosts) addresses x.host x.peer (refl, refl) ms lawful.1 (happened hosts ms time.1)).x
+  inv = (joined link f.off_control (all_ours hosts) addresses x.host x.peer (refl, refl) ms lawful.1 (happened hosts ms time.1)).joint.inv_x
 
-  sender_open : (joined link f.off_control hosts addresses x.host x.peer ms lawful.1 time.1).x.sender.closed c ≡ false
+  sender_open : (joined link f.off_control (all_ours hosts) addresses x.host x.peer (refl, refl) ms lawful.1 (happened hosts ms time.1)).x.sender.closed c ≡ false
   sender_open =
-      subst (λ (k : ℕ). (joined link f.off_control hosts addresses x.host x.peer ms lawful.1 time.1).x.sender.closed k ≡ false) same_connection
-      (waits (joined link f.off_control hosts addresses x.host x.peer ms lawful.1 time.1).x.sender in_box.connection in_box.size (rw in_box.is at inv.waiting)) where
+      subst (λ (k : ℕ). (joined link f.off_control (all_ours hosts) addresses x.host x.peer (refl, refl) ms lawful.1 (happened hosts ms time.1)).x.sender.closed k ≡ false) same_connection
+      (waits (joined link f.off_control (all_ours hosts) addresses x.host x.peer (refl, refl) ms lawful.1 (happened hosts ms time.1)).x.sender in_box.connection in_box.size (rw in_box.is at inv.waiting)) where
         waits : (s : Sender) (k z : ℕ) → (s.end ≡ Some k) × (s.opened ≡ true) × (s.closed k ≡ false) × (s.size k ≡ Some z) → s.closed k ≡ false
         waits s k z w = w.2
 
@@ -140,7 +142,7 @@ module _ (hosts : List Host) (addresses : HaveAddresses hosts) (m : HostMessage)
   unheard = by (r.over c) refl where
     by : (v : Bool) → r.over c ≡ v → v ≡ false
     by false e = refl
-    by true e = absurd (unlike ((joined link f.off_control hosts addresses x.host x.peer ms lawful.1 time.1).x.sender.closed c) (inv.ends.passed c e) sender_open)
+    by true e = absurd (unlike ((joined link f.off_control (all_ours hosts) addresses x.host x.peer (refl, refl) ms lawful.1 (happened hosts ms time.1)).x.sender.closed c) (inv.ends.passed c e) sender_open)
 
   unsaid : IsUnclosed link ms x → r.closed ≡ false
   unsaid none = by r.closed refl where
@@ -148,7 +150,7 @@ module _ (hosts : List Host) (addresses : HaveAddresses hosts) (m : HostMessage)
     by false e = refl
     by true e =
         let first : (receiver_now numbered x.peer link (own_calls x.host x.peer ms)).first c ≡ true =
-        ap (λ (s : Receiver). s.first c) (sym ((joined link f.off_control hosts addresses x.host x.peer ms lawful.1 time.1).received_a stays)) ∙ inv.arrivals.firsts c the_end.1.end e unheard in
+        ap (λ (s : Receiver). s.first c) (sym ((joined link f.off_control (all_ours hosts) addresses x.host x.peer (refl, refl) ms lawful.1 (happened hosts ms time.1)).received_a stays)) ∙ inv.arrivals.firsts c the_end.1.end e unheard in
         let name : c ≡ name_now numbered x.peer (own_calls x.host x.peer ms) x.socket x.foreign =
         ap (λ (k : ℕ). name_now numbered x.peer (own_calls x.host x.peer ms) k f.end.end.foreign) own ∙ ap (λ (k : ℕ). name_now numbered x.peer (own_calls x.host x.peer ms) x.socket k) f.end.foreign in
         absurd (none (subst (λ (k : ℕ). HasClosed numbered x.peer link k (own_calls x.host x.peer ms)) name (closed_first numbered x.peer link c (own_calls x.host x.peer ms) first)))
@@ -169,7 +171,7 @@ module _ (hosts : List Host) (addresses : HaveAddresses hosts) (m : HostMessage)
 
   fits : (receivers.is_open c r && words.is_size in_box.size (r.size c) && covers r.allocation (length in_box.bits)) ≡ true
   fits =
-      acceptable (joined link f.off_control hosts addresses x.host x.peer ms lawful.1 time.1).x (joined link f.off_control hosts addresses x.host x.peer ms lawful.1 time.1).joint.inv_x c in_box.size in_box.bits
+      acceptable (joined link f.off_control (all_ours hosts) addresses x.host x.peer (refl, refl) ms lawful.1 (happened hosts ms time.1)).x (joined link f.off_control (all_ours hosts) addresses x.host x.peer (refl, refl) ms lawful.1 (happened hosts ms time.1)).joint.inv_x c in_box.size in_box.bits
       (in_box.is ∙ ap (λ (k : ℕ). Waiting k in_box.size in_box.bits) same_connection) (open_parts c r opened).0 (open_parts c r opened).1
 
   good : is_acceptable f.end.end in_box.header ≡ true

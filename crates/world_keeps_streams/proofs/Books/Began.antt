@@ -14,7 +14,7 @@ use Rattle.world_keeps_streams.proofs.Lives.Left.{found_tied}
 use Rattle.world_keeps_streams.proofs.Lives.Lists.{IsOf, Named, contains, is_of}
 use Rattle.world_keeps_streams.proofs.Requests.Names.{origin_grows}
 use Rattle.world_keeps_streams.proofs.Requests.Now.{heard_now, joined_halves, now_gone}
-use Rattle.world_keeps_streams.proofs.Requests.Sides.{Heard, Lawful, Own, begins_same, coupled_in, law_joined, lives_in}
+use Rattle.world_keeps_streams.proofs.Requests.Sides.{Heard, Lawful, Own, begins_same, coupled_in, law_joined, lives_in, lawful_among}
 use Rattle.world_keeps_streams.proofs.Books.Arrives.{end_at, rest_lawful, stays_of}
 use Rattle.world_keeps_streams.proofs.Books.Closes.{AtLink, known}
 use Rattle.world_keeps_streams.proofs.Books.Counts as counts_of
@@ -159,14 +159,14 @@ module _ (hosts : List Host) (newer older : List Moment) (l : Lawful hosts (newe
       found_tied s pair Receiver r.host r.peer older tie_r f.end.end (end_at r (program r.host older) f.end).0 (at_socket r (program r.host older) f.end) f.end.foreign in
       let gone : g ≡ gone_now r.peer (own_calls r.host r.peer older) r.socket r.foreign = ((known hosts older old r at_link).going f.goes).gone in
       let one : counted true (gone_now r.peer (own_calls r.host r.peer older) r.socket r.foreign) ≡ gone_now r.peer (own_calls r.host r.peer older) r.socket r.foreign + 1 = omega arith in
-      heard_closes s pair Receiver hosts r.host r.peer older old mine ∙ counts hosts older old r.host r.peer r.foreign r.socket
+      heard_closes s pair Receiver (all_ours hosts) r.host r.peer (refl, refl) older (lawful_among hosts older old) mine ∙ counts hosts older old r.host r.peer r.foreign r.socket
       ∙ ap (λ (o : Option Entry). counted (has_heard o) (gone_now r.peer (own_calls r.host r.peer older) r.socket r.foreign)) found
       ∙ ap (λ (t : Bool). counted t (gone_now r.peer (own_calls r.host r.peer older) r.socket r.foreign)) f.closed ∙ one ∙ ap (λ (n : ℕ). n + 1) (sym gone)
 
   -- so the sender has said it
   said_it : g + 1 ≤ closes (side_of s Sender r.peer r.host older).said
   said_it =
-      let j : Joined (side_of s Receiver r.host r.peer older) (side_of s Sender r.peer r.host older) = joined_halves hosts older old r.host r.peer s pair in
+      let j : Joined (side_of s Receiver r.host r.peer older) (side_of s Sender r.peer r.host older) = joined_halves (all_ours hosts) older (lawful_among hosts older old) r.host r.peer (refl, refl) s pair in
       let less : closes (side_of s Receiver r.host r.peer older).heard ≤ closes (side_of s Sender r.peer r.host older).said = closes_said _ _ j.here.older in
       let is : closes (side_of s Receiver r.host r.peer older).heard ≡ g + 1 = heard_it in
       omega (arith, less, is)
@@ -205,9 +205,9 @@ module _ (hosts : List Host) (newer older : List Moment) (l : Lawful hosts (newe
 
   said_v : Own r.host r.peer (newer ++ older) r.socket r.foreign r.own_stamp k
   said_v =
-      let j : Joined (receiver s (steps r.host r.peer (law_events (newer ++ older)))) (sender s (steps r.host r.peer (law_events (newer ++ older)))) = law_joined hosts (newer ++ older) l r.host r.peer s in
+      let j : Joined (receiver s (steps r.host r.peer (law_events (newer ++ older)))) (sender s (steps r.host r.peer (law_events (newer ++ older)))) = law_joined (all_ours hosts) (newer ++ older) (lawful_among hosts (newer ++ older) l) r.host r.peer (refl, refl) s in
       let heard : Heard r.host r.peer (newer ++ older) r.socket r.foreign v.partner_stamp k =
-      heard_now hosts (newer ++ older) l r.host r.peer s pair (counts hosts (newer ++ older) l r.peer r.host) theirs end.end found_s v.partner_stamp end.partner in
+      heard_now (all_ours hosts) (newer ++ older) (lawful_among hosts (newer ++ older) l) r.host r.peer (refl, refl) s pair (counts hosts (newer ++ older) l r.peer r.host) theirs end.end found_s v.partner_stamp end.partner in
       subst (λ (n : ℕ). Own r.host r.peer (newer ++ older) r.socket r.foreign n k) answered
       (asks_said k (origin_in (crossings_of (newer ++ older)) r.peer r.host v.partner_stamp) (sender s (steps r.host r.peer (law_events (newer ++ older)))).heard
       (receiver s (steps r.host r.peer (law_events (newer ++ older)))).said j.there.older heard)
@@ -226,13 +226,13 @@ module _ (hosts : List Host) (newer older : List Moment) (l : Lawful hosts (newe
 
   here : Counted (side_of s Sender r.peer r.host (newer ++ older)).said (side_of s Sender r.peer r.host (newer ++ older)).heard (is_sent end.end.closing) end.end.partner_closed
   here =
-      let j : Joined (side_of s Receiver r.host r.peer (newer ++ older)) (side_of s Sender r.peer r.host (newer ++ older)) = joined_halves hosts (newer ++ older) l r.host r.peer s pair in
+      let j : Joined (side_of s Receiver r.host r.peer (newer ++ older)) (side_of s Sender r.peer r.host (newer ++ older)) = joined_halves (all_ours hosts) (newer ++ older) (lawful_among hosts (newer ++ older) l) r.host r.peer (refl, refl) s pair in
       counts_of.counted hosts (newer ++ older) l s pair Sender r.peer r.host tie_s j.other j.floor (side_of s Receiver r.host r.peer (newer ++ older)) j.there theirs end.end among end_own end_foreign
 
   now_is : here.now ≡ k
   now_is =
       now_gone (closes (side_of s Sender r.peer r.host (newer ++ older)).heard) here.now k end.end.partner_closed here.heard
-      (heard_closes s pair Sender hosts r.peer r.host (newer ++ older) l theirs ∙ counts hosts (newer ++ older) l r.peer r.host r.socket r.foreign
+      (heard_closes s pair Sender (all_ours hosts) r.peer r.host (refl, refl) (newer ++ older) (lawful_among hosts (newer ++ older) l) theirs ∙ counts hosts (newer ++ older) l r.peer r.host r.socket r.foreign
       ∙ ap (λ (o : Option Entry). counted (has_heard o) (gone_now r.host (own_calls r.peer r.host (newer ++ older)) r.foreign r.socket)) found_s)
 
   sent : is_sent end.end.closing ≡ true

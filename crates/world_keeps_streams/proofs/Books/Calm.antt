@@ -27,12 +27,12 @@ module _ (hosts : List Host) (ms : List Moment) (l : Lawful hosts ms) (h p : Hos
   agrees = story_agrees (all_ours hosts) ms h p (refl, refl) (coupled_in hosts ms l).story
 
   is_ready : program_phases.is_ready (pair_with p (program h ms).peers).phase ≡ true
-  is_ready = sym (ready_both hosts h p ms (coupled_in hosts ms l).story) ∙ stays_ready (events_of ms) h p stays
+  is_ready = sym (ready_both (all_ours hosts) h p ms (refl, refl) (coupled_in hosts ms l).story) ∙ stays_ready (events_of ms) h p stays
 
   pub free : (k : ℕ) → is_busy (pair_with p (program h ms).peers).busy k ≡ false
   free k =
       let up : (pair h p (events_of ms)).out k ≡ kind_in (boxes h p (events_of ms) k) =
-      (sound_run (all_ours hosts) (events_of ms) (coupled_in hosts ms l).run h p (refl, refl) (up_ready hosts (events_of ms) (coupled_in hosts ms l).run h p (stays_ready (events_of ms) h p stays))).outstanding.boxed k in
+      (sound_run (all_ours hosts) (events_of ms) (coupled_in hosts ms l).run h p (refl, refl) (up_ready (all_ours hosts) (events_of ms) (coupled_in hosts ms l).run h p (refl, refl) (stays_ready (events_of ms) h p stays))).outstanding.boxed k in
       sym (agrees.busy k) ∙ ap is_some (up ∙ ap kind_in (box_same h p ms k ∙ ap (seen_box k) (out k)))
 
   next : next_of (pair_with p (program h ms).peers) ≡ None

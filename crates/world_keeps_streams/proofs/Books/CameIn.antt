@@ -1,5 +1,6 @@
 -- As many messages came in on the link of a receiving life that isn't over, after both its requests, as the law counts in its connection.
 use Rattle.world_keeps_streams.proofs.Common.{◌≡◌, ◌⊎◌, inl, inr, ℕ, zero, suc, ◌+◌, ◌<◌, ◌≤◌, ◌==◌, Bool, false, if◌then◌else◌, List, [], ◌∷◌, ◌++◌, length, map, Option, Some, refl, ap, sym, subst, ◌∙◌, eq-eqb, arith, eqb-true, length-append, Host, same_host, Flow, HostMessage, same_flow-refl, same_flow-true, same_host-refl, header_of, is_receive_socket, DataHeader, IsSafe, safe_inv, waiting_of, waits_of, all_received, Takes, gone_now, name_now, numbered, receiver_now, data_received, numbered_tells, Fresh, begins_fresh, stays_ready, pair_with, texts_for, texts_of, Name, own_request, Asked, Crossed, Moment, event_in, events_of, program, crossings_of, texts_one, keeps, mail_below, calls_by, own_calls}
+use Rattle.net_sim.proofs.lemmas.AllOurs.{happened}
 use Rattle.reset_law.specs.Network.{all_ours}
 use Rattle.std.proofs.Common.{max, true}
 use Rattle.std.proofs.Math.Nat.{max-le}
@@ -57,9 +58,9 @@ module _ (hosts : List Host) (a b : Host) (m : HostMessage) (ms : List Moment) (
   older = below hosts (Crossed (crossing.In m)) ms l
 
   abbrev j : Joined a b m.flow.link.0 ms
-  j = joined m.flow.link.0 other hosts l.0 a b ms (mail_below hosts (Crossed (crossing.In m)) ms l.1) l.2.1
+  j = joined m.flow.link.0 other (all_ours hosts) l.0 a b (refl, refl) ms (mail_below hosts (Crossed (crossing.In m)) ms l.1) (happened hosts ms l.2.1)
 
-  boxed : Boxed m.text (joined m.flow.link.0 other hosts l.0 a b ms (mail_below hosts (Crossed (crossing.In m)) ms l.1) l.2.1).x.box
+  boxed : Boxed m.text (joined m.flow.link.0 other (all_ours hosts) l.0 a b (refl, refl) ms (mail_below hosts (Crossed (crossing.In m)) ms l.1) (happened hosts ms l.2.1)).x.box
   boxed = lies_there hosts l.0 m ms l.1 l.2 a b (record { stays = stays; host = host; peer = peer; off_control = other })
 
   abbrev r : Receiver
@@ -69,7 +70,7 @@ module _ (hosts : List Host) (a b : Host) (m : HostMessage) (ms : List Moment) (
   end = ap (λ (s : Receiver). s.end) (sym (j.received_a stays)) ∙ waits_of j.x j.joint.inv_x boxed.connection boxed.size boxed.bits boxed.is
 
   ready : phases.is_ready (pair_with b (program a ms).peers).phase ≡ true
-  ready = sym (ready_both hosts a b ms (coupled_in hosts ms older).story) ∙ stays_ready (events_of ms) a b stays
+  ready = sym (ready_both (all_ours hosts) a b ms (refl, refl) (coupled_in hosts ms older).story) ∙ stays_ready (events_of ms) a b stays
 
   mine : same_host a m.flow.destination ≡ true
   mine = subst (λ (h : Host). same_host a h ≡ true) host (same_host-refl a)
@@ -169,7 +170,8 @@ module _ (hosts : List Host) where
 
   module _ (y : Moment) (ms : List Moment) (l : Lawful hosts (y ∷ ms)) (a b : Host) (link socket foreign own partner : ℕ) (t : Stands a b link socket foreign own (y ∷ ms)) where
     fresh : stay.begins a b (event_in y) (events_of ms) ≡ true → Fresh a b (event_in y) (events_of ms)
-    fresh new = begins_fresh (all_ours hosts) (event_in y) (events_of ms) (coupled_in hosts (y ∷ ms) l).run a b (refl, refl) new
+    fresh new =
+        begins_fresh (all_ours hosts) (event_in y) (events_of ms) (coupled_in hosts (y ∷ ms) l).run a b (refl, refl) new
 
     -- what both have done, where no stay begins
     module _ (none : stay.begins a b (event_in y) (events_of ms) ≡ false) where
@@ -196,7 +198,7 @@ module _ (hosts : List Host) where
             subst (λ (z : Moment). Lawful hosts (z ∷ ms) → (receiver_now numbered b link (calls_by a b z ms ++ own_calls a b ms)).came c ≤ ((receiver_now numbered b link (own_calls a b ms)).granted c).messages) (sym i.1) (taken i.0 i.2) l
       ] where
         j : Joined a b link ms
-        j = joined link t.other hosts l.0 a b ms (mail_below hosts y ms l.1) l.2.1
+        j = joined link t.other (all_ours hosts) l.0 a b (refl, refl) ms (mail_below hosts y ms l.1) (happened hosts ms l.2.1)
 
         law_most : (c : ℕ) → (receiver_now numbered b link (own_calls a b ms)).came c ≤ ((receiver_now numbered b link (own_calls a b ms)).granted c).messages
         law_most c =
@@ -361,7 +363,7 @@ module _ (hosts : List Host) where
       by true new =
           let k : Fresh x.host x.peer (event_in y) (events_of ms) = fresh y ms l x.host x.peer f.link x.socket x.foreign x.own_stamp x.partner_stamp t new in
           none_came numbered x.peer f.link (own_calls x.host x.peer (y ∷ ms))
-          (solo_untaken x.peer (own_calls x.host x.peer (y ∷ ms)) (pair_with x.peer (program x.host (y ∷ ms)).peers).queue (solo_there hosts l.0 x.host x.peer y ms l.1 l.2 k.left k.silent)) number
+          (solo_untaken x.peer (own_calls x.host x.peer (y ∷ ms)) (pair_with x.peer (program x.host (y ∷ ms)).peers).queue (solo_there (all_ours hosts) l.0 x.host x.peer (refl, refl) y ms l.1 (happened hosts (y ∷ ms) l.2) k.left k.silent)) number
       by false none =
           let now : (receiver_now numbered x.peer f.link (own_calls x.host x.peer (y ∷ ms))).came number ≡ (receiver_now numbered x.peer f.link (calls_by x.host x.peer y ms ++ own_calls x.host x.peer ms)).came number =
           ap (λ (cs : List calls.Moment). (receiver_now numbered x.peer f.link cs).came number) (calls_now y ms l x.host x.peer f.link x.socket x.foreign x.own_stamp x.partner_stamp t none) in

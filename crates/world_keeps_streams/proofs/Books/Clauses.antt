@@ -107,7 +107,8 @@ module _ (hosts : List Host) (a b : Host) (Own Heard : List Moment → ℕ → �
   -- where both meet what was since they met before is settled
   module _ (y : Moment) (ms : List Moment) (l : Lawful hosts (y ∷ ms)) (new : stay.begins a b (event_in y) (events_of ms) ≡ true) where
     fresh : Fresh a b (event_in y) (events_of ms)
-    fresh = begins_fresh (all_ours hosts) (event_in y) (events_of ms) (coupled_in hosts (y ∷ ms) l).run a b (refl, refl) new
+    fresh =
+        begins_fresh (all_ours hosts) (event_in y) (events_of ms) (coupled_in hosts (y ∷ ms) l).run a b (refl, refl) new
 
     settle_r : (x : Life) → IsOf x (present_in a b ms) → x.host ≡ a → x.peer ≡ b → receives x ≡ true → SettledR ms x
     settle_r x i f g q =

@@ -1,5 +1,7 @@
 -- A receiving life that isn't over beside the law of its link; and one at rest, whose end is open, took all that its partner sent.
 use Rattle.world_keeps_streams.proofs.Common.{◌≡◌, ◌⊎◌, inl, inr, ℕ, suc, ◌+◌, ◌≤◌, ◌==◌, Bool, true, false, List, [], ◌∷◌, ◌++◌, length, filter, Some, refl, ap, sym, subst, ◌∙◌, arith, eqb-true, ne_eqb, Contains, Seen, Host, box_of, IsSafe, waiting_in, safe_inv, some_is, is_mine_on, receives_on, both, HasReceiver, IsReceiver, name_now, numbered, receiver_now, Fetched, Free, IsPosted, boxes, pair_with, IsLawful, Match, Moment, events_of, program, crossings_of, seen_box, WorldState, box_same, HasOpenEnd, open_parts, book_run, own_calls, AreAtRest}
+use Rattle.reset_law.specs.Network.{all_ours}
+use Rattle.net_sim.proofs.lemmas.AllOurs.{happened}
 use Rattle.std.proofs.Common.{append-nil}
 use Rattle.interface.specs.Mailboxes as mail
 use Rattle.stream_law.specs.Receivers.{Receiver}
@@ -107,7 +109,7 @@ module _ (hosts : List Host) (ms : List Moment) (l : Lawful hosts ms) (x : Life)
   pub law : IsReceiver (name_now numbered x.peer (own_calls x.host x.peer ms) f.end.end.own f.end.end.foreign) f.end.end (receiver_now numbered x.peer (suc n) (own_calls x.host x.peer ms))
   law =
       let has : HasReceiver (name_now numbered x.peer (own_calls x.host x.peer ms)) (suc n) (pair_with x.peer (program x.host ms).peers).entries (receiver_now numbered x.peer (suc n) (own_calls x.host x.peer ms)) =
-      has_receiver hosts l.0 (suc n) off x.host x.peer ms l.1 l.2 in
+      has_receiver (all_ours hosts) l.0 (suc n) off x.host x.peer (refl, refl) ms l.1 (happened hosts ms l.2) in
       (one_end (name_now numbered x.peer (own_calls x.host x.peer ms)) f.end.end (filter (receives_on (suc n)) (pair_with x.peer (program x.host ms).peers).entries) (receiver_now numbered x.peer (suc n) (own_calls x.host x.peer ms)) has
       (among_kept (receives_on (suc n)) (pair_with x.peer (program x.host ms).peers).entries f.end.end at_it.0 (on_link (suc n) f.end.end x own f.receiving (f.linked ∙ ap (λ (k : ℕ). Some k) place.0)))).1
 

@@ -1,5 +1,7 @@
 -- Data of a sending life come for the receiving life that it matches.
-use Rattle.world_keeps_streams.proofs.Common.{◌≡◌, ℕ, ◌==◌, true, false, List, ◌∷◌, Some, sym, subst, ◌∙◌, Seen, Host, HostMessage, some_is, is_link, numbered, numbered_tells, HaveAddresses, IsLawful, Crossed, Moment, IsTimeline, crossings_of, WorldState, linked_end, book_run, mail_below, numbered_by_peer, ComesFor}
+use Rattle.world_keeps_streams.proofs.Common.{◌≡◌, ℕ, ◌==◌, true, false, List, ◌∷◌, Some, refl, sym, subst, ◌∙◌, Seen, Host, HostMessage, some_is, is_link, numbered, numbered_tells, HaveAddresses, IsLawful, Crossed, Moment, IsTimeline, crossings_of, WorldState, linked_end, book_run, mail_below, numbered_by_peer, ComesFor}
+use Rattle.reset_law.specs.Network.{all_ours}
+use Rattle.net_sim.proofs.lemmas.AllOurs.{happened}
 use Rattle.interface.specs.Mailboxes as mail
 use Rattle.interface.specs.declared.crossing.Crossing.TheVariants as crossing
 use Rattle.pair_keeps_streams.proofs.lemmas.{linked_waiting}
@@ -44,11 +46,11 @@ module _ (hosts : List Host) (addresses : HaveAddresses hosts) (m : HostMessage)
   abbrev partner : HasPartner ms x s
   partner = record { there = f.sender_there; matches = f.matches; goes = f.sender_goes; end = f.giver }
 
-  lies : Boxed m.text (joined m.flow.link.0 off hosts addresses x.host x.peer ms lawful.1 time.1).x.box
+  lies : Boxed m.text (joined m.flow.link.0 off (all_ours hosts) addresses x.host x.peer (refl, refl) ms lawful.1 (happened hosts ms time.1)).x.box
   lies = lies_there hosts addresses m ms run time x.host x.peer (record { stays = one.here hosts ms lawful x s taker partner; host = host; peer = peer; off_control = off })
 
   abbrev j : Joined x.host x.peer link ms
-  j = joined m.flow.link.0 off hosts addresses x.host x.peer ms lawful.1 time.1
+  j = joined m.flow.link.0 off (all_ours hosts) addresses x.host x.peer (refl, refl) ms lawful.1 (happened hosts ms time.1)
 
   linked : is_link link f.end.end.link ≡ true
   linked =

@@ -21,7 +21,7 @@ use Rattle.world_keeps_streams.proofs.Heard.Run.{heard_closes}
 use Rattle.world_keeps_streams.proofs.Lives.Lists.{IsOf, Named, contains, named_itself, of_parts}
 use Rattle.world_keeps_streams.proofs.Requests.Names.{origin_grows}
 use Rattle.world_keeps_streams.proofs.Requests.Now.{joined_halves}
-use Rattle.world_keeps_streams.proofs.Requests.Sides.{Heard, Lawful, Own, coupled_in, law_joined, lives_in, own_on}
+use Rattle.world_keeps_streams.proofs.Requests.Sides.{Heard, Lawful, Own, coupled_in, law_joined, lives_in, own_on, lawful_among}
 use Rattle.pairing_law.proofs.lemmas.{closes_said}
 
 -- ---- the last moment at which the peer of a host that stays did
@@ -87,7 +87,7 @@ at_most false n = omega arith
 
 module _ (hosts : List Host) (ms : List Moment) (l : Lawful hosts ms) (s : Sockets) (q : IsPair s) (who : Who) (h p : Host) (stays : stay.stays h p (events_of ms) ≡ true) where
   heard_is : closes (side_of s who h p ms).heard ≡ heard_from (gone_now p (own_calls h p ms)) (pair_with p (program h ms).peers).entries (foreign_of who s) (own_of who s)
-  heard_is = heard_closes s q who hosts h p ms l stays ∙ counts hosts ms l h p (foreign_of who s) (own_of who s)
+  heard_is = heard_closes s q who (all_ours hosts) h p (refl, refl) ms (lawful_among hosts ms l) stays ∙ counts hosts ms l h p (foreign_of who s) (own_of who s)
 
   pub heard_least : gone_now p (own_calls h p ms) (own_of who s) (foreign_of who s) ≤ closes (side_of s who h p ms).heard
   heard_least = subst (λ (n : ℕ). gone_now p (own_calls h p ms) (own_of who s) (foreign_of who s) ≤ n) (sym heard_is)
@@ -169,7 +169,7 @@ module _ (hosts : List Host) (between last : List Moment) (l : Lawful hosts (bet
   -- ---- its own request was said in this stay
 
   joined : Joined (receiver (record { receive = receive; send = send }) (steps a b (law_events (between ++ last)))) (sender (record { receive = receive; send = send }) (steps a b (law_events (between ++ last))))
-  joined = law_joined hosts (between ++ last) l a b (record { receive = receive; send = send })
+  joined = law_joined (all_ours hosts) (between ++ last) (lawful_among hosts (between ++ last) l) a b (refl, refl) (record { receive = receive; send = send })
 
   in_sender : IsIn (life_of (origin_in (crossings_of (between ++ last)) b a) p) (sender (record { receive = receive; send = send }) (steps a b (law_events (between ++ last)))).lives
   in_sender =
@@ -215,7 +215,7 @@ module _ (hosts : List Host) (between last : List Moment) (l : Lawful hosts (bet
 
   number : carried.g ≡ g
   number =
-      let j : Joined (receiver (record { receive = receive; send = send }) (steps a b (law_events last))) (sender (record { receive = receive; send = send }) (steps a b (law_events last))) = law_joined hosts last older a b (record { receive = receive; send = send }) in
+      let j : Joined (receiver (record { receive = receive; send = send }) (steps a b (law_events last))) (sender (record { receive = receive; send = send }) (steps a b (law_events last))) = law_joined (all_ours hosts) last (lawful_among hosts last older) a b (refl, refl) (record { receive = receive; send = send }) in
       let heard : Heard a b last receive send o.life.partner_stamp carried.g =
       subst (λ (k : ℕ). Heard a b last receive k o.life.partner_stamp carried.g) o_socket (subst (λ (k : ℕ). Heard a b last k o.life.socket o.life.partner_stamp carried.g) o_foreign carried.heard) in
       let said : Own a b last receive send (origin_in (crossings_of last) b a o.life.partner_stamp) carried.g =
@@ -232,7 +232,7 @@ module _ (hosts : List Host) (between last : List Moment) (l : Lawful hosts (bet
         let here : suc carried.g ≤ gone_now a (own_calls b a last) send receive =
         subst (λ (k : ℕ). suc carried.g ≤ gone_now a (own_calls b a last) k receive) o_socket (subst (λ (k : ℕ). suc carried.g ≤ gone_now a (own_calls b a last) o.life.socket k) o_foreign gone) in
         let heard : gone_now a (own_calls b a last) send receive ≤ closes (side_of (record { receive = receive; send = send }) Sender b a last).heard = heard_least hosts last older (record { receive = receive; send = send }) q Sender b a theirs in
-        let j : Joined (side_of (record { receive = receive; send = send }) Receiver a b last) (side_of (record { receive = receive; send = send }) Sender b a last) = joined_halves hosts last older a b (record { receive = receive; send = send }) q in
+        let j : Joined (side_of (record { receive = receive; send = send }) Receiver a b last) (side_of (record { receive = receive; send = send }) Sender b a last) = joined_halves (all_ours hosts) last (lawful_among hosts last older) a b (refl, refl) (record { receive = receive; send = send }) q in
         let said : closes (side_of (record { receive = receive; send = send }) Sender b a last).heard ≤ closes (side_of (record { receive = receive; send = send }) Receiver a b last).said = closes_said _ _ j.there.older in
         let more : closes (side_of (record { receive = receive; send = send }) Receiver a b last).said ≤ closes (side_of (record { receive = receive; send = send }) Receiver a b (between ++ last)).said =
         grows_on (record { receive = receive; send = send }) Receiver a b between last left in

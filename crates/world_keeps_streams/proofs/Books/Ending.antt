@@ -1,6 +1,7 @@
 -- A receiving life that ended by CLS was closed by its partner: an open one is of a connection that no user has closed, and where its end goes, the sender's
 -- CLS was heard before.
 use Rattle.world_keeps_streams.proofs.Common.{◌≡◌, ◌⊎◌, inl, inr, ℕ, suc, ◌≤◌, ◌==◌, Bool, true, false, if◌then◌else◌, List, ◌∷◌, ◌++◌, map, drop, filter, Some, None, refl, ap, sym, subst, ◌∙◌, arith, eqb-true, Host, or_false, is_receive_socket, is_send_socket, Inv, some_is, has_cls, is_ending, is_mine_on, receives_on, Entry, both, AreReceiver, AreAllowed, HasClosed, IsHistory, gone_now, name_now, numbered, receiver_now, closed_first, numbered_tells, pair_with, begins_fresh, IsBeside, own_request, Fate, Asked, Moment, event_in, events_of, program, host_in, notices_by, Coupled, kept_fated, HasOpenEnd, live, keeps, life_paired, served_in, calls_by, own_calls, IsClosedByPartner, WasClosedByPartner}
+use Rattle.net_sim.proofs.lemmas.AllOurs.{happened}
 use Rattle.reset_law.specs.Network.{all_ours}
 use Rattle.std.proofs.Common.{[]}
 use Rattle.stream_law.specs.Receivers.{Receiver}
@@ -94,10 +95,10 @@ module _ (hosts : List Host) (y : Moment) (ms : List Moment) (l : Lawful hosts (
   own_is = own_if (keeps x.host x.peer (event_in y) (events_of ms)) (calls_by x.host x.peer y ms ++ own_calls x.host x.peer ms) [] (stays_on x.host x.peer (event_in y) (events_of ms) on none).0
 
   history : IsHistory x.peer (calls_by x.host x.peer y ms ++ own_calls x.host x.peer ms)
-  history = subst (λ (cs : List calls.Moment). IsHistory x.peer cs) own_is (chain hosts l.0 (y ∷ ms) l.1 l.2 x.host x.peer).0
+  history = subst (λ (cs : List calls.Moment). IsHistory x.peer cs) own_is (chain (all_ours hosts) l.0 (y ∷ ms) l.1 (happened hosts (y ∷ ms) l.2) x.host x.peer (refl, refl)).0
 
   may : (m : ℕ) → AreAllowed numbered x.peer (suc m) (calls_by x.host x.peer y ms ++ own_calls x.host x.peer ms)
-  may m = subst (λ (cs : List calls.Moment). AreAllowed numbered x.peer (suc m) cs) own_is (all_allowed hosts l.0 (suc m) (no_zero m) x.host x.peer (y ∷ ms) l.1 l.2)
+  may m = subst (λ (cs : List calls.Moment). AreAllowed numbered x.peer (suc m) cs) own_is (all_allowed (all_ours hosts) l.0 (suc m) (no_zero m) x.host x.peer (refl, refl) (y ∷ ms) l.1 (happened hosts (y ∷ ms) l.2))
 
   -- the number of its connection
   abbrev its_g : ℕ
@@ -127,8 +128,8 @@ module _ (hosts : List Host) (y : Moment) (ms : List Moment) (l : Lawful hosts (
         end_was : (receiver_now numbered x.peer (suc m) (own_calls x.host x.peer ms)).end ≡ Some its_c
         end_was =
             end_back numbered numbered_tells x.peer (suc m) its_c (calls_by x.host x.peer y ms) (own_calls x.host x.peer ms) history (may m)
-            (closed_shut numbered numbered_tells x.peer (suc m) its_c (own_calls x.host x.peer ms) (chain hosts l.0 ms old.1 old.2 x.host x.peer).0
-            (all_allowed hosts l.0 (suc m) (no_zero m) x.host x.peer ms old.1 old.2) closed_was).asked
+            (closed_shut numbered numbered_tells x.peer (suc m) its_c (own_calls x.host x.peer ms) (chain (all_ours hosts) l.0 ms old.1 (happened hosts ms old.2) x.host x.peer (refl, refl)).0
+            (all_allowed (all_ours hosts) l.0 (suc m) (no_zero m) x.host x.peer (refl, refl) ms old.1 (happened hosts ms old.2)) closed_was).asked
             (subst (λ (cs : List calls.Moment). (receiver_now numbered x.peer (suc m) cs).end ≡ Some its_c) own_is end)
 
   -- ---- the life then
@@ -224,7 +225,7 @@ module _ (hosts : List Host) (y : Moment) (ms : List Moment) (l : Lawful hosts (
           → (receiver_now numbered x.peer (suc its_n) (own_calls x.host x.peer (y ∷ ms))).over its_c ≡ true
       by (inl e) =
           absurd (no_end (filter (receives_on (suc its_n)) (pair_with x.peer (program x.host (y ∷ ms)).peers).entries) (receiver_now numbered x.peer (suc its_n) (own_calls x.host x.peer (y ∷ ms)))
-          (has_receiver hosts l.0 (suc its_n) (no_zero its_n) x.host x.peer (y ∷ ms) l.1 l.2) (ap (λ (v : Receiver). v.end) (sym (law_is its_n)) ∙ e))
+          (has_receiver (all_ours hosts) l.0 (suc its_n) (no_zero its_n) x.host x.peer (refl, refl) (y ∷ ms) l.1 (happened hosts (y ∷ ms) l.2)) (ap (λ (v : Receiver). v.end) (sym (law_is its_n)) ∙ e))
       by (inr e) = ap (λ (v : Receiver). v.over its_c) (sym (law_is its_n)) ∙ e
 
     -- ---- while it continued its end had taken the sender's CLS
@@ -259,7 +260,7 @@ module _ (hosts : List Host) (y : Moment) (ms : List Moment) (l : Lawful hosts (
             here_calls numbered numbered_tells x.peer (suc its_n) its_c (calls_by x.host x.peer y ms) (own_calls x.host x.peer ms) all history (may its_n)
             (record { end = end_was; late = λ said. absurd (unsaid unheard said) }) in
             no_end (filter (receives_on (suc its_n)) (pair_with x.peer (program x.host (y ∷ ms)).peers).entries) (receiver_now numbered x.peer (suc its_n) (own_calls x.host x.peer (y ∷ ms)))
-            (has_receiver hosts l.0 (suc its_n) (no_zero its_n) x.host x.peer (y ∷ ms) l.1 l.2) (ap (λ (cs : List calls.Moment). (receiver_now numbered x.peer (suc its_n) cs).end) own_is ∙ here.end)
+            (has_receiver (all_ours hosts) l.0 (suc its_n) (no_zero its_n) x.host x.peer (refl, refl) (y ∷ ms) l.1 (happened hosts (y ∷ ms) l.2)) (ap (λ (cs : List calls.Moment). (receiver_now numbered x.peer (suc its_n) cs).end) own_is ∙ here.end)
 
         by : (v : Bool) → (receiver_now numbered x.peer (suc its_n) (own_calls x.host x.peer ms)).over its_c ≡ v → (receiver_now numbered x.peer (suc its_n) (own_calls x.host x.peer ms)).over its_c ≡ true
         by true e = e
@@ -312,10 +313,10 @@ module _ (hosts : List Host) (y : Moment) (ms : List Moment) (l : Lawful hosts (
   module _ (is : own_calls x.host x.peer (y ∷ ms) ≡ calls_by x.host x.peer y ms ++ own_calls x.host x.peer ms) (m : ℕ) (end : (receiver_now numbered x.peer (suc m) (own_calls x.host x.peer (y ∷ ms))).end ≡ Some its)
       (closed : HasClosed numbered x.peer (suc m) its (own_calls x.host x.peer (y ∷ ms))) where
     history_new : IsHistory x.peer (calls_by x.host x.peer y ms ++ own_calls x.host x.peer ms)
-    history_new = subst (λ (cs : List calls.Moment). IsHistory x.peer cs) is (chain hosts l.0 (y ∷ ms) l.1 l.2 x.host x.peer).0
+    history_new = subst (λ (cs : List calls.Moment). IsHistory x.peer cs) is (chain (all_ours hosts) l.0 (y ∷ ms) l.1 (happened hosts (y ∷ ms) l.2) x.host x.peer (refl, refl)).0
 
     may_new : AreAllowed numbered x.peer (suc m) (calls_by x.host x.peer y ms ++ own_calls x.host x.peer ms)
-    may_new = subst (λ (cs : List calls.Moment). AreAllowed numbered x.peer (suc m) cs) is (all_allowed hosts l.0 (suc m) (no_zero m) x.host x.peer (y ∷ ms) l.1 l.2)
+    may_new = subst (λ (cs : List calls.Moment). AreAllowed numbered x.peer (suc m) cs) is (all_allowed (all_ours hosts) l.0 (suc m) (no_zero m) x.host x.peer (refl, refl) (y ∷ ms) l.1 (happened hosts (y ∷ ms) l.2))
 
     closed_was : HasClosed numbered x.peer (suc m) its (own_calls x.host x.peer ms)
     closed_was =
@@ -324,8 +325,8 @@ module _ (hosts : List Host) (y : Moment) (ms : List Moment) (l : Lawful hosts (
 
     shut_was : IsShut (receiver_now numbered x.peer (suc m) (own_calls x.host x.peer ms)) its
     shut_was =
-        closed_shut numbered numbered_tells x.peer (suc m) its (own_calls x.host x.peer ms) (chain hosts l.0 ms older.1 older.2 x.host x.peer).0
-        (all_allowed hosts l.0 (suc m) (no_zero m) x.host x.peer ms older.1 older.2) closed_was
+        closed_shut numbered numbered_tells x.peer (suc m) its (own_calls x.host x.peer ms) (chain (all_ours hosts) l.0 ms older.1 (happened hosts ms older.2) x.host x.peer (refl, refl)).0
+        (all_allowed (all_ours hosts) l.0 (suc m) (no_zero m) x.host x.peer (refl, refl) ms older.1 (happened hosts ms older.2)) closed_was
 
     end_was_new : (receiver_now numbered x.peer (suc m) (own_calls x.host x.peer ms)).end ≡ Some its
     end_was_new =
@@ -347,7 +348,7 @@ module _ (hosts : List Host) (y : Moment) (ms : List Moment) (l : Lawful hosts (
     unshut =
         none_said (filter (receives_on (suc m)) (pair_with x.peer (program x.host ms).peers).entries) (receiver_now numbered x.peer (suc m) (own_calls x.host x.peer ms))
         (λ e j own foreign. was_open hosts y ms l x kind sends host opens e (among_filter (receives_on (suc m)) (pair_with x.peer (program x.host ms).peers).entries e j).0 own foreign)
-        (has_receiver hosts l.0 (suc m) (no_zero m) x.host x.peer ms older.1 older.2) end_was_new (shut_was.closed end_was_new)
+        (has_receiver (all_ours hosts) l.0 (suc m) (no_zero m) x.host x.peer (refl, refl) ms older.1 (happened hosts ms older.2)) end_was_new (shut_was.closed end_was_new)
 
   begins_open : IsOpen (y ∷ ms) x
   unfolding IsOpen

@@ -1,5 +1,7 @@
 -- What was sent to a receiving life when its end had taken its partner's CLS stays all that is sent to it, whatever becomes of both lives later.
 use Rattle.world_keeps_streams.proofs.Common.{◌≡◌, ◌⊎◌, inl, inr, ℕ, suc, ◌+◌, ◌≤◌, ◌==◌, Bool, true, false, List, [], ◌∷◌, ◌++◌, length, map, take, drop, Some, refl, ap, sym, subst, ◌∙◌, arith, eqb-true, Host, IsSafe, safe_inv, numbered, receiver_now, sender_now, numbered_tells, Fresh, begins_either, Match, Name, own_request, Moment, event_in, events_of, crossings_of, keeps, calls_by, own_calls}
+use Rattle.reset_law.specs.Network.{all_ours}
+use Rattle.net_sim.proofs.lemmas.AllOurs.{happened}
 use Rattle.std.proofs.lemmas.Option.{same_Some}
 use Rattle.stream_law.specs.Receivers.{Receiver}
 use Rattle.stream_law.specs.Senders.{Sender}
@@ -165,8 +167,8 @@ module _ (hosts : List Host) (a b : Host) (T : ℕ → List (List Bool)) (n : �
             kept : overs.Kept (receiver_now numbered b (suc m) (own_calls a b ms)) (receiver_now numbered b (suc m) (calls_by a b z ms ++ own_calls a b ms)) c
             kept =
                 overs.kept_calls numbered numbered_tells b (suc m) c (calls_by a b z ms) (own_calls a b ms)
-                (subst (λ (cs : List calls.Moment). calls.IsHistory b cs) own (chain hosts l.0 (z ∷ ms) l.1 l.2 a b).0)
-                (subst (λ (cs : List calls.Moment). calls.AreAllowed numbered b (suc m) cs) own (all_allowed hosts l.0 (suc m) (no_zero m) a b (z ∷ ms) l.1 l.2))
+                (subst (λ (cs : List calls.Moment). calls.IsHistory b cs) own (chain (all_ours hosts) l.0 (z ∷ ms) l.1 (happened hosts (z ∷ ms) l.2) a b (refl, refl)).0)
+                (subst (λ (cs : List calls.Moment). calls.AreAllowed numbered b (suc m) cs) own (all_allowed (all_ours hosts) l.0 (suc m) (no_zero m) a b (refl, refl) (z ∷ ms) l.1 (happened hosts (z ∷ ms) l.2)))
                 (ap (λ (r : Receiver). r.over c) (sym (((at_now hosts a b ms (below hosts z ms l)).j m).received_a both_on.1)) ∙ (f m).0)
 
       still_sent : (v : Bool) → stay.stays b a (events_of (z ∷ ms)) ≡ v → ((at_now hosts a b (z ∷ ms) l).j m).x.sender.sent c ≡ ((at_now hosts a b ms (below hosts z ms l)).j m).x.sender.sent c
@@ -183,7 +185,7 @@ module _ (hosts : List Host) (a b : Host) (T : ℕ → List (List Bool)) (n : �
             kept : closed.Kept (sender_now numbered_by_peer a (suc m) (own_calls b a ms)) (sender_now numbered_by_peer a (suc m) (calls_by b a z ms ++ own_calls b a ms)) c
             kept =
                 closed.kept_calls numbered_by_peer turned_tells a (suc m) c (calls_by b a z ms) (own_calls b a ms)
-                (subst (λ (cs : List calls.Moment). calls.IsHistory a cs) own (chain hosts l.0 (z ∷ ms) l.1 l.2 b a).0)
+                (subst (λ (cs : List calls.Moment). calls.IsHistory a cs) own (chain (all_ours hosts) l.0 (z ∷ ms) l.1 (happened hosts (z ∷ ms) l.2) b a (refl, refl)).0)
                 (subst (λ (cs : List calls.Moment). calls.AreAllowed numbered_by_peer a (suc m) cs) own (((at_now hosts a b (z ∷ ms) l).j m).allowed_b on))
                 (ap (λ (s : Sender). s.closed c) (sym (((at_now hosts a b ms (below hosts z ms l)).j m).sent_b both_on.1)) ∙ ((at_now hosts a b ms (below hosts z ms l)).j m).joint.inv_x.ends.passed c (f m).0)
 

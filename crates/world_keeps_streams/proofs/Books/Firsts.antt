@@ -1,5 +1,7 @@
 -- Each life is made of the first messages on its link: what two programs do together to make it so.
-use Rattle.world_keeps_streams.proofs.Common.{◌≡◌, inl, inr, ℕ, ◌==◌, true, false, List, [], ◌∷◌, drop, filter, sym, subst, ◌∙◌, Contains, Seen, Host, Crossing, is_open, sends_on, Entry, name_now, numbered, sender_now, IsSending, pair_with, IsLawful, Moment, program, crossings_of, WorldState, LinkedBook, book_lives, book_run, own_calls}
+use Rattle.world_keeps_streams.proofs.Common.{◌≡◌, inl, inr, ℕ, ◌==◌, true, false, List, [], ◌∷◌, drop, filter, refl, sym, subst, ◌∙◌, Contains, Seen, Host, Crossing, is_open, sends_on, Entry, name_now, numbered, sender_now, IsSending, pair_with, IsLawful, Moment, program, crossings_of, WorldState, LinkedBook, book_lives, book_run, own_calls}
+use Rattle.reset_law.specs.Network.{all_ours}
+use Rattle.net_sim.proofs.lemmas.AllOurs.{happened}
 use Rattle.stream_law.specs.Senders.{Sender}
 use Rattle.host_keeps_streams.specs.Ends.{AreSender}
 use Rattle.promise.specs.Formed.{FormedBook}
@@ -30,7 +32,7 @@ module _ (hosts : List Host) where
   one_sender : (ms : List Moment) → Lawful hosts ms → (a b : Host) (link : ℕ) → (link == 0) ≡ false → (e f : Entry) → Contains (pair_with b (program a ms).peers).entries e → Contains (pair_with b (program a ms).peers).entries f
       → sends_on link e ≡ true → sends_on link f ≡ true → e ≡ f
   one_sender ms l a b link off e f i j on also =
-      let h : IsSending (name_now numbered b (own_calls a b ms)) link (pair_with b (program a ms).peers).entries (sender_now numbered b link (own_calls a b ms)) = has_sender hosts l.0 link off a b ms l.1 l.2 in
+      let h : IsSending (name_now numbered b (own_calls a b ms)) link (pair_with b (program a ms).peers).entries (sender_now numbered b link (own_calls a b ms)) = has_sender (all_ours hosts) l.0 link off a b (refl, refl) ms l.1 (happened hosts ms l.2) in
       one_of (name_now numbered b (own_calls a b ms)) (filter (sends_on link) (pair_with b (program a ms).peers).entries) (sender_now numbered b link (own_calls a b ms)) h.here e f
       (among_kept (sends_on link) (pair_with b (program a ms).peers).entries e (contains_among (pair_with b (program a ms).peers).entries e i) on)
       (among_kept (sends_on link) (pair_with b (program a ms).peers).entries f (contains_among (pair_with b (program a ms).peers).entries f j) also)

@@ -1,5 +1,7 @@
 -- What a safe book asks of two hosts, but for their lives: requests and streams.
 use Rattle.world_keeps_streams.proofs.Common.{◌≡◌, ℕ, suc, ◌≤◌, true, false, List, [], ◌∷◌, refl, Host, numbered, receiver_now, sender_now, numbered_tells, Moment, event_in, events_of, own_calls, numbered_by_peer}
+use Rattle.reset_law.specs.Network.{all_ours}
+use Rattle.net_sim.proofs.lemmas.AllOurs.{happened}
 use Rattle.reset_law.specs.Stays as stay
 use Rattle.promise.specs.Safe.{receives, sends}
 use Rattle.promise.specs.declared.life.Life.{Life}
@@ -22,16 +24,17 @@ use Rattle.world_keeps_streams.proofs.Facts.{no_zero}
 
 -- a program heard as many CLS as it has seen connections go, and one more where the end that is there heard one
 pub counts : (hosts : List Host) (ms : List Moment) → Lawful hosts ms → (a b : Host) → Counts a b ms
-counts hosts ms l a b = heard_calls numbered numbered_tells 1 hosts l.0 ms l.1 l.2 a b (all_allowed hosts l.0 1 refl a b ms l.1 l.2)
+counts hosts ms l a b = heard_calls numbered numbered_tells 1 (all_ours hosts) l.0 ms l.1 (happened hosts ms l.2) a b (refl, refl) (all_allowed (all_ours hosts) l.0 1 refl a b (refl, refl) ms l.1 (happened hosts ms l.2))
 
 -- ---- the streams
 
 pub goes_on : (hosts : List Host) (a b : Host) (y : Moment) (ms : List Moment) → Lawful hosts (y ∷ ms) → stay.begins a b (event_in y) (events_of ms) ≡ false → (n : ℕ) (j : Joined a b (suc n) ms)
     → (k : Joined a b (suc n) (y ∷ ms)) × Keeps (stay.stays a b (events_of (y ∷ ms))) (stay.stays b a (events_of (y ∷ ms))) j.x k.x
-goes_on hosts a b y ms l none n j = let g : Goes a b (suc n) y ms j = joint.goes (suc n) (no_zero n) hosts l.0 a b y ms l.1 l.2 j none in (g.joined, g.keeps_x)
+goes_on hosts a b y ms l none n j = let g : Goes a b (suc n) y ms j = joint.goes (suc n) (no_zero n) (all_ours hosts) l.0 a b (refl, refl) y ms l.1 (happened hosts (y ∷ ms) l.2) j none in (g.joined, g.keeps_x)
 
 meets_at : (hosts : List Host) (a b : Host) (y : Moment) (ms : List Moment) → Lawful hosts (y ∷ ms) → stay.begins a b (event_in y) (events_of ms) ≡ true → (n : ℕ) → Joined a b (suc n) (y ∷ ms)
-meets_at hosts a b y ms l new n = meets (suc n) (no_zero n) hosts l.0 a b y ms l.1 l.2 new
+meets_at hosts a b y ms l new n =
+    meets (suc n) (no_zero n) (all_ours hosts) l.0 a b (refl, refl) y ms l.1 (happened hosts (y ∷ ms) l.2) new
 
 -- ---- so what is left is asked of lives
 

@@ -1,5 +1,6 @@
 -- A receiving life that its partner has closed, and no user of its host, has all that its partner sent, whatever becomes of both later.
 use Rattle.world_keeps_streams.proofs.Common.{◌≡◌, ◌⊎◌, inl, inr, ℕ, zero, suc, ◌+◌, ◌≤◌, Bool, true, false, List, [], ◌∷◌, ◌++◌, length, map, take, drop, Some, refl, ap, sym, subst, ◌∙◌, arith, Contains, Seen, Host, is_receive_socket, is_send_socket, Allocation, IsSafe, safe_inv, HasClosed, name_now, numbered, receiver_now, closed_first, numbered_tells, receiver, Fresh, asks_once, begins_fresh, IsLawful, Match, Name, own_request, partner_request, Asked, Crossed, Moment, event_in, events_of, crossings_of, WorldState, law_events, keeps, steps, book_run, calls_by, own_calls, IsClosedByPartner, WasClosedByPartner}
+use Rattle.net_sim.proofs.lemmas.AllOurs.{happened}
 use Rattle.reset_law.specs.Network.{all_ours}
 use Rattle.std.proofs.lemmas.Option.{same_Some}
 use Rattle.stream_law.specs.Receivers.{Receiver}
@@ -12,7 +13,7 @@ use Rattle.world_keeps_streams.proofs.Calls.Chain.{chain}
 use Rattle.world_keeps_streams.proofs.Carried.Streams.{all_bits}
 use Rattle.world_keeps_streams.proofs.Lives.Lists.{Grown, IsOf, Named, contains, drop_grown, grown, is_of, of_drop, of_left, of_map, of_parts, of_take, of_whole, take_grown}
 use Rattle.world_keeps_streams.proofs.Requests.Names.{request_grows}
-use Rattle.world_keeps_streams.proofs.Requests.Sides.{Heard, Lawful, Own, coupled_in, law_joined, lives_in}
+use Rattle.world_keeps_streams.proofs.Requests.Sides.{Heard, Lawful, Own, coupled_in, law_joined, lives_in, lawful_among}
 use Rattle.world_keeps_streams.proofs.Stays.Resets.{stays_on}
 use Rattle.world_keeps_streams.proofs.Steps.Joined.{IsSettled, Keeps}
 use Rattle.world_keeps_streams.proofs.Steps.Overs.{Kept, kept_calls, over_alike}
@@ -65,10 +66,10 @@ module _ (hosts : List Host) (a b : Host) where
   -- a request is that of one connection
   pub one_number : (ms : List Moment) → Lawful hosts ms → (receive send stamp g k : ℕ) → Own a b ms receive send stamp g → Own a b ms receive send stamp k → g ≡ k
   one_number ms l receive send stamp g k o p =
-      asks_once g k stamp (receiver (record { receive = receive; send = send }) (steps a b (law_events ms))).said (law_joined hosts ms l a b (record { receive = receive; send = send })).here.grows o p
+      asks_once g k stamp (receiver (record { receive = receive; send = send }) (steps a b (law_events ms))).said (law_joined (all_ours hosts) ms (lawful_among hosts ms l) a b (refl, refl) (record { receive = receive; send = send })).here.grows o p
 
   pub one_stamp : (ms : List Moment) → Lawful hosts ms → (receive send p q g : ℕ) → Own a b ms receive send p g → Own a b ms receive send q g → p ≡ q
-  one_stamp ms l receive send p q g o r = (law_joined hosts ms l a b (record { receive = receive; send = send })).here.balanced.single g p q o r
+  one_stamp ms l receive send p q g o r = (law_joined (all_ours hosts) ms (lawful_among hosts ms l) a b (refl, refl) (record { receive = receive; send = send })).here.balanced.single g p q o r
 
   -- a sending life of the peer answers this request
   pub record Answers (ms : List Moment) (s : Life) (name : Name) : Type 0 where
@@ -224,7 +225,8 @@ module _ (hosts : List Host) (a b : Host) where
       by (Crossed c) k = request_grows hosts ms k (c ∷ []) s (contains s (lives_in ms) i)
 
     pub fresh : stay.begins a b (event_in z) (events_of ms) ≡ true → Fresh a b (event_in z) (events_of ms)
-    fresh new = begins_fresh (all_ours hosts) (event_in z) (events_of ms) (coupled_in hosts (z ∷ ms) l).run a b (refl, refl) new
+    fresh new =
+        begins_fresh (all_ours hosts) (event_in z) (events_of ms) (coupled_in hosts (z ∷ ms) l).run a b (refl, refl) new
 
     -- a sending life of the peer that is of before both met last was over before, so it is as it was
     pub record Before (s : Life) : Type 0 where
@@ -337,8 +339,8 @@ module _ (hosts : List Host) (a b : Host) where
             kept : Kept (receiver_now numbered b (suc m) (own_calls a b ms)) (receiver_now numbered b (suc m) (calls_by a b z ms ++ own_calls a b ms)) c
             kept =
                 kept_calls numbered numbered_tells b (suc m) c (calls_by a b z ms) (own_calls a b ms)
-                (subst (λ (cs : List calls.Moment). calls.IsHistory b cs) own (chain hosts l.0 (z ∷ ms) l.1 l.2 a b).0)
-                (subst (λ (cs : List calls.Moment). calls.AreAllowed numbered b (suc m) cs) own (all_allowed hosts l.0 (suc m) (no_zero m) a b (z ∷ ms) l.1 l.2))
+                (subst (λ (cs : List calls.Moment). calls.IsHistory b cs) own (chain (all_ours hosts) l.0 (z ∷ ms) l.1 (happened hosts (z ∷ ms) l.2) a b (refl, refl)).0)
+                (subst (λ (cs : List calls.Moment). calls.AreAllowed numbered b (suc m) cs) own (all_allowed (all_ours hosts) l.0 (suc m) (no_zero m) a b (refl, refl) (z ∷ ms) l.1 (happened hosts (z ∷ ms) l.2)))
                 (subst (λ (r : Receiver). r.over c ≡ true) old (shut m).0)
 
     through_on : (t : Life) → Through ms (below hosts z ms l) t → stay.begins a b (event_in z) (events_of ms) ≡ false → Through (z ∷ ms) l ((grown z ms).change t)

@@ -10,7 +10,7 @@ use Rattle.world_keeps_pairing.proofs.lemmas.{IsPair, before}
 use Rattle.world_keeps_streams.proofs.Books.Counts.{Counted, bounds, counted, side_of}
 use Rattle.world_keeps_streams.proofs.Deeds.Effects.{Among}
 use Rattle.world_keeps_streams.proofs.Requests.Now.{joined_halves, side_stays}
-use Rattle.world_keeps_streams.proofs.Requests.Sides.{Lawful, begins_same, coupled_in}
+use Rattle.world_keeps_streams.proofs.Requests.Sides.{Lawful, begins_same, coupled_in, lawful_among}
 use Rattle.pairing_law.proofs.lemmas.{closes_said}
 
 -- at none of these moments, after older ones, is a host together with its peer: its pair was reset, or it has stopped
@@ -134,7 +134,7 @@ module _ (s : Sockets) (who : Who) (h p : Host) where
 module _ (hosts : List Host) (ms : List Moment) (l : Lawful hosts ms) (a b : Host) (s : Sockets) (q : IsPair s) (mine : stay.stays a b (events_of ms) ≡ true)
     (e : Entry) (e_in : Among e (pair_with b (program a ms).peers).entries) (own : e.own ≡ s.receive) (foreign : e.foreign ≡ s.send) (heard : e.partner_closed ≡ true) where
   j : Joined (side_of s Receiver a b ms) (side_of s Sender b a ms)
-  j = joined_halves hosts ms l a b s q
+  j = joined_halves (all_ours hosts) ms (lawful_among hosts ms l) a b (refl, refl) s q
 
   here : Counted (side_of s Receiver a b ms).said (side_of s Receiver a b ms).heard (is_sent e.closing) e.partner_closed
   here =
@@ -167,10 +167,10 @@ module _ (hosts : List Host) (between last : List Moment) (l : Lawful hosts (bet
       bounds (closes (side_of s Receiver a b (between ++ last)).said) there.now (is_sent f.closing) f.partner_closed
       (omega (arith, up, more, there.said)) (omega (arith, down, there.heard)) where
         j : Joined (side_of s Receiver a b (between ++ last)) (side_of s Sender b a (between ++ last))
-        j = joined_halves hosts (between ++ last) l a b s q
+        j = joined_halves (all_ours hosts) (between ++ last) (lawful_among hosts (between ++ last) l) a b (refl, refl) s q
 
         k : Joined (side_of s Receiver a b last) (side_of s Sender b a last)
-        k = joined_halves hosts last older a b s q
+        k = joined_halves (all_ours hosts) last (lawful_among hosts last older) a b (refl, refl) s q
 
         there : Counted (side_of s Sender b a last).said (side_of s Sender b a last).heard (is_sent f.closing) f.partner_closed
         there =

@@ -1,5 +1,6 @@
 -- In a world that has settled all lives that match agree.
 use Rattle.world_keeps_streams.proofs.Common.{◌≡◌, ◌<◌, ℕ, zero, suc, Bool, true, List, [], ◌∷◌, ◌++◌, length, map, Option, Some, None, refl, ap, sym, subst, ◌∙◌, arith, Contains, Seen, Host, same_host, same_host-true, Crossing, stays_ready, IsLawful, events_of, program, crossings_of, WorldState, Seat, book_run, NoneOut}
+use Rattle.reset_law.specs.Network.{all_ours}
 use Rattle.std.proofs.Common.{false, slice_get}
 use Rattle.interface.specs.Host.{is_host}
 use Rattle.interface.specs.Mailboxes as mail
@@ -55,7 +56,7 @@ module _ {C : Type 0} (seen : C → Seen) (hosts : List Host) (w : WorldState C)
   up_of : (x : Life) → Contains (kept_in lawful.whole.moments).book.lives x → x.ended ≡ false → mail.is_up hosts x.host (crossings_of lawful.whole.moments) ≡ true
   up_of x there goes =
       sym (up_same hosts x.host lawful.whole.moments)
-      ∙ up_ready hosts (events_of lawful.whole.moments) (coupled_in hosts lawful.whole.moments l).run x.host x.peer (stays_ready (events_of lawful.whole.moments) x.host x.peer (stays_of hosts lawful.whole.moments l x there goes))
+      ∙ up_ready (all_ours hosts) (events_of lawful.whole.moments) (coupled_in hosts lawful.whole.moments l).run x.host x.peer (refl, refl) (stays_ready (events_of lawful.whole.moments) x.host x.peer (stays_of hosts lawful.whole.moments l x there goes))
 
   log_is : (seen w.carrier).log ≡ crossings_of lawful.whole.moments
   log_is = lawful.booked.book ∙ ap (λ (more : List Crossing). more ++ w.kept.book.crossings) (lawful.booked.all settled.running) ∙ lawful.whole.crossings

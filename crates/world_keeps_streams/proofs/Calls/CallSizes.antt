@@ -1,6 +1,10 @@
 -- Each call of a world's programs finds byte sizes that are octets and not zero.
-use Rattle.world_keeps_streams.proofs.Common.{◌≡◌, ℕ, ◌==◌, ◌&&◌, IsTrue, not, Bool, true, false, if◌then◌else◌, List, [], ◌∷◌, ◌++◌, take, Option, Some, None, refl, ap, sym, subst, ◌∙◌, Host, same_host, not_false, same_host-true, is_byte_size, is_receive_socket, is_send_socket, Command, desk_taken, Legal, Order, Wrong, error, orders_of, desk_of, listens_on, command_queued, is_busy, PairState, Parcel, command_gone, with_connections, is_ready, TurnState, order_taken, with_desk, Entry, Listener, AreOrders, AreSizes, IsRanged, pair_range, text_good, AreJoint, ready_when, AsksBack, Closes, Gives, Grants, Hears, OpensReceiver, OpensSender, Says, Takes, turn_of, NcpState, owner_of, pair_with, is_taken, next_in, Peer, Request, not_first, HaveAddresses, IsApart, message_on, Asked, Crossed, IsStory, Moment, event_in, events_of, places, program, Happens, IsTimeline, crossings_of, coupled, keeps, AText, AnRrp, AnRst, Sort, mail_below, plain_joint, programs_ranged, served_in, sort_of, calls_by, commands_said, message_calls, next_calls, orders_heard, own_calls, owner_calls, parcel_calls, request_calls}
-use Rattle.reset_law.specs.Network.{all_ours}
+use Rattle.world_keeps_streams.proofs.Common.{◌≡◌, ℕ, ◌==◌, ◌&&◌, IsTrue, not, Bool, true, false, if◌then◌else◌, List, [], ◌∷◌, ◌++◌, take, Option, Some, None, refl, ap, sym, subst, ◌∙◌, Host, same_host, not_false, same_host-true, is_byte_size, is_receive_socket, is_send_socket, Command, desk_taken, Legal, Order, Wrong, error, orders_of, desk_of, listens_on, command_queued, is_busy, PairState, Parcel, command_gone, with_connections, is_ready, TurnState, order_taken, with_desk, Entry, Listener, AreOrders, AreSizes, IsRanged, pair_range, text_good, AreJoint, ready_when, AsksBack, Closes, Gives, Grants, Hears, OpensReceiver, OpensSender, Says, Takes, turn_of, NcpState, owner_of, pair_with, is_taken, next_in, Peer, Request, not_first, HaveAddresses, IsApart, message_on, Asked, Crossed, IsStory, Moment, event_in, events_of, places, program, crossings_of, keeps, AText, AnRrp, AnRst, Sort, mail_below, plain_joint, programs_ranged, sort_of, calls_by, commands_said, message_calls, next_calls, orders_heard, own_calls, owner_calls, parcel_calls, request_calls}
+use Rattle.host_pairs.proofs.lemmas.{both}
+use Rattle.net_sim.proofs.lemmas.{coupled}
+use Rattle.world_keeps_pairing.proofs.lemmas.{served_in}
+use Rattle.reset_law.specs.Network.{AreOurs, Network}
+use Rattle.net_sim.specs.Mixed.{Happened, MayHappen}
 use Rattle.interface.specs.Mailboxes as mail
 use Rattle.interface.specs.declared.crossing.Crossing.TheVariants as crossing
 use Rattle.host_pairs.specs.Parcels as parcel
@@ -11,7 +15,7 @@ use Rattle.host_keeps_streams.specs.Histories.{Call}
 use Rattle.sockets.specs.Requests.{refusal}
 use Rattle.sockets.specs.declared.request.Request.TheVariants as request
 use Rattle.world_keeps_streams.specs.Calls.{called}
-use Rattle.world_keeps_streams.proofs.Calls.Chain.{chain}
+use Rattle.world_keeps_streams.proofs.Calls.Chain.{chain, plain_at}
 use Rattle.world_keeps_streams.proofs.Calls.MayAsk.{AreSized}
 use Rattle.world_keeps_streams.proofs.Calls.Sizes.{AllSizes, HasSize, history_sized, is_size, sizes_append}
 
@@ -96,44 +100,53 @@ module _ (s : NcpState) (b : Host) (sizes : AreSizes s.listening) where
 
 -- ---- moments
 
-module _ (hosts : List Host) (a b : Host) (moments : List Moment) (ranged : (h : Host) → IsRanged (program h moments)) where
+module _ (hosts : Network) (a b : Host) (ours : AreOurs hosts a b) (moments : List Moment)
+    (ranged : IsRanged (program a moments)) where
   desk_ranged : DeskRanged (turn_of (program a moments) b)
   desk_ranged =
-      let p : IsPair (pair_with b (program a moments).peers) = pair_range b (program a moments).peers (ranged a).pairs in
-      record { ends = p.ends; commands = p.commands; sizes = (ranged a).sizes }
+      let p : IsPair (pair_with b (program a moments).peers) = pair_range b (program a moments).peers ranged.pairs in
+      record { ends = p.ends; commands = p.commands; sizes = ranged.sizes }
 
-  calls_sizes : (x : Moment) → IsStory (all_ours hosts) (x ∷ moments) → Happens hosts x moments → AllSizes (calls_by a b x moments)
+  calls_sizes : (x : Moment) → IsStory hosts (x ∷ moments) → MayHappen hosts.strange hosts.all x moments
+      → AllSizes (calls_by a b x moments)
   calls_sizes (Crossed (crossing.Out m)) story happens = by (same_host a m.flow.source) where
     by : (d : Bool) → AllSizes (if d then next_calls b (places moments) (program a moments).listening (next_in (program a moments).peers) else [])
-    by true = next_sizes b (places moments) (program a moments).listening (next_in (program a moments).peers) (ranged a).sizes
+    by true =
+        next_sizes b (places moments) (program a moments).listening (next_in (program a moments).peers) ranged.sizes
     by false = tt
-  calls_sizes (Crossed (crossing.In m)) story happens = by (same_host a m.flow.destination && same_host b m.flow.source) where
-    by : (d : Bool) → AllSizes (if d then message_calls b (places moments) m.flow.link.0 m.text (turn_of (program a moments) b) else [])
-    by true = message_sizes b (places moments) m.flow.link.0 m.text (turn_of (program a moments) b) (story.0 (refl, refl)) desk_ranged
-    by false = tt
+  calls_sizes (Crossed (crossing.In m)) story happens = by (same_host a m.flow.destination && same_host b m.flow.source) refl where
+    our : (same_host a m.flow.destination && same_host b m.flow.source) ≡ true
+        → AreOurs hosts m.flow.source m.flow.destination
+    our e =
+        let two : (same_host a m.flow.destination ≡ true) × (same_host b m.flow.source ≡ true) = both (same_host a m.flow.destination) (same_host b m.flow.source) e in
+        (plain_at hosts b m.flow.source two.1 ours.1, plain_at hosts a m.flow.destination two.0 ours.0)
+
+    by : (d : Bool) → (same_host a m.flow.destination && same_host b m.flow.source) ≡ d → AllSizes (if d then message_calls b (places moments) m.flow.link.0 m.text (turn_of (program a moments) b) else [])
+    by true e = message_sizes b (places moments) m.flow.link.0 m.text (turn_of (program a moments) b) (story.0 (our e)) desk_ranged
+    by false e = tt
   calls_sizes (Crossed (crossing.Answer kind f)) story happens = by (same_host a f.source && same_host b f.destination) (is_busy (pair_with b (program a moments).peers).busy f.link.0) where
     by : (d e : Bool) → AllSizes (if d then (if e then called (calls.Answered f.link.0) (pair_with b (program a moments).peers) (program a moments).listening ∷ [] else []) else [])
-    by true true = ((tt, (ranged a).sizes), tt)
+    by true true = ((tt, ranged.sizes), tt)
     by true false = tt
     by false e = tt
   calls_sizes (Crossed (crossing.Down h)) story happens = tt
   calls_sizes (Crossed (crossing.Up h)) story happens = tt
   calls_sizes (Asked h r) story happens = by (same_host a h) refl where
     by : (d : Bool) → same_host a h ≡ d → AllSizes (if d then request_calls b (program a moments) r else [])
-    by true e = request_sizes (program a moments) b (ranged a).sizes r (subst (λ (g : Host). refusal (program g moments) r ≡ None) (sym (same_host-true a h e)) happens.2) happens.3
+    by true e = request_sizes (program a moments) b ranged.sizes r (subst (λ (g : Host). refusal (program g moments) r ≡ None) (sym (same_host-true a h e)) (happens (plain_at hosts a h e ours.0)).2) (happens (plain_at hosts a h e ours.0)).3
     by false e = tt
 
-own_sizes : (hosts : List Host) → HaveAddresses hosts → (moments : List Moment) → mail.IsRun hosts (crossings_of moments) → IsTimeline hosts moments → (a b : Host) → AllSizes (own_calls a b moments)
-own_sizes hosts addresses [] run time a b = tt
-own_sizes hosts addresses (x ∷ moments) run time a b = by (own_sizes hosts addresses moments (mail_below hosts x moments run) time.1 a b) (keeps a b (event_in x) (events_of moments)) where
+own_sizes : (hosts : Network) → HaveAddresses hosts.all → (moments : List Moment) → mail.IsRun hosts.all (crossings_of moments) → Happened hosts moments → (a b : Host) → AreOurs hosts a b → AllSizes (own_calls a b moments)
+own_sizes hosts addresses [] run time a b ours = tt
+own_sizes hosts addresses (x ∷ moments) run time a b ours = by (own_sizes hosts addresses moments (mail_below hosts.all x moments run) time.1 a b ours) (keeps a b (event_in x) (events_of moments)) where
   now : AllSizes (calls_by a b x moments)
-  now = calls_sizes hosts a b moments (λ h. programs_ranged (all_ours hosts) moments (served_in hosts moments time.1) h refl) x (coupled hosts addresses (x ∷ moments) run time).story time.0
+  now = calls_sizes hosts a b ours moments (programs_ranged hosts moments (served_in hosts moments time.1) a ours.0) x (coupled hosts addresses (x ∷ moments) run time).story time.0
 
   by : AllSizes (own_calls a b moments) → (k : Bool) → AllSizes (if k then calls_by a b x moments ++ own_calls a b moments else [])
   by old true = sizes_append (calls_by a b x moments) (own_calls a b moments) now old
   by old false = tt
 
 -- the ends of a host know their byte sizes so
-pub all_sized : (hosts : List Host) → HaveAddresses hosts → (moments : List Moment) → mail.IsRun hosts (crossings_of moments) → IsTimeline hosts moments → (a b : Host) → AreSized (pair_with b (program a moments).peers).entries
-all_sized hosts addresses moments run time a b =
-    subst (λ (es : List Entry). AreSized es) (chain hosts addresses moments run time a b).1 (history_sized b (own_calls a b moments) (chain hosts addresses moments run time a b).0 (own_sizes hosts addresses moments run time a b))
+pub all_sized : (hosts : Network) → HaveAddresses hosts.all → (moments : List Moment) → mail.IsRun hosts.all (crossings_of moments) → Happened hosts moments → (a b : Host) → AreOurs hosts a b → AreSized (pair_with b (program a moments).peers).entries
+all_sized hosts addresses moments run time a b ours =
+    subst (λ (es : List Entry). AreSized es) (chain hosts addresses moments run time a b ours).1 (history_sized b (own_calls a b moments) (chain hosts addresses moments run time a b ours).0 (own_sizes hosts addresses moments run time a b ours))

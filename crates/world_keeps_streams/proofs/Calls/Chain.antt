@@ -1,6 +1,8 @@
 -- The calls of a host with a peer follow one another, and lead to the ends that its program has.
-use Rattle.world_keeps_streams.proofs.Common.{◌≡◌, ℕ, Bool, true, false, not, ◌&&◌, if◌then◌else◌, List, [], ◌∷◌, ◌++◌, None, refl, ap, sym, subst, ◌∙◌, Host, same_host, Flow, Answer, HostMessage, same_host-true, PairState, is_ready, IsHistory, ends_now, In, Message, Other, Pair, accepted, turn_of, opening_state, pair_with, refusal, served, next_in, offered, Request, answer_leaves, message_leaves, HaveAddresses, message_on, Asked, Crossed, IsStory, Moment, event_in, events_of, places, program, Happens, IsTimeline, crossings_of, Coupled, by_request, coupled, program_own, clash, mail_below, answer_calls, calls_by, message_calls, next_calls, own_calls, request_calls}
-use Rattle.reset_law.specs.Network.{all_ours}
+use Rattle.world_keeps_streams.proofs.Common.{◌≡◌, ℕ, Bool, true, false, not, ◌&&◌, if◌then◌else◌, List, [], ◌∷◌, ◌++◌, None, refl, ap, sym, subst, ◌∙◌, Host, same_host, Flow, Answer, HostMessage, same_host-true, PairState, is_ready, IsHistory, ends_now, In, Message, Other, Pair, accepted, turn_of, opening_state, pair_with, refusal, served, next_in, offered, Request, answer_leaves, message_leaves, HaveAddresses, message_on, Asked, Crossed, IsStory, Moment, event_in, events_of, places, program, crossings_of, Coupled, by_request, program_own, clash, mail_below, answer_calls, calls_by, message_calls, next_calls, own_calls, request_calls}
+use Rattle.net_sim.proofs.lemmas.{coupled}
+use Rattle.reset_law.specs.Network.{AreOurs, Network}
+use Rattle.net_sim.specs.Mixed.{Happened, MayHappen}
 use Rattle.pairing_law.proofs.lemmas.{pair_same}
 use Rattle.interface.specs.Mailboxes as mail
 use Rattle.interface.specs.declared.crossing.Crossing.TheVariants as crossing
@@ -10,6 +12,10 @@ use Rattle.reset_law.specs.Stays as stay
 use Rattle.world_keeps_pairing.proofs.lemmas.{ready_is}
 use Rattle.world_keeps_streams.proofs.Calls.Leads.{IsIdle, Turned, is_reset, same_turned}
 use Rattle.world_keeps_streams.proofs.Calls.Moved.{answer_moved, message_moved, offered_moved, request_moved}
+
+-- what a moment is about is a host with a program where it is one
+pub plain_at : (hosts : Network) (a x : Host) → same_host a x ≡ true → hosts.strange a ≡ false → hosts.strange x ≡ false
+plain_at hosts a x e plain = subst (λ (h : Host). hosts.strange h ≡ false) (same_host-true a x e) plain
 
 -- ---- one moment
 
@@ -36,18 +42,19 @@ module _ (a b : Host) where
     by true = record { leads = λ n r. clash _ true refl (sym r); drops = λ f. clash _ true refl (sym f); idle = λ i j. (refl, refl) }
     by false = still b (pair_with b (program a moments).peers) (pair_with b (program a moments).peers) refl
 
-  module _ (hosts : List Host) (moments : List Moment) (c : Coupled (all_ours hosts) moments) where
+  module _ (hosts : Network) (moments : List Moment) (c : Coupled hosts moments) (ours : AreOurs hosts a b) where
     out_moved : (m : HostMessage) → Moves (Crossed (crossing.Out m)) moments
     out_moved m = by (same_host a m.flow.source) where
       by : (d : Bool) → Turned b false (pair_with b (program a moments).peers) (pair_with b (if d then (offered (program a moments) (places moments)).0 else program a moments).peers)
           (if d then next_calls b (places moments) (program a moments).listening (next_in (program a moments).peers) else [])
-      by true = offered_moved (program a moments) (places moments) b (c.order a refl)
+      by true = offered_moved (program a moments) (places moments) b (c.order a ours.0)
       by false = still b (pair_with b (program a moments).peers) (pair_with b (program a moments).peers) refl
 
     own_is : (h : Host) → same_host a h ≡ true → same_host (program a moments).own h ≡ true
     own_is h e = ap (λ (g : Host). same_host g h) (program_own a moments) ∙ e
 
-    in_moved : (m : HostMessage) → IsStory (all_ours hosts) (Crossed (crossing.In m) ∷ moments) → Moves (Crossed (crossing.In m)) moments
+    in_moved : (m : HostMessage) → IsStory hosts (Crossed (crossing.In m) ∷ moments)
+        → Moves (Crossed (crossing.In m)) moments
     in_moved m story = by (same_host a m.flow.destination) (same_host b m.flow.source) refl refl where
       by : (d e : Bool) → same_host a m.flow.destination ≡ d → same_host b m.flow.source ≡ e
           → Turned b (stay.takes_reset a b (event_in (Crossed (crossing.In m)))) (pair_with b (program a moments).peers) (pair_with b (if d then (accepted (program a moments) (inbound.Message m) (places moments)).0 else program a moments).peers)
@@ -58,7 +65,7 @@ module _ (a b : Host) where
           takes_by a b m.flow.source m.flow.destination m.flow.link.0 (message_on m.flow.link.0 m.text) true (ap (λ (u : Bool). u && same_host b m.flow.source) f ∙ g) in
           subst (λ (t : Bool). Turned b t (pair_with b (program a moments).peers) (pair_with b (accepted (program a moments) (inbound.Message m) (places moments)).0.peers) (message_calls b (places moments) m.flow.link.0 m.text (turn_of (program a moments) b))) (sym takes)
           (subst (λ (h : Host). Turned h (is_reset (message_on m.flow.link.0 m.text)) (pair_with h (program a moments).peers) (pair_with h (accepted (program a moments) (inbound.Message m) (places moments)).0.peers) (message_calls h (places moments) m.flow.link.0 m.text (turn_of (program a moments) h))) (sym is)
-          (message_moved (program a moments) (places moments) m (own_is m.flow.destination f) (story.0 (refl, refl))))
+          (message_moved (program a moments) (places moments) m (own_is m.flow.destination f) (story.0 (plain_at hosts b m.flow.source g ours.1, plain_at hosts a m.flow.destination f ours.0))))
       by true false f g =
           let takes : stay.takes_reset a b (event_in (Crossed (crossing.In m))) ≡ false =
           takes_by a b m.flow.source m.flow.destination m.flow.link.0 (message_on m.flow.link.0 m.text) false (ap (λ (u : Bool). u && same_host b m.flow.source) f ∙ g) in
@@ -82,51 +89,55 @@ module _ (a b : Host) where
       by true false g k = still b (pair_with b (program a moments).peers) _ (answer_leaves (program a moments) kind f (places moments) b k)
       by false e g k = still b (pair_with b (program a moments).peers) (pair_with b (program a moments).peers) refl
 
-    asked_moved : (h : Host) (r : Request) → refusal (program h moments) r ≡ None → Moves (Asked h r) moments
+    asked_moved : (h : Host) (r : Request) → (same_host a h ≡ true → refusal (program h moments) r ≡ None)
+        → Moves (Asked h r) moments
     asked_moved h r may =
         subst (λ (t : Bool). Turned b t (pair_with b (program a moments).peers) (pair_with b (program a (Asked h r ∷ moments)).peers) (calls_by a b (Asked h r) moments))
         (sym (by_request (λ e. stay.takes_reset a b e ≡ false) h r (λ peer. refl) refl))
         (by (same_host a h) refl) where
           by : (d : Bool) → same_host a h ≡ d → Turned b false (pair_with b (program a moments).peers) (pair_with b (if d then served (program a moments) r else program a moments).peers) (if d then request_calls b (program a moments) r else [])
-          by true e = request_moved (program a moments) b r (c.order a refl) (subst (λ (g : Host). refusal (program g moments) r ≡ None) (sym (same_host-true a h e)) may)
+          by true e = request_moved (program a moments) b r (c.order a ours.0) (subst (λ (g : Host). refusal (program g moments) r ≡ None) (sym (same_host-true a h e)) (may e))
           by false e = still b (pair_with b (program a moments).peers) (pair_with b (program a moments).peers) refl
 
-    pub moved : (x : Moment) → IsStory (all_ours hosts) (x ∷ moments) → Happens hosts x moments → Moves x moments
+    pub moved : (x : Moment) → IsStory hosts (x ∷ moments) → MayHappen hosts.strange hosts.all x moments
+        → Moves x moments
     moved (Crossed (crossing.Out m)) story happens = out_moved m
     moved (Crossed (crossing.In m)) story happens = in_moved m story
     moved (Crossed (crossing.Answer kind f)) story happens = told_moved kind f
     moved (Crossed (crossing.Down h)) story happens = start_moved h moments
     moved (Crossed (crossing.Up h)) story happens = start_moved h moments
-    moved (Asked h r) story happens = asked_moved h r happens.2
+    moved (Asked h r) story happens = asked_moved h r (λ e. (happens (plain_at hosts a h e ours.0)).2)
 
 -- ---- all moments
 
 -- a host is through a reset by its program where it is by the law
-pub ready_both : (hosts : List Host) (a b : Host) (moments : List Moment) → IsStory (all_ours hosts) moments → stay.ready a b (events_of moments) ≡ is_ready (pair_with b (program a moments).peers).phase
-ready_both hosts a b moments story = ap (λ (p : Pair). is_ready p.phase) (sym (pair_same a b (events_of moments))) ∙ ready_is (all_ours hosts) a b moments (refl, refl) story
+pub ready_both : (hosts : Network) (a b : Host) (moments : List Moment) → AreOurs hosts a b → IsStory hosts moments
+    → stay.ready a b (events_of moments) ≡ is_ready (pair_with b (program a moments).peers).phase
+ready_both hosts a b moments ours story = ap (λ (p : Pair). is_ready p.phase) (sym (pair_same a b (events_of moments))) ∙ ready_is hosts a b moments ours story
 
-pub idle : (hosts : List Host) → HaveAddresses hosts → (moments : List Moment) → mail.IsRun hosts (crossings_of moments) → IsTimeline hosts moments → (a b : Host)
+pub idle : (hosts : Network) → HaveAddresses hosts.all → (moments : List Moment)
+    → mail.IsRun hosts.all (crossings_of moments) → Happened hosts moments → (a b : Host) → AreOurs hosts a b
     → is_ready (pair_with b (program a moments).peers).phase ≡ false → ((pair_with b (program a moments).peers).entries ≡ []) × ((pair_with b (program a moments).peers).queue ≡ [])
-idle hosts addresses [] run time a b = λ j. (refl, refl)
-idle hosts addresses (x ∷ moments) run time a b =
-    let below : mail.IsRun hosts (crossings_of moments) = mail_below hosts x moments run in
-    let t : Moves a b x moments = moved a b hosts moments (coupled hosts addresses moments below time.1) x (coupled hosts addresses (x ∷ moments) run time).story time.0 in
-    t.idle (idle hosts addresses moments below time.1 a b)
+idle hosts addresses [] run time a b ours = λ j. (refl, refl)
+idle hosts addresses (x ∷ moments) run time a b ours =
+    let below : mail.IsRun hosts.all (crossings_of moments) = mail_below hosts.all x moments run in
+    let t : Moves a b x moments = moved a b hosts moments (coupled hosts addresses moments below time.1) ours x (coupled hosts addresses (x ∷ moments) run time).story time.0 in
+    t.idle (idle hosts addresses moments below time.1 a b ours)
 
 abbrev pub Chained : Host → Host → List Moment → Type 0
 Chained a b moments = IsHistory b (own_calls a b moments) × (ends_now b (own_calls a b moments) ≡ (pair_with b (program a moments).peers).entries)
 
-pub chain : (hosts : List Host) → HaveAddresses hosts → (moments : List Moment) → mail.IsRun hosts (crossings_of moments) → IsTimeline hosts moments → (a b : Host) → Chained a b moments
-chain hosts addresses [] run time a b = (tt, refl)
-chain hosts addresses (x ∷ moments) run time a b = by (chain hosts addresses moments (mail_below hosts x moments run) time.1 a b) (stay.ready a b (events_of (x ∷ moments))) (stay.takes_reset a b (event_in x)) refl refl where
-  below : mail.IsRun hosts (crossings_of moments)
-  below = mail_below hosts x moments run
+pub chain : (hosts : Network) → HaveAddresses hosts.all → (moments : List Moment) → mail.IsRun hosts.all (crossings_of moments) → Happened hosts moments → (a b : Host) → AreOurs hosts a b → Chained a b moments
+chain hosts addresses [] run time a b ours = (tt, refl)
+chain hosts addresses (x ∷ moments) run time a b ours = by (chain hosts addresses moments (mail_below hosts.all x moments run) time.1 a b ours) (stay.ready a b (events_of (x ∷ moments))) (stay.takes_reset a b (event_in x)) refl refl where
+  below : mail.IsRun hosts.all (crossings_of moments)
+  below = mail_below hosts.all x moments run
 
-  story : IsStory (all_ours hosts) (x ∷ moments)
+  story : IsStory hosts (x ∷ moments)
   story = (coupled hosts addresses (x ∷ moments) run time).story
 
   t : Moves a b x moments
-  t = moved a b hosts moments (coupled hosts addresses moments below time.1) x story time.0
+  t = moved a b hosts moments (coupled hosts addresses moments below time.1) ours x story time.0
 
   none : (pair_with b (program a (x ∷ moments)).peers).entries ≡ [] → IsHistory b [] × (ends_now b [] ≡ (pair_with b (program a (x ∷ moments)).peers).entries)
   none e = (tt, sym e)
@@ -134,5 +145,6 @@ chain hosts addresses (x ∷ moments) run time a b = by (chain hosts addresses m
   by : Chained a b moments → (r z : Bool) → stay.ready a b (events_of (x ∷ moments)) ≡ r → stay.takes_reset a b (event_in x) ≡ z
       → IsHistory b (if r && not z then calls_by a b x moments ++ own_calls a b moments else []) × (ends_now b (if r && not z then calls_by a b x moments ++ own_calls a b moments else []) ≡ (pair_with b (program a (x ∷ moments)).peers).entries)
   by old true true e f = none (t.drops f)
-  by old true false e f = t.leads f (sym (ready_both hosts a b (x ∷ moments) story) ∙ e) (own_calls a b moments) old.0 old.1
-  by old false z e f = none (idle hosts addresses (x ∷ moments) run time a b (sym (ready_both hosts a b (x ∷ moments) story) ∙ e)).0
+  by old true false e f =
+      t.leads f (sym (ready_both hosts a b (x ∷ moments) ours story) ∙ e) (own_calls a b moments) old.0 old.1
+  by old false z e f = none (idle hosts addresses (x ∷ moments) run time a b ours (sym (ready_both hosts a b (x ∷ moments) ours story) ∙ e)).0

@@ -1,6 +1,8 @@
 -- Each call of a host since it dropped its ends with a peer might be made, whether or not both have met since.
-use Rattle.world_keeps_streams.proofs.Common.{◌≡◌, ℕ, ◌==◌, Bool, true, false, ◌&&◌, if◌then◌else◌, List, [], ◌∷◌, ◌++◌, take, Option, Some, None, refl, sym, subst, ◌∙◌, Host, same_host, same_host-true, Command, Order, Legal, orders_of, desk_of, listens_on, is_busy, PairState, Parcel, command_gone, with_connections, is_ready, TurnState, Entry, Listener, Answered, AreAllowed, AsksBack, Closes, Gives, Grants, Hears, IsAllowed, OpensReceiver, OpensSender, Says, Sends, Takes, sender_now, In, Message, Other, pair, ready_phase, takes_in_stay, turn_of, NcpState, owner_of, pair_with, next_in, Peer, Request, HaveAddresses, message_on, Asked, Crossed, Moment, event_in, events_of, places, program, IsTimeline, crossings_of, coupled, clash, keeps, AText, AnRrp, AnRst, Sort, mail_below, sort_of, answer_calls, calls_by, commands_said, message_calls, next_calls, orders_heard, own_calls, owner_calls, parcel_calls, request_calls, both}
-use Rattle.reset_law.specs.Network.{all_ours}
+use Rattle.world_keeps_streams.proofs.Common.{◌≡◌, ℕ, ◌==◌, Bool, true, false, ◌&&◌, if◌then◌else◌, List, [], ◌∷◌, ◌++◌, take, Option, Some, None, refl, sym, subst, ◌∙◌, Host, same_host, same_host-true, Command, Order, Legal, orders_of, desk_of, listens_on, is_busy, PairState, Parcel, command_gone, with_connections, is_ready, TurnState, Entry, Listener, Answered, AreAllowed, AsksBack, Closes, Gives, Grants, Hears, IsAllowed, OpensReceiver, OpensSender, Says, Sends, Takes, sender_now, In, Message, Other, pair, ready_phase, takes_in_stay, turn_of, NcpState, owner_of, pair_with, next_in, Peer, Request, HaveAddresses, message_on, Asked, Crossed, Moment, event_in, events_of, places, program, crossings_of, clash, keeps, AText, AnRrp, AnRst, Sort, mail_below, sort_of, answer_calls, calls_by, commands_said, message_calls, next_calls, orders_heard, own_calls, owner_calls, parcel_calls, request_calls, both}
+use Rattle.net_sim.proofs.lemmas.{coupled}
+use Rattle.reset_law.specs.Network.{AreOurs, Network}
+use Rattle.net_sim.specs.Mixed.{Happened}
 use Rattle.interface.specs.Mailboxes as mail
 use Rattle.interface.specs.declared.crossing.Crossing.TheVariants as crossing
 use Rattle.ncp_control.specs.declared.command.Command.TheVariants as command
@@ -109,29 +111,30 @@ message_quiet peer stamp link text t none = by (is_ready t.pair.phase) refl (sor
   by true e (AnRrp zero os is) = rw zero (one_order peer stamp command.Rrp (orders_of text) t tt os)
   by true e (AText is) = absurd (none e is)
 
-module _ (hosts : List Host) (addresses : HaveAddresses hosts) (a b : Host) where
+module _ (hosts : Network) (addresses : HaveAddresses hosts.all) (a b : Host) (ours : AreOurs hosts a b) where
   quiet_if : (d : Bool) (cs : List calls.Moment) → (d ≡ true → HearNoRts cs) → HearNoRts (if d then cs else [])
   quiet_if true cs n = n refl
   quiet_if false cs n = tt
 
-  left_quiet : (x : Moment) (moments : List Moment) → mail.IsRun hosts (crossings_of (x ∷ moments)) → IsTimeline hosts (x ∷ moments) → stay.stays a b (events_of moments) ≡ false → HearNoRts (calls_by a b x moments)
+  left_quiet : (x : Moment) (moments : List Moment) → mail.IsRun hosts.all (crossings_of (x ∷ moments))
+      → Happened hosts (x ∷ moments) → stay.stays a b (events_of moments) ≡ false → HearNoRts (calls_by a b x moments)
   left_quiet (Crossed (crossing.Out m)) moments run time left =
       quiet_if (same_host a m.flow.source) (next_calls b (places moments) (program a moments).listening (next_in (program a moments).peers)) (λ t. next_quiet b (places moments) (program a moments).listening (next_in (program a moments).peers))
   left_quiet (Crossed (crossing.In m)) moments run time left =
       quiet_if (same_host a m.flow.destination && same_host b m.flow.source) (message_calls b (places moments) m.flow.link.0 m.text (turn_of (program a moments) b))
       (λ t. message_quiet b (places moments) m.flow.link.0 m.text (turn_of (program a moments) b) (λ r is. alone (both (same_host a m.flow.destination) (same_host b m.flow.source) t) r is)) where
-        events : IsRun (all_ours hosts) (In m.flow.source m.flow.destination m.flow.link.0 (message_on m.flow.link.0 m.text) ∷ events_of moments)
+        events : IsRun hosts (In m.flow.source m.flow.destination m.flow.link.0 (message_on m.flow.link.0 m.text) ∷ events_of moments)
         events = (coupled hosts addresses (Crossed (crossing.In m) ∷ moments) run time).run
 
         alone : (same_host a m.flow.destination ≡ true) × (same_host b m.flow.source ≡ true) → is_ready (pair_with b (program a moments).peers).phase ≡ true → message_on m.flow.link.0 m.text ≡ Other m.text → ⊥
         alone t r is =
             let to : a ≡ m.flow.destination = same_host-true a m.flow.destination t.0 in
             let from : b ≡ m.flow.source = same_host-true b m.flow.source t.1 in
-            let text : IsRun (all_ours hosts) (In m.flow.source m.flow.destination m.flow.link.0 (Other m.text) ∷ events_of moments) = subst (λ (n : Message). IsRun (all_ours hosts) (In m.flow.source m.flow.destination m.flow.link.0 n ∷ events_of moments)) is events in
-            let mine : IsRun (all_ours hosts) (In b a m.flow.link.0 (Other m.text) ∷ events_of moments)
-            = subst (λ (h : Host). IsRun (all_ours hosts) (In b h m.flow.link.0 (Other m.text) ∷ events_of moments)) (sym to) (subst (λ (h : Host). IsRun (all_ours hosts) (In h m.flow.destination m.flow.link.0 (Other m.text) ∷ events_of moments)) (sym from) text) in
-            let ready : stay.ready a b (events_of moments) ≡ true = ready_both hosts a b moments (coupled hosts addresses (Crossed (crossing.In m) ∷ moments) run time).story.1 ∙ r in
-            let stays : stay.stays a b (events_of moments) ≡ true = takes_in_stay (all_ours hosts) (events_of moments) b a m.flow.link.0 m.text (refl, refl) mine (ready_phase (pair a b (events_of moments)).phase ready) in
+            let text : IsRun hosts (In m.flow.source m.flow.destination m.flow.link.0 (Other m.text) ∷ events_of moments) = subst (λ (n : Message). IsRun hosts (In m.flow.source m.flow.destination m.flow.link.0 n ∷ events_of moments)) is events in
+            let mine : IsRun hosts (In b a m.flow.link.0 (Other m.text) ∷ events_of moments)
+            = subst (λ (h : Host). IsRun hosts (In b h m.flow.link.0 (Other m.text) ∷ events_of moments)) (sym to) (subst (λ (h : Host). IsRun hosts (In h m.flow.destination m.flow.link.0 (Other m.text) ∷ events_of moments)) (sym from) text) in
+            let ready : stay.ready a b (events_of moments) ≡ true = ready_both hosts a b moments ours (coupled hosts addresses (Crossed (crossing.In m) ∷ moments) run time).story.1 ∙ r in
+            let stays : stay.stays a b (events_of moments) ≡ true = takes_in_stay hosts (events_of moments) b a m.flow.link.0 m.text (ours.1, ours.0) mine (ready_phase (pair a b (events_of moments)).phase ready) in
             clash _ (stay.stays a b (events_of moments)) stays left
   left_quiet (Crossed (crossing.Answer kind f)) moments run time left =
       quiet_if (same_host a f.source && same_host b f.destination) (answer_calls f.link.0 (pair_with b (program a moments).peers) (program a moments).listening) (λ t. answer_quiet f.link.0 (pair_with b (program a moments).peers) (program a moments).listening)
@@ -141,17 +144,19 @@ module _ (hosts : List Host) (addresses : HaveAddresses hosts) (a b : Host) wher
 
 -- ---- all moments
 
-module _ (number : ℕ → ℕ → ℕ → ℕ) (link : ℕ) (hosts : List Host) (addresses : HaveAddresses hosts) (a b : Host)
-    (staying : (moments : List Moment) → mail.IsRun hosts (crossings_of moments) → IsTimeline hosts moments → stay.stays a b (events_of moments) ≡ true → AreAllowed number b link (own_calls a b moments))
-    (may_calls : (x : Moment) (moments : List Moment) → mail.IsRun hosts (crossings_of (x ∷ moments)) → IsTimeline hosts (x ∷ moments) → AllMay (calls_by a b x moments)) where
-  pub allowed : (moments : List Moment) → mail.IsRun hosts (crossings_of moments) → IsTimeline hosts moments → AreAllowed number b link (own_calls a b moments)
+module _ (number : ℕ → ℕ → ℕ → ℕ) (link : ℕ) (hosts : Network) (addresses : HaveAddresses hosts.all) (a b : Host)
+    (ours : AreOurs hosts a b)
+    (staying : (moments : List Moment) → mail.IsRun hosts.all (crossings_of moments) → Happened hosts moments → stay.stays a b (events_of moments) ≡ true → AreAllowed number b link (own_calls a b moments))
+    (may_calls : (x : Moment) (moments : List Moment) → mail.IsRun hosts.all (crossings_of (x ∷ moments)) → Happened hosts (x ∷ moments) → AllMay (calls_by a b x moments)) where
+  pub allowed : (moments : List Moment) → mail.IsRun hosts.all (crossings_of moments) → Happened hosts moments
+      → AreAllowed number b link (own_calls a b moments)
   allowed [] run time = tt
-  allowed (x ∷ moments) run time = by (stay.stays a b (events_of (x ∷ moments))) refl (allowed moments (mail_below hosts x moments run) time.1) where
+  allowed (x ∷ moments) run time = by (stay.stays a b (events_of (x ∷ moments))) refl (allowed moments (mail_below hosts.all x moments run) time.1) where
     alone : stay.stays a b (events_of (x ∷ moments)) ≡ false → AreAllowed number b link (own_calls a b moments) → (k : Bool) → keeps a b (event_in x) (events_of moments) ≡ k
         → AreAllowed number b link (if k then calls_by a b x moments ++ own_calls a b moments else [])
     alone left old false e = tt
     alone left old true e =
-        more_allowed number b link (calls_by a b x moments) (own_calls a b moments) (left_quiet hosts addresses a b x moments run time (before (stay.stays a b (events_of moments)) refl)) (may_calls x moments run time) old where
+        more_allowed number b link (calls_by a b x moments) (own_calls a b moments) (left_quiet hosts addresses a b ours x moments run time (before (stay.stays a b (events_of moments)) refl)) (may_calls x moments run time) old where
           before : (s : Bool) → stay.stays a b (events_of moments) ≡ s → stay.stays a b (events_of moments) ≡ false
           before true s = clash _ (stay.stays a b (events_of (x ∷ moments))) (goes_on a b (event_in x) (events_of moments) e s) left
           before false s = s

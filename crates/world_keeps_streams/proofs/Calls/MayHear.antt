@@ -1,6 +1,6 @@
 -- What a host hears of a peer may be heard, over all moments.
 use Rattle.world_keeps_streams.proofs.Common.{◌≡◌, ℕ, ◌==◌, ◌&&◌, Bool, if◌then◌else◌, List, [], ◌∷◌, refl, sym, subst, Host, HostMessage, same_host-refl, waits_with, is_receive_socket, is_send_socket, Order, orders_of, is_ready, both, text_good, HasEnd, AreJoint, AllFit, marks_in, Takes, End, Sockets, Mark, Message, turn_of, pair_with, IsApart, Crossed, IsStory, Moment, events_of, places, program, crossings_of, TakesFreeAt, AText, AllBare, AllTied, AnRrp, AnRst, AreOrigins, IsUnpaired, Side_of, Sort, plain_joint, sort_of, message_calls, orders_heard}
-use Rattle.reset_law.specs.Network.{all_ours}
+use Rattle.reset_law.specs.Network.{AreOurs, Network}
 use Rattle.std.proofs.Common.{true, false}
 use Rattle.interface.specs.Mailboxes as mail
 use Rattle.interface.specs.declared.crossing.Crossing.TheVariants as crossing
@@ -22,23 +22,25 @@ by_kind P own foreign first second third = by (is_receive_socket own && is_send_
 
 -- ---- the ends of any two sockets
 
-module _ (hosts : List Host) (origin : Host → Host → ℕ → ℕ) (moments : List Moment) (t : AllTied (all_ours hosts) origin moments) (bare : AllBare (all_ours hosts) origin moments) where
-  pub has_end : (a b : Host) (own foreign : ℕ) → (x : End) × HasEnd (origin a b) own foreign (pair_with b (program a moments).peers) x
-  has_end a b own foreign =
+module _ (hosts : Network) (origin : Host → Host → ℕ → ℕ) (moments : List Moment) (t : AllTied hosts origin moments)
+    (bare : AllBare hosts origin moments) where
+  pub has_end : (a b : Host) → AreOurs hosts a b → (own foreign : ℕ) → (x : End)
+      × HasEnd (origin a b) own foreign (pair_with b (program a moments).peers) x
+  has_end a b ours own foreign =
       by_kind ((x : End) × HasEnd (origin a b) own foreign (pair_with b (program a moments).peers) x) own foreign
-      (λ e f. ((Side_of (record { receive = own; send = foreign }) (e, f) Receiver a b (origin a b) moments).end, (t.tied a b (refl, refl)).receiver (record { receive = own; send = foreign }) (e, f)))
-      (λ e f. ((Side_of (record { receive = foreign; send = own }) (f, e) Sender a b (origin a b) moments).end, (t.tied b a (refl, refl)).sender (record { receive = foreign; send = own }) (f, e)))
-      (λ u. (nothing, (bare.bare a b (refl, refl) own foreign u).0))
+      (λ e f. ((Side_of (record { receive = own; send = foreign }) (e, f) Receiver a b (origin a b) moments).end, (t.tied a b ours).receiver (record { receive = own; send = foreign }) (e, f)))
+      (λ e f. ((Side_of (record { receive = foreign; send = own }) (f, e) Sender a b (origin a b) moments).end, (t.tied b a (ours.1, ours.0)).sender (record { receive = foreign; send = own }) (f, e)))
+      (λ u. (nothing, (bare.bare a b ours own foreign u).0))
 
 -- ---- a message
 
-module _ (hosts : List Host) (origin : Host → Host → ℕ → ℕ) (m : HostMessage) (moments : List Moment) (mails : mail.IsRun hosts (crossings_of (Crossed (crossing.In m) ∷ moments))) (story : IsStory (all_ours hosts) (Crossed (crossing.In m) ∷ moments))
-    (run : IsRun (all_ours hosts) (events_of (Crossed (crossing.In m) ∷ moments))) (from : AreOrigins origin (Crossed (crossing.In m) ∷ moments)) (t : AllTied (all_ours hosts) origin moments) (next : AllTied (all_ours hosts) origin (Crossed (crossing.In m) ∷ moments))
-    (bare : AllBare (all_ours hosts) origin moments) (free : TakesFreeAt (all_ours hosts) (Crossed (crossing.In m)) moments) where
+module _ (hosts : Network) (origin : Host → Host → ℕ → ℕ) (m : HostMessage) (moments : List Moment) (ours : AreOurs hosts m.flow.source m.flow.destination) (mails : mail.IsRun hosts.all (crossings_of (Crossed (crossing.In m) ∷ moments))) (story : IsStory hosts (Crossed (crossing.In m) ∷ moments))
+    (run : IsRun hosts (events_of (Crossed (crossing.In m) ∷ moments))) (from : AreOrigins origin (Crossed (crossing.In m) ∷ moments)) (t : AllTied hosts origin moments) (next : AllTied hosts origin (Crossed (crossing.In m) ∷ moments))
+    (bare : AllBare hosts origin moments) (free : TakesFreeAt hosts (Crossed (crossing.In m)) moments) where
   silent : IsSilent m.flow.link.0 m.text
   silent =
       let w : (place : ℕ) × (mail.box_of m.flow (crossings_of moments) ≡ mail.Waiting place m.text) = waits_with (mail.box_of m.flow (crossings_of moments)) m.text mails.0.1 in
-      waiting_silent (all_ours hosts) m.flow (refl, refl) w.0 m.text (crossings_of moments) bare.silent w.1
+      waiting_silent hosts m.flow ours w.0 m.text (crossings_of moments) bare.silent w.1
 
   silent_orders : (m.flow.link.0 == 0) ≡ true → AreSilent (origin m.flow.destination m.flow.source) (orders_of m.text)
   silent_orders zero = λ own foreign place u. subst (λ (z : Bool). (if z then marks_in place own foreign (orders_of m.text) else []) ≡ []) zero (silent own foreign place u)
@@ -50,17 +52,17 @@ module _ (hosts : List Host) (origin : Host → Host → ℕ → ℕ) (m : HostM
       (λ e f.
       let s : Sockets = record { receive = own; send = foreign } in (
         (Side_of (record { receive = own; send = foreign }) (e, f) Receiver m.flow.destination m.flow.source (origin m.flow.destination m.flow.source) moments).end,
-        (t.tied m.flow.destination m.flow.source (refl, refl)).receiver (record { receive = own; send = foreign }) (e, f),
-        ((receiver_hears (all_ours hosts) origin m.flow.destination m.flow.source (Crossed (crossing.In m)) moments from.0 free (record { receive = own; send = foreign }) (e, f) m (refl, refl) story run refl (same_host-refl m.flow.destination) (same_host-refl m.flow.source) (next.tied m.flow.destination m.flow.source (refl, refl)).steps).0 ready zero joint).1,
+        (t.tied m.flow.destination m.flow.source (ours.1, ours.0)).receiver (record { receive = own; send = foreign }) (e, f),
+        ((receiver_hears hosts origin m.flow.destination m.flow.source (Crossed (crossing.In m)) moments from.0 free (record { receive = own; send = foreign }) (e, f) m ours story run refl (same_host-refl m.flow.destination) (same_host-refl m.flow.source) (next.tied m.flow.destination m.flow.source (ours.1, ours.0)).steps).0 ready zero joint).1,
       ))
       (λ e f. (
         (Side_of (record { receive = foreign; send = own }) (f, e) Sender m.flow.destination m.flow.source (origin m.flow.destination m.flow.source) moments).end,
-        (t.tied m.flow.source m.flow.destination (refl, refl)).sender (record { receive = foreign; send = own }) (f, e),
-        ((sender_hears (all_ours hosts) origin m.flow.source m.flow.destination (Crossed (crossing.In m)) moments from.0 free (record { receive = foreign; send = own }) (f, e) m (refl, refl) story run refl (same_host-refl m.flow.destination) (same_host-refl m.flow.source) (next.tied m.flow.source m.flow.destination (refl, refl)).steps).0 ready zero joint).1,
+        (t.tied m.flow.source m.flow.destination ours).sender (record { receive = foreign; send = own }) (f, e),
+        ((sender_hears hosts origin m.flow.source m.flow.destination (Crossed (crossing.In m)) moments from.0 free (record { receive = foreign; send = own }) (f, e) m ours story run refl (same_host-refl m.flow.destination) (same_host-refl m.flow.source) (next.tied m.flow.source m.flow.destination ours).steps).0 ready zero joint).1,
       ))
       (λ u. (
         nothing,
-        (bare.bare m.flow.destination m.flow.source (refl, refl) own foreign u).0,
+        (bare.bare m.flow.destination m.flow.source (ours.1, ours.0) own foreign u).0,
         subst (λ (ms : List Mark). AllFit ms nothing) (sym (silent_orders zero foreign own (origin m.flow.destination m.flow.source (places moments)) (unpaired_turned own foreign u))) tt,
       ))
 
@@ -71,8 +73,8 @@ module _ (hosts : List Host) (origin : Host → Host → ℕ → ℕ) (m : HostM
   control_may zero ready (AnRst z orders is) = subst (λ (os : List Order). Heard os) (sym orders) ((tt, tt, tt, tt), tt)
   control_may zero ready (AnRrp z orders is) = subst (λ (os : List Order). Heard os) (sym orders) ((tt, tt, tt, tt), tt)
   control_may zero ready (AText is) =
-      let joint : AreJoint (orders_of m.text) = plain_joint (orders_of m.text) (subst (λ (n : Message). IsApart m.flow.link.0 m.text n) is (story.0 (refl, refl)) zero) in
-      heard_may (origin m.flow.destination m.flow.source) m.flow.source (places moments) (orders_of m.text) (turn_of (program m.flow.destination moments) m.flow.source) [] joint (text_good m.text) (silent_orders zero) (free (refl, refl) ready zero) ready
+      let joint : AreJoint (orders_of m.text) = plain_joint (orders_of m.text) (subst (λ (n : Message). IsApart m.flow.link.0 m.text n) is (story.0 ours) zero) in
+      heard_may (origin m.flow.destination m.flow.source) m.flow.source (places moments) (orders_of m.text) (turn_of (program m.flow.destination moments) m.flow.source) [] joint (text_good m.text) (silent_orders zero) (free ours ready zero) ready
       (fits_all zero ready joint) tt
 
   pub message_may : AllMay (message_calls m.flow.source (places moments) m.flow.link.0 m.text (turn_of (program m.flow.destination moments) m.flow.source))

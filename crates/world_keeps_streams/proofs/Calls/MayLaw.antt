@@ -1,5 +1,7 @@
 -- What may be said of each call of a world's programs, as the steps of two programs on a link need it.
-use Rattle.world_keeps_streams.proofs.Common.{List, [], ◌∷◌, Host, Command, PairState, Entry, Answered, AsksBack, Hears, OpensReceiver, OpensSender, Says, Sends, Takes, HaveAddresses, Moment, IsTimeline, crossings_of, calls_by, IsHeard}
+use Rattle.world_keeps_streams.proofs.Common.{List, [], ◌∷◌, Host, Command, PairState, Entry, Answered, AsksBack, Hears, OpensReceiver, OpensSender, Says, Sends, Takes, HaveAddresses, Moment, crossings_of, calls_by, IsHeard}
+use Rattle.reset_law.specs.Network.{AreOurs, Network}
+use Rattle.net_sim.specs.Mixed.{Happened}
 use Rattle.interface.specs.Mailboxes as mail
 use Rattle.ncp_control.specs.declared.command.Command.TheVariants as command
 use Rattle.host_keeps_streams.specs.Histories as calls
@@ -29,5 +31,6 @@ all_calls : (cs : List calls.Moment) → AllMay cs → MayCalls cs
 all_calls [] h = tt
 all_calls (m ∷ cs) h = (one_call m.call m.pair h.0, all_calls cs h.1)
 
-pub law_calls : (hosts : List Host) → HaveAddresses hosts → (x : Moment) (moments : List Moment) → mail.IsRun hosts (crossings_of (x ∷ moments)) → IsTimeline hosts (x ∷ moments) → (a b : Host) → MayCalls (calls_by a b x moments)
-law_calls hosts addresses x moments run time a b = all_calls (calls_by a b x moments) (may_calls hosts addresses x moments run time a b)
+pub law_calls : (hosts : Network) → HaveAddresses hosts.all → (x : Moment) (moments : List Moment) → mail.IsRun hosts.all (crossings_of (x ∷ moments)) → Happened hosts (x ∷ moments) → (a b : Host) → AreOurs hosts a b → MayCalls (calls_by a b x moments)
+law_calls hosts addresses x moments run time a b ours =
+    all_calls (calls_by a b x moments) (may_calls hosts addresses x moments run time a b ours)

@@ -1,5 +1,7 @@
 -- The lives of a host's book with one peer are carried by its calls at all lawful moments, if they are from each moment to the next.
 use Rattle.world_keeps_streams.proofs.Common.{◌≡◌, ℕ, Bool, true, false, List, [], ◌∷◌, refl, sym, Host, ends_now, pair_with, HaveAddresses, Moment, event_in, events_of, program, IsTimeline, crossings_of, keeps, mail_below, own_calls}
+use Rattle.reset_law.specs.Network.{all_ours}
+use Rattle.net_sim.proofs.lemmas.AllOurs.{happened}
 use Rattle.interface.specs.Mailboxes as mail
 use Rattle.world_keeps_streams.proofs.Carried.Calls.{Carries, carry_none}
 use Rattle.world_keeps_streams.proofs.Carried.Moments.{dropped_next}
@@ -9,7 +11,7 @@ module _ (number : ℕ → ℕ → ℕ → ℕ) (hosts : List Host) (addresses :
   -- a host that drops its ends has none
   pub dropped_none : (x : Moment) (ms : List Moment) → mail.IsRun hosts (crossings_of (x ∷ ms)) → IsTimeline hosts (x ∷ ms) → keeps a b (event_in x) (events_of ms) ≡ false → (pair_with b (program a (x ∷ ms)).peers).entries ≡ []
   dropped_none x ms run time off =
-      let c : Chained a b (x ∷ ms) = chain hosts addresses (x ∷ ms) run time a b in
+      let c : Chained a b (x ∷ ms) = chain (all_ours hosts) addresses (x ∷ ms) run (happened hosts (x ∷ ms) time) a b (refl, refl) in
       let last : ends_now b (own_calls a b (x ∷ ms)) ≡ (pair_with b (program a (x ∷ ms)).peers).entries = c.1 in
       sym (rw off at last)
 

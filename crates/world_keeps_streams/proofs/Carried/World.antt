@@ -1,5 +1,7 @@
 -- The lives of a host's book with each peer are carried by its calls, at all lawful moments of a world.
 use Rattle.world_keeps_streams.proofs.Common.{◌≡◌, ℕ, ◌==◌, ◌&&◌, Bool, true, false, if◌then◌else◌, List, [], ◌∷◌, Option, Some, refl, ap, sym, subst, Host, same_host, HostMessage, same_host-true, Parcel, Listener, AreAllowed, IsTelling, numbered, numbered_tells, turn_of, pair_with, next_in, Peer, HaveAddresses, Asked, Crossed, IsNext, Moment, event_in, events_of, places, program, IsTimeline, crossings_of, coupled, clash, keeps, answer_calls, calls_by, message_calls, next_calls, own_calls, parcel_calls, request_calls, numbered_by_peer}
+use Rattle.reset_law.specs.Network.{all_ours}
+use Rattle.net_sim.proofs.lemmas.AllOurs.{happened}
 use Rattle.interface.specs.Mailboxes as mail
 use Rattle.interface.specs.declared.crossing.Crossing.TheVariants as crossing
 use Rattle.host_keeps_streams.specs.Histories as calls
@@ -74,10 +76,10 @@ module _ (number : ℕ → ℕ → ℕ → ℕ) (tells : IsTelling number) (host
 module _ (hosts : List Host) (addresses : HaveAddresses hosts) (a b : Host) where
   allowed_turned : (ms : List Moment) → mail.IsRun hosts (crossings_of ms) → IsTimeline hosts ms → (link : ℕ) → (link == 0) ≡ false → AreAllowed numbered_by_peer b link (own_calls a b ms)
   allowed_turned ms run time link off =
-      may.allowed numbered_by_peer link hosts addresses a b (λ ns r t. (joined link off hosts addresses b a ns r t).allowed_b) (λ x ns r t. may_calls hosts addresses x ns r t a b) ms run time
+      may.allowed numbered_by_peer link (all_ours hosts) addresses a b (refl, refl) (λ ns r t. (joined link off (all_ours hosts) addresses b a (refl, refl) ns r t).allowed_b) (λ x ns r t. may_calls (all_ours hosts) addresses x ns r t a b (refl, refl)) ms run (happened hosts ms time)
 
   pub carries_numbered : (ms : List Moment) → mail.IsRun hosts (crossings_of ms) → IsTimeline hosts ms → Carries numbered a b ms
-  carries_numbered ms run time = carries numbered numbered_tells hosts addresses a b (λ ns r t link off. all_allowed hosts addresses link off a b ns r t) ms run time
+  carries_numbered ms run time = carries numbered numbered_tells hosts addresses a b (λ ns r t link off. all_allowed (all_ours hosts) addresses link off a b (refl, refl) ns r (happened hosts ns t)) ms run time
 
   pub carries_turned : (ms : List Moment) → mail.IsRun hosts (crossings_of ms) → IsTimeline hosts ms → Carries numbered_by_peer a b ms
   carries_turned ms run time = carries numbered_by_peer turned_tells hosts addresses a b allowed_turned ms run time

@@ -39,8 +39,9 @@ use Rattle.world_keeps_streams.proofs.Ends.Ties.{entry_is}
 use Rattle.world_keeps_streams.proofs.Lives.Fates.{beside_of, beside_over}
 use Rattle.world_keeps_streams.proofs.Lives.Lists.{Grown, IsOf, Named, contains, grown, is_of, named_itself, of_drop, of_left, of_map, of_parts}
 use Rattle.world_keeps_streams.proofs.Requests.Names.{request_grows}
-use Rattle.world_keeps_streams.proofs.Requests.Sides.{Heard, Lawful, Own, lives_in}
+use Rattle.world_keeps_streams.proofs.Requests.Sides.{Heard, Lawful, Own, lives_in, lawful_among}
 use Rattle.interface.proofs.lemmas.{unlike}
+use Rattle.reset_law.specs.Network.{all_ours}
 
 -- ---- in the law of streams: a receiver that hasn't closed first has taken all that came
 
@@ -150,8 +151,7 @@ module _ (hosts : List Host) (ms : List Moment) (l : Lawful hosts ms) where
         goes = goes;
         end = f.end;
         closed = ap (λ (e : End). e.taken)
-            (sym (entry_is hosts ms l x.host x.peer x.socket x.foreign f.end.end (closes.at_it hosts ms l x f).0
-            (closes.own hosts ms l x f) f.end.foreign).0) ∙ taken;
+            (sym (entry_is (all_ours hosts) ms (lawful_among hosts ms l) x.host x.peer (refl, refl) x.socket x.foreign f.end.end (closes.at_it hosts ms l x f).0 (closes.own hosts ms l x f) f.end.foreign).0) ∙ taken;
         link = f.link;
         linked = f.linked;
         unclosed = λ h.

@@ -1,6 +1,5 @@
 -- What a message that a host takes of its peer is for a life.
-use Rattle.world_keeps_streams.proofs.Common.{◌≡◌, inl, inr, ℕ, ◌==◌, ◌&&◌, Bool, true, false, if◌then◌else◌, List, [], ◌∷◌, refl, ap, sym, subst, ◌∙◌, Host, same_host, HostMessage, same_host-refl, Legal, Order, orders_of, data_taken, is_sent, if_ready, message_taken, orders_taken, reply_notices, Entry, Notice, is_ready, Phase, End, HasEnd, at, AreJoint, with_openings, AllFit, marks_in, eqb-sym, plain, Message, after_turn, turn_of, pair_with, AllPlain, IsApart, Crossed, Moment, places, program, crossings_of, new_life, notices_by, Coupled, program_own, Course, each, heard, TakesFreeAt, origin_in, AText, AllBare, AllTied, AnRrp, AnRst, AreOrigins, Sort, all_bare, all_tied, are_origins, plain_joint, programs_ranged, served_in, sort_of, takes}
-use Rattle.reset_law.specs.Network.{all_ours}
+use Rattle.world_keeps_streams.proofs.Common.{◌≡◌, inl, inr, ℕ, ◌==◌, ◌&&◌, Bool, true, false, if◌then◌else◌, List, [], ◌∷◌, refl, ap, sym, subst, ◌∙◌, Host, same_host, HostMessage, same_host-refl, Legal, Order, orders_of, data_taken, is_sent, if_ready, message_taken, orders_taken, reply_notices, Entry, Notice, is_ready, Phase, End, HasEnd, at, AreJoint, with_openings, AllFit, marks_in, eqb-sym, plain, Message, after_turn, turn_of, pair_with, AllPlain, IsApart, Crossed, Moment, places, program, crossings_of, new_life, notices_by, Coupled, program_own, Course, each, heard, TakesFreeAt, origin_in, AText, AllBare, AllTied, AnRrp, AnRst, AreOrigins, Sort, all_bare, all_tied, are_origins, plain_joint, programs_ranged, sort_of, takes}
 use Rattle.interface.specs.declared.crossing.Crossing.TheVariants as crossing
 use Rattle.interface.specs.declared.crossing.Inbound.TheVariants as inbound
 use Rattle.host_pairs.specs.Entries.{is_over}
@@ -11,7 +10,6 @@ use Rattle.host_keeps_pairing.specs.Words.{all_taken}
 use Rattle.host_keeps_pairing.proofs.lemmas.{data_told, idle_other, rst_other, message_data, message_hears, message_idle, message_replies, message_resets, message_tells}
 use Rattle.sockets.specs.Accepting.{accepted}
 use Rattle.promise.specs.declared.life.Life.{Life}
-use Rattle.world_keeps_streams.proofs.Books.Run.{below}
 use Rattle.world_keeps_streams.proofs.Calls.MayHear.{fits_all}
 use Rattle.world_keeps_streams.proofs.Calls.MayTurns.{Fits}
 use Rattle.world_keeps_streams.proofs.Ends.Courses.{course_in}
@@ -22,24 +20,30 @@ use Rattle.world_keeps_streams.proofs.Ends.Owes.{when_on}
 use Rattle.world_keeps_streams.proofs.Ends.Ties.{end_in, fits_here, has_now, itself, law_end, once}
 use Rattle.world_keeps_streams.proofs.Lives.Fates.{TellsOpening, TellsReset}
 use Rattle.world_keeps_streams.proofs.Lives.LeavesEnds.{quiet_tells, reply_quiet, reset_quiet}
-use Rattle.world_keeps_streams.proofs.Requests.Sides.{Lawful, coupled_in}
+use Rattle.world_keeps_streams.proofs.Requests.Sides.{LawfulAmong, below_among, coupled_among}
+use Rattle.world_keeps_pairing.proofs.lemmas as served
 use Rattle.world_keeps_streams.proofs.Ends.Kinds.{Kind, ItDrops, ItHears, ItIdles, ItStays, among_none, kept_ends, kept_resets, off_any, off_over, off_sent, off_taken, openings_some, pace, spare_any, spare_sent, spare_taken}
+use Rattle.reset_law.specs.Network.{AreOurs, Network}
 
-module _ (hosts : List Host) (m : HostMessage) (ms : List Moment) (l : Lawful hosts (Crossed (crossing.In m) ∷ ms)) (socket foreign own partner : ℕ) where
+module _ (hosts : Network) (m : HostMessage) (ms : List Moment) (l : LawfulAmong hosts (Crossed (crossing.In m) ∷ ms))
+    (ours : AreOurs hosts m.flow.destination m.flow.source) (socket foreign own partner : ℕ) where
   abbrev it : Life
   it = new_life m.flow.destination socket m.flow.source foreign own partner
 
-  lower_in : Lawful hosts ms
-  lower_in = below hosts (Crossed (crossing.In m)) ms l
+  lower_in : LawfulAmong hosts ms
+  lower_in = below_among hosts (Crossed (crossing.In m)) ms l
 
-  c : Coupled (all_ours hosts) (Crossed (crossing.In m) ∷ ms)
-  c = coupled_in hosts (Crossed (crossing.In m) ∷ ms) l
+  back : AreOurs hosts m.flow.source m.flow.destination
+  back = (ours.1, ours.0)
+
+  c : Coupled hosts (Crossed (crossing.In m) ∷ ms)
+  c = coupled_among hosts (Crossed (crossing.In m) ∷ ms) l
 
   mine : same_host (program m.flow.destination ms).own m.flow.destination ≡ true
   mine = ap (λ (h : Host). same_host h m.flow.destination) (program_own m.flow.destination ms) ∙ same_host-refl m.flow.destination
 
   has_in : HasEnd itself socket foreign (pair_with m.flow.source (program m.flow.destination ms).peers) (law_end m.flow.destination m.flow.source socket foreign ms)
-  has_in = has_now hosts ms lower_in m.flow.destination m.flow.source socket foreign
+  has_in = has_now hosts ms lower_in m.flow.destination m.flow.source ours socket foreign
 
   in_ends : (x : End) → HasEnd itself socket foreign (pair_with m.flow.source (accepted (program m.flow.destination ms) (inbound.Message m) (places ms)).0.peers) x → law_end m.flow.destination m.flow.source socket foreign (Crossed (crossing.In m) ∷ ms) ≡ x
   in_ends x h =
@@ -81,28 +85,28 @@ module _ (hosts : List Host) (m : HostMessage) (ms : List Moment) (l : Lawful ho
   kept_data : (m.flow.link.0 == 0) ≡ false → AllKept ⊥ socket foreign (notices_by (Crossed (crossing.In m)) ms)
   kept_data away_from =
       subst (λ (ns : List Notice). AllKept ⊥ socket foreign ns) (sym (notes_by false away_from))
-      (turn_data ⊥ m.flow.source socket foreign (places ms) is_over test_over m.flow.link.0 m.text (turn_of (program m.flow.destination ms) m.flow.source) (record { ends = off_over it hosts ms lower_in; told = tt })).told
+      (turn_data ⊥ m.flow.source socket foreign (places ms) is_over test_over m.flow.link.0 m.text (turn_of (program m.flow.destination ms) m.flow.source) (record { ends = off_over it hosts ours ms lower_in; told = tt })).told
 
   sources : AreOrigins (origin_in (crossings_of (Crossed (crossing.In m) ∷ ms))) (Crossed (crossing.In m) ∷ ms)
   sources = are_origins 0 (crossings_of (Crossed (crossing.In m) ∷ ms)) [] (Crossed (crossing.In m) ∷ ms) refl
 
-  tied : AllTied (all_ours hosts) (origin_in (crossings_of (Crossed (crossing.In m) ∷ ms))) ms
-  tied = all_tied (all_ours hosts) (origin_in (crossings_of (Crossed (crossing.In m) ∷ ms))) ms sources.1 c.story.1 c.run.2 (served_in hosts ms lower_in.2)
+  tied : AllTied hosts (origin_in (crossings_of (Crossed (crossing.In m) ∷ ms))) ms
+  tied = all_tied hosts (origin_in (crossings_of (Crossed (crossing.In m) ∷ ms))) ms sources.1 c.story.1 c.run.2 (served.served_in hosts ms lower_in.2)
 
-  next_tied : AllTied (all_ours hosts) (origin_in (crossings_of (Crossed (crossing.In m) ∷ ms))) (Crossed (crossing.In m) ∷ ms)
-  next_tied = all_tied (all_ours hosts) (origin_in (crossings_of (Crossed (crossing.In m) ∷ ms))) (Crossed (crossing.In m) ∷ ms) sources c.story c.run (served_in hosts (Crossed (crossing.In m) ∷ ms) l.2)
+  next_tied : AllTied hosts (origin_in (crossings_of (Crossed (crossing.In m) ∷ ms))) (Crossed (crossing.In m) ∷ ms)
+  next_tied = all_tied hosts (origin_in (crossings_of (Crossed (crossing.In m) ∷ ms))) (Crossed (crossing.In m) ∷ ms) sources c.story c.run (served.served_in hosts (Crossed (crossing.In m) ∷ ms) l.2)
 
-  bare : AllBare (all_ours hosts) (origin_in (crossings_of (Crossed (crossing.In m) ∷ ms))) ms
-  bare = all_bare (all_ours hosts) (origin_in (crossings_of (Crossed (crossing.In m) ∷ ms))) ms sources.1 c.story.1 c.run.2 lower_in.1 (served_in hosts ms lower_in.2)
+  bare : AllBare hosts (origin_in (crossings_of (Crossed (crossing.In m) ∷ ms))) ms
+  bare = all_bare hosts (origin_in (crossings_of (Crossed (crossing.In m) ∷ ms))) ms sources.1 c.story.1 c.run.2 lower_in.1 (served.served_in hosts ms lower_in.2)
 
-  free : TakesFreeAt (all_ours hosts) (Crossed (crossing.In m)) ms
-  free = takes (all_ours hosts) (origin_in (crossings_of (Crossed (crossing.In m) ∷ ms))) (Crossed (crossing.In m)) ms c.story c.run (programs_ranged (all_ours hosts) ms (served_in hosts ms lower_in.2)) sources.0 tied
+  free : TakesFreeAt hosts (Crossed (crossing.In m)) ms
+  free = takes hosts (origin_in (crossings_of (Crossed (crossing.In m) ∷ ms))) (Crossed (crossing.In m)) ms c.story c.run (programs_ranged hosts ms (served.served_in hosts ms lower_in.2)) sources.0 tied
 
   fit_text : (m.flow.link.0 == 0) ≡ true → is_ready (pair_with m.flow.source (program m.flow.destination ms).peers).phase ≡ true → AreJoint (orders_of m.text)
       → AllFit (marks_in (places ms) foreign socket (orders_of m.text)) (law_end m.flow.destination m.flow.source socket foreign ms)
   fit_text zero ready joint = fits_here (origin_in (crossings_of (Crossed (crossing.In m) ∷ ms)) m.flow.destination m.flow.source) socket foreign (pair_with m.flow.source (program m.flow.destination ms).peers) f.0 (origin_in (crossings_of (Crossed (crossing.In m) ∷ ms)) m.flow.destination m.flow.source (places ms)) (places ms) (orders_of m.text) f.1 f.2 where
     f : Fits (origin_in (crossings_of (Crossed (crossing.In m) ∷ ms)) m.flow.destination m.flow.source) m.flow.source (places ms) (orders_of m.text) (turn_of (program m.flow.destination ms) m.flow.source) socket foreign
-    f = fits_all hosts (origin_in (crossings_of (Crossed (crossing.In m) ∷ ms))) m ms l.1 c.story c.run sources tied next_tied bare free zero ready joint socket foreign
+    f = fits_all hosts (origin_in (crossings_of (Crossed (crossing.In m) ∷ ms))) m ms back l.1 c.story c.run sources tied next_tied bare free zero ready joint socket foreign
 
   text_kind : (zero : (m.flow.link.0 == 0) ≡ true) → AllPlain (orders_of m.text) → (v : Bool) → is_ready (pair_with m.flow.source (program m.flow.destination ms).peers).phase ≡ v → Kind it (Crossed (crossing.In m)) ms
   text_kind zero plain false idle = ItIdles (record {
@@ -120,14 +124,14 @@ module _ (hosts : List Host) (m : HostMessage) (ms : List Moment) (l : Lawful ho
     early =
         ap (λ (j : Course). j.early) (course_on (orders_of m.text) zero refl)
         ∙ all_heard_early it (places ms) (orders_of m.text) (course_in it ms) plain;
-    once = in_once hosts m ms l zero foreign socket (places ms);
+    once = in_once hosts m ms l back zero foreign socket (places ms);
     ends = in_ends (all_taken (marks_in (places ms) foreign socket (orders_of m.text)) (law_end m.flow.destination m.flow.source socket foreign ms))
-        (message_hears itself socket foreign (program m.flow.destination ms) m (places ms) (law_end m.flow.destination m.flow.source socket foreign ms) mine zero ready joint (free (refl, refl) ready zero) (fit_text zero ready joint) has_in);
+        (message_hears itself socket foreign (program m.flow.destination ms) m (places ms) (law_end m.flow.destination m.flow.source socket foreign ms) mine zero ready joint (free back ready zero) (fit_text zero ready joint) has_in);
     fit = fit_text zero ready joint;
-    opens = message_tells itself socket foreign (program m.flow.destination ms) m (places ms) (law_end m.flow.destination m.flow.source socket foreign ms) [] [] mine zero ready joint (free (refl, refl) ready zero) (fit_text zero ready joint) has_in tt;
-    unreset = λ e t. kept_resets (Unit {0}) it (notices_by (Crossed (crossing.In m)) ms) (kept_text (Unit {0}) (λ x. false) test_any zero joint (spare_any it m.flow.source (places ms) (orders_of m.text)) (off_any it hosts ms lower_in)) t;
-    unsent = λ u e t. kept_ends it (notices_by (Crossed (crossing.In m)) ms) (kept_text ⊥ (λ x. is_sent x.closing) test_sent zero joint (spare_sent it m.flow.source (places ms) (orders_of m.text)) (off_sent it hosts ms lower_in u)) t;
-    unheard = λ u none e t. kept_ends it (notices_by (Crossed (crossing.In m)) ms) (kept_text ⊥ (λ x. x.partner_closed) test_taken zero joint (spare_taken it m.flow.source (places ms) (orders_of m.text) none) (off_taken it hosts ms lower_in u)) t;
+    opens = message_tells itself socket foreign (program m.flow.destination ms) m (places ms) (law_end m.flow.destination m.flow.source socket foreign ms) [] [] mine zero ready joint (free back ready zero) (fit_text zero ready joint) has_in tt;
+    unreset = λ e t. kept_resets (Unit {0}) it (notices_by (Crossed (crossing.In m)) ms) (kept_text (Unit {0}) (λ x. false) test_any zero joint (spare_any it m.flow.source (places ms) (orders_of m.text)) (off_any it hosts ours ms lower_in)) t;
+    unsent = λ u e t. kept_ends it (notices_by (Crossed (crossing.In m)) ms) (kept_text ⊥ (λ x. is_sent x.closing) test_sent zero joint (spare_sent it m.flow.source (places ms) (orders_of m.text)) (off_sent it hosts ours ms lower_in u)) t;
+    unheard = λ u none e t. kept_ends it (notices_by (Crossed (crossing.In m)) ms) (kept_text ⊥ (λ x. x.partner_closed) test_taken zero joint (spare_taken it m.flow.source (places ms) (orders_of m.text) none) (off_taken it hosts ours ms lower_in u)) t;
     up = λ d. d;
     next = refl;
   }) where
@@ -168,7 +172,7 @@ module _ (hosts : List Host) (m : HostMessage) (ms : List Moment) (l : Lawful ho
   }) where
     told : notices_by (Crossed (crossing.In m)) ms ≡ reply_notices m.flow.source (pair_with m.flow.source (program m.flow.destination ms).peers).phase
     told = notes_by true zero ∙ ap (λ (os : List Order). (orders_taken m.flow.source (places ms) os (turn_of (program m.flow.destination ms) m.flow.source)).notices) orders
-  sort_kind (AText is) true on = text_kind on (subst (λ (t : Message). IsApart m.flow.link.0 m.text t) is (c.story.0 (refl, refl)) on) (is_ready (pair_with m.flow.source (program m.flow.destination ms).peers).phase) refl
+  sort_kind (AText is) true on = text_kind on (subst (λ (t : Message). IsApart m.flow.link.0 m.text t) is (c.story.0 back) on) (is_ready (pair_with m.flow.source (program m.flow.destination ms).peers).phase) refl
 
   pub in_here : Kind it (Crossed (crossing.In m)) ms
   in_here = sort_kind (sort_of m.flow.link.0 m.text) (m.flow.link.0 == 0) refl

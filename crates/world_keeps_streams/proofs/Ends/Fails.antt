@@ -1,6 +1,5 @@
 -- What an answer, a stop, a start or a request of its user is for a life.
 use Rattle.world_keeps_streams.proofs.Common.{◌≡◌, inl, inr, ℕ, ◌==◌, ◌&&◌, ◌||◌, not, Bool, true, false, if◌then◌else◌, List, [], ◌∷◌, ◌++◌, Some, None, refl, ap, sym, subst, ◌∙◌, Host, same_host, Flow, Answer, same_host-refl, same_host-true, is_busy, TurnState, answered_turn, failed_by, freed, is_gone, settled_turn, Notice, failed_phase, is_ready, rfnm_phase, Phase, End, HasEnd, at, Hear, when, pair, pair_moved, after_turn, turn_of, NcpState, opening_state, pair_with, refusal, served, Request, Agrees, Asked, Crossed, Moment, events_of, places, program, new_life, notices_by, story_agrees, Course, Dropped, Stopped, cut, ended_by, fails}
-use Rattle.reset_law.specs.Network.{all_ours}
 use Rattle.interface.specs.declared.crossing.Answer.TheVariants as answer
 use Rattle.interface.specs.declared.crossing.Crossing.TheVariants as crossing
 use Rattle.interface.specs.declared.crossing.Inbound.TheVariants as inbound
@@ -15,15 +14,15 @@ use Rattle.sockets.specs.Accepting.{accepted}
 use Rattle.sockets.specs.Requests.{served_notices}
 use Rattle.sockets.specs.declared.request.Request.TheVariants as request
 use Rattle.promise.specs.declared.life.Life.{Life}
-use Rattle.world_keeps_streams.proofs.Books.Run.{below}
 use Rattle.world_keeps_streams.proofs.Ends.Courses.{contacted_if, course_in}
 use Rattle.world_keeps_streams.proofs.Ends.Owes.{owes_is}
 use Rattle.world_keeps_streams.proofs.Ends.Ties.{end_in, has_now, itself, law_end, once}
 use Rattle.world_keeps_streams.proofs.Lives.Fates.{TellsEnd, TellsOpening, TellsReset}
 use Rattle.world_keeps_streams.proofs.Lives.LeavesEnds.{answer_quiet, quiet_tells, request_quiet}
-use Rattle.world_keeps_streams.proofs.Requests.Sides.{Lawful, coupled_in}
+use Rattle.world_keeps_streams.proofs.Requests.Sides.{LawfulAmong, below_among, coupled_among}
 use Rattle.world_keeps_streams.proofs.Ends.Kinds.{Kind, ItDrops, ItIdles, ItStays, ItStops, away, end_of, openings_some, pace}
 use Rattle.reset_law.proofs.lemmas.{ready_phase}
+use Rattle.reset_law.specs.Network.{AreOurs, Network}
 
 if_ready_end : (v : Bool) (e : End) → v ≡ true → (if v then e else nothing) ≡ e
 if_ready_end true e t = refl
@@ -37,12 +36,12 @@ if_nothing : (v : Bool) → (if v then nothing else nothing) ≡ nothing
 if_nothing true = refl
 if_nothing false = refl
 
-module _ (hosts : List Host) (kind : Answer) (f : Flow) (ms : List Moment) (l : Lawful hosts (Crossed (crossing.Answer kind f) ∷ ms)) (socket foreign own partner : ℕ) where
-  lower_told : Lawful hosts ms
-  lower_told = below hosts (Crossed (crossing.Answer kind f)) ms l
+module _ (hosts : Network) (kind : Answer) (f : Flow) (ms : List Moment) (l : LawfulAmong hosts (Crossed (crossing.Answer kind f) ∷ ms)) (ours : AreOurs hosts f.source f.destination) (socket foreign own partner : ℕ) where
+  lower_told : LawfulAmong hosts ms
+  lower_told = below_among hosts (Crossed (crossing.Answer kind f)) ms l
 
   has_told : HasEnd itself socket foreign (pair_with f.destination (program f.source ms).peers) (law_end f.source f.destination socket foreign ms)
-  has_told = has_now hosts ms lower_told f.source f.destination socket foreign
+  has_told = has_now hosts ms lower_told f.source f.destination ours socket foreign
 
   told_ends : law_end f.source f.destination socket foreign (Crossed (crossing.Answer kind f) ∷ ms)
       ≡ kept_in (pair_with f.destination (accepted (program f.source ms) (inbound.Answer kind f) (places ms)).0.peers) (law_end f.source f.destination socket foreign ms)
@@ -55,13 +54,13 @@ module _ (hosts : List Host) (kind : Answer) (f : Flow) (ms : List Moment) (l : 
   phase_is : (pair_moved (Some (Hear f.link.0 kind)) (pair f.source f.destination (events_of ms))).phase ≡ (pair_with f.destination (accepted (program f.source ms) (inbound.Answer kind f) (places ms)).0.peers).phase
   phase_is =
       ap (λ (v : Bool). (pair_moved (when v (Hear f.link.0 kind)) (pair f.source f.destination (events_of ms))).phase) (sym both_refl)
-      ∙ (story_agrees (all_ours hosts) (Crossed (crossing.Answer kind f) ∷ ms) f.source f.destination (refl, refl) (coupled_in hosts (Crossed (crossing.Answer kind f) ∷ ms) l).story).phase
+      ∙ (story_agrees hosts (Crossed (crossing.Answer kind f) ∷ ms) f.source f.destination ours (coupled_among hosts (Crossed (crossing.Answer kind f) ∷ ms) l).story).phase
       ∙ ap (λ (v : Bool). (pair_with f.destination (if v then (accepted (program f.source ms) (inbound.Answer kind f) (places ms)).0 else program f.source ms).peers).phase) (same_host-refl f.source) where
         both_refl : (same_host f.source f.source && same_host f.destination f.destination) ≡ true
         both_refl = let a : same_host f.source f.source ≡ true = same_host-refl f.source in let b : same_host f.destination f.destination ≡ true = same_host-refl f.destination in rw (a, b) refl
 
   was : Agrees (pair_with f.destination (program f.source ms).peers) (pair f.source f.destination (events_of ms))
-  was = story_agrees (all_ours hosts) ms f.source f.destination (refl, refl) (coupled_in hosts ms lower_told).story
+  was = story_agrees hosts ms f.source f.destination ours (coupled_among hosts ms lower_told).story
 
 -- notices of an answer that leaves the pair ready: none
 rfnm_notices : (s : NcpState) (f : Flow) (stamp : ℕ) → (accepted s (inbound.Answer answer.Rfnm f) stamp).1 ≡ []
@@ -94,7 +93,8 @@ rfnm_ready link = by (link == 0) where
   by true = refl
   by false = refl
 
-module _ (hosts : List Host) (f : Flow) (ms : List Moment) (socket foreign own partner : ℕ) where
+module _ (hosts : Network) (f : Flow) (ms : List Moment) (ours : AreOurs hosts f.source f.destination)
+    (socket foreign own partner : ℕ) where
   abbrev that : Life
   that = new_life f.source socket f.destination foreign own partner
 
@@ -123,53 +123,54 @@ module _ (hosts : List Host) (f : Flow) (ms : List Moment) (socket foreign own p
     up = λ d. d;
   })
 
-  failed_kind : (kind : Answer) (l : Lawful hosts (Crossed (crossing.Answer kind f) ∷ ms)) → fails kind ≡ true → (pair_moved (Some (Hear f.link.0 kind)) (pair f.source f.destination (events_of ms))).phase ≡ failed_phase (pair f.source f.destination (events_of ms)).phase (pair f.source f.destination (events_of ms)).owed
+  failed_kind : (kind : Answer) (l : LawfulAmong hosts (Crossed (crossing.Answer kind f) ∷ ms)) → fails kind ≡ true → (pair_moved (Some (Hear f.link.0 kind)) (pair f.source f.destination (events_of ms))).phase ≡ failed_phase (pair f.source f.destination (events_of ms)).phase (pair f.source f.destination (events_of ms)).owed
       → is_ready (pair_with f.destination (program f.source ms).peers).phase ≡ true → (v : Bool) → (course_in that ms).owes ≡ v → Kind that (Crossed (crossing.Answer kind f)) ms
   failed_kind kind l fail phases ready v owes = by v owes where
     before : Agrees (pair_with f.destination (program f.source ms).peers) (pair f.source f.destination (events_of ms))
-    before = was hosts kind f ms l socket foreign own partner
+    before = was hosts kind f ms l ours socket foreign own partner
 
     law_ready : (pair f.source f.destination (events_of ms)).phase ≡ phase.Ready
     law_ready = before.phase ∙ ready_phase (pair_with f.destination (program f.source ms).peers).phase ready
 
     owed_is : (pair_with f.destination (program f.source ms).peers).owed ≡ (course_in that ms).owes
-    owed_is = sym (owes_is hosts that ms (lower_told hosts kind f ms l socket foreign own partner))
+    owed_is = sym (owes_is hosts that ours ms (lower_told hosts kind f ms l ours socket foreign own partner))
 
     phase_then : (w : Bool) → (course_in that ms).owes ≡ w → (pair_with f.destination (accepted (program f.source ms) (inbound.Answer kind f) (places ms)).0.peers).phase ≡ failed_phase phase.Ready w
     phase_then w e =
-        sym (phase_is hosts kind f ms l socket foreign own partner) ∙ phases
+        sym (phase_is hosts kind f ms l ours socket foreign own partner) ∙ phases
         ∙ ap (λ (ph : Phase). failed_phase ph (pair f.source f.destination (events_of ms)).owed) law_ready ∙ ap (failed_phase phase.Ready) (before.owed ∙ owed_is ∙ e)
 
     by : (w : Bool) → (course_in that ms).owes ≡ w → Kind that (Crossed (crossing.Answer kind f)) ms
     by true e =
-        stays_told kind (told_ends hosts kind f ms l socket foreign own partner
+        stays_told kind (told_ends hosts kind f ms l ours socket foreign own partner
         ∙ if_ready_end _ (end_of that ms) (ap is_ready (phase_then true e))) (ap pace (cut_when kind true e fail))
         (owed_notices (program f.source ms) kind f (places ms) fail (ap (λ (ph : Phase). is_gone ph || not (pair_with f.destination (program f.source ms).peers).owed) (ready_phase (pair_with f.destination (program f.source ms).peers).phase ready) ∙ ap not (owed_is ∙ e)))
     by false e = ItDrops (record {
       stage = ap (λ (j : Course). j.stage) (cut_when kind false e fail);
-      ends = told_ends hosts kind f ms l socket foreign own partner ∙ if_unready_end _ (end_of that ms) (ap is_ready (phase_then false e));
+      ends = told_ends hosts kind f ms l ours socket foreign own partner ∙ if_unready_end _ (end_of that ms) (ap is_ready (phase_then false e));
       unended = λ h t. quiet_tells that (notices_by (Crossed (crossing.Answer kind f)) ms) (answer_quiet (program f.source ms) (places ms) kind f) t;
       unopened = λ h t. openings_some that (notices_by (Crossed (crossing.Answer kind f)) ms) [] t (answer_other itself socket foreign (program f.source ms) kind f (places ms) []);
       up = λ d. d;
     })
 
-  ready_kind : (kind : Answer) (l : Lawful hosts (Crossed (crossing.Answer kind f) ∷ ms)) → is_ready (pair_with f.destination (program f.source ms).peers).phase ≡ true → Kind that (Crossed (crossing.Answer kind f)) ms
+  ready_kind : (kind : Answer) (l : LawfulAmong hosts (Crossed (crossing.Answer kind f) ∷ ms)) → is_ready (pair_with f.destination (program f.source ms).peers).phase ≡ true → Kind that (Crossed (crossing.Answer kind f)) ms
   ready_kind answer.Rfnm l ready =
-      stays_told answer.Rfnm (told_ends hosts answer.Rfnm f ms l socket foreign own partner ∙ if_ready_end _ (end_of that ms) (ap is_ready (sym (phase_is hosts answer.Rfnm f ms l socket foreign own partner) ∙ ap (rfnm_phase f.link.0) law_ready) ∙ rfnm_ready f.link.0)) refl
+      stays_told answer.Rfnm (told_ends hosts answer.Rfnm f ms l ours socket foreign own partner ∙ if_ready_end _ (end_of that ms) (ap is_ready (sym (phase_is hosts answer.Rfnm f ms l ours socket foreign own partner) ∙ ap (rfnm_phase f.link.0) law_ready) ∙ rfnm_ready f.link.0)) refl
       (rfnm_notices (program f.source ms) f (places ms)) where
         law_ready : (pair f.source f.destination (events_of ms)).phase ≡ phase.Ready
-        law_ready = (was hosts answer.Rfnm f ms l socket foreign own partner).phase ∙ ready_phase (pair_with f.destination (program f.source ms).peers).phase ready
+        law_ready = (was hosts answer.Rfnm f ms l ours socket foreign own partner).phase ∙ ready_phase (pair_with f.destination (program f.source ms).peers).phase ready
   ready_kind kind l ready = failed_kind kind l refl refl ready (course_in that ms).owes refl
 
-  pub told_here : (kind : Answer) (l : Lawful hosts (Crossed (crossing.Answer kind f) ∷ ms)) → Kind that (Crossed (crossing.Answer kind f)) ms
+  pub told_here : (kind : Answer) (l : LawfulAmong hosts (Crossed (crossing.Answer kind f) ∷ ms))
+      → Kind that (Crossed (crossing.Answer kind f)) ms
   told_here kind l = by (is_ready (pair_with f.destination (program f.source ms).peers).phase) refl where
     none : is_ready (pair_with f.destination (program f.source ms).peers).phase ≡ false → end_of that ms ≡ nothing
-    none e = (has_told hosts kind f ms l socket foreign own partner).idle e
+    none e = (has_told hosts kind f ms l ours socket foreign own partner).idle e
 
     by : (v : Bool) → is_ready (pair_with f.destination (program f.source ms).peers).phase ≡ v → Kind that (Crossed (crossing.Answer kind f)) ms
     by true e = ready_kind kind l e
     by false e = ItIdles (record {
-      ends = told_ends hosts kind f ms l socket foreign own partner ∙ ap (λ (x : End). kept_in (pair_with f.destination (accepted (program f.source ms) (inbound.Answer kind f) (places ms)).0.peers) x) (none e) ∙ if_nothing _;
+      ends = told_ends hosts kind f ms l ours socket foreign own partner ∙ ap (λ (x : End). kept_in (pair_with f.destination (accepted (program f.source ms) (inbound.Answer kind f) (places ms)).0.peers) x) (none e) ∙ if_nothing _;
       idle = inl (none e);
       unopened = λ h t. openings_some that (notices_by (Crossed (crossing.Answer kind f)) ms) [] t (answer_other itself socket foreign (program f.source ms) kind f (places ms) []);
       up = λ d. d;
@@ -225,13 +226,14 @@ module _ (k : Life) where
     by true u = elim u [ inl e ↦ e | inr e ↦ e ]
     by false u = u
 
-  module _ (hosts : List Host) where
-    asked_ends : (g : Host) (r : Request) (ms : List Moment) (l : Lawful hosts (Asked g r ∷ ms)) → same_host k.host g ≡ true → end_of k (Asked g r ∷ ms) ≡ after_request k.peer r (end_of k ms)
+  module _ (hosts : Network) (ours : AreOurs hosts k.host k.peer) where
+    asked_ends : (g : Host) (r : Request) (ms : List Moment) (l : LawfulAmong hosts (Asked g r ∷ ms))
+        → same_host k.host g ≡ true → end_of k (Asked g r ∷ ms) ≡ after_request k.peer r (end_of k ms)
     asked_ends g r ms l e =
         ap (λ (v : Bool). end_in (at k.socket k.foreign (pair_with k.peer (if v then served (program k.host ms) r else program k.host ms).peers).entries)) e
         ∙ once k.socket k.foreign (pair_with k.peer (served (program k.host ms) r).peers) (after_request k.peer r (end_of k ms))
-        (request_keeps itself k.socket k.foreign (program k.host ms) r k.peer (end_of k ms) (subst (λ (h : Host). refusal (program h ms) r ≡ None) (sym (same_host-true k.host g e)) l.2.0.2)
-        (has_now hosts ms (below hosts (Asked g r) ms l) k.host k.peer k.socket k.foreign))
+        (request_keeps itself k.socket k.foreign (program k.host ms) r k.peer (end_of k ms) (subst (λ (h : Host). refusal (program h ms) r ≡ None) (sym (same_host-true k.host g e)) (l.2.0 (subst (λ (h : Host). hosts.strange h ≡ false) (same_host-true k.host g e) ours.0)).2)
+        (has_now hosts ms (below_among hosts (Asked g r) ms l) k.host k.peer ours k.socket k.foreign))
 
     asked_away : (g : Host) (r : Request) (ms : List Moment) → same_host k.host g ≡ false
         → pace (course_in k (Asked g r ∷ ms)) ≡ pace (course_in k ms)
@@ -239,7 +241,8 @@ module _ (k : Life) where
         ap (λ (v : Bool). pace (contacted_if (v && same_host k.peer peer) (places ms) (course_in k ms))) e
     asked_away g r ms e = refl
 
-    asked_on : (g : Host) (r : Request) (ms : List Moment) (l : Lawful hosts (Asked g r ∷ ms)) → same_host k.host g ≡ true → Kind k (Asked g r) ms
+    asked_on : (g : Host) (r : Request) (ms : List Moment) (l : LawfulAmong hosts (Asked g r ∷ ms))
+        → same_host k.host g ≡ true → Kind k (Asked g r) ms
     unfolding served_notices
     asked_on g (request.Contact peer) ms l e = by (same_host k.peer peer) refl where
       by : (v : Bool) → same_host k.peer peer ≡ v → Kind k (Asked g (request.Contact peer)) ms
@@ -269,7 +272,7 @@ module _ (k : Life) where
       up = λ d. d;
     })
 
-    pub asked_here : (g : Host) (r : Request) (ms : List Moment) (l : Lawful hosts (Asked g r ∷ ms)) → Kind k (Asked g r) ms
+    pub asked_here : (g : Host) (r : Request) (ms : List Moment) (l : LawfulAmong hosts (Asked g r ∷ ms)) → Kind k (Asked g r) ms
     asked_here g r ms l = by (same_host k.host g) refl where
       by : (v : Bool) → same_host k.host g ≡ v → Kind k (Asked g r) ms
       by true e = asked_on g r ms l e

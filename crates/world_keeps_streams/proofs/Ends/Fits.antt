@@ -28,9 +28,11 @@ use Rattle.world_keeps_streams.proofs.Ends.Unshut.{Unshut, is_shut, unshut_next}
 use Rattle.world_keeps_streams.proofs.Lives.Fates.{Came, How, IsBegun, IsCls, IsDown, Moved, TellsEnd, TellsOpening, TellsReset, beside_of, beside_over, came, ends_named, opening_named, resets_named, cls_over}
 use Rattle.world_keeps_streams.proofs.Lives.Lists.{Named, contains}
 use Rattle.world_keeps_streams.proofs.Lives.Opened.{contains_among, no_openings}
-use Rattle.world_keeps_streams.proofs.Requests.Sides.{Lawful, coupled_in}
+use Rattle.world_keeps_streams.proofs.Requests.Sides.{Lawful, coupled_in, LawfulAmong, below_among, lawful_among}
 use Rattle.world_keeps_streams.proofs.Books.Began.{sent_cls}
 use Rattle.world_keeps_lives.proofs.lemmas.{none_some}
+use Rattle.reset_law.specs.Network.{Network, all_ours}
+use Rattle.net_sim.proofs.lemmas.AllOurs.{happened}
 
 -- ---- stages and fates
 
@@ -146,7 +148,7 @@ module _ (k : Life) (y : Moment) (ms : List Moment) (f : Fate) where
   stops_now off unended unreset (inr (inr (inr b))) = b.0
 
   -- one that went, where its end is there as long as it continues
-  module _ (hosts : List Host) (kind : (z : Moment) (zs : List Moment) → Lawful hosts (z ∷ zs) → Kind k z zs) (l : Lawful hosts (y ∷ ms)) (was : IsGoing k (end_of k ms)) (is : is_over f ≡ false → IsGoing k (end_of k (y ∷ ms))) (stage : stage_of k ms ≡ Going (end_of k ms).gone (end_of k ms).taken)
+  module _ (hosts : Network) (kind : (z : Moment) (zs : List Moment) → LawfulAmong hosts (z ∷ zs) → Kind k z zs) (l : LawfulAmong hosts (y ∷ ms)) (was : IsGoing k (end_of k ms)) (is : is_over f ≡ false → IsGoing k (end_of k (y ∷ ms))) (stage : stage_of k ms ≡ Going (end_of k ms).gone (end_of k ms).taken)
       (becomes : Becomes) where
     gone_off : end_of k (y ∷ ms) ≡ nothing → is_over f ≡ false → ⊥
     gone_off none goes = none_some k.own_stamp (sym (ap (λ (e : End). e.asked) none) ∙ (is goes).asked)
@@ -177,7 +179,7 @@ module _ (k : Life) (y : Moment) (ms : List Moment) (f : Fate) where
           (stage_now ∙ on.stage ∙ ap (λ (e : End). Going e.gone e.taken) (sym s.ends))
       by (inr over) =
           let cls : IsCls f = closes_now (λ goes.
-          over.left (places ms) (asked_below k hosts kind ms (below hosts y ms l) k.own_stamp was.asked) (s.may (places ms) (omega arith)) (ap (λ (e : End). e.asked) (sym s.ends) ∙ (is goes).asked)) s.unreset s.up becomes in
+          over.left (places ms) (asked_below k hosts kind ms (below_among hosts y ms l) k.own_stamp was.asked) (s.may (places ms) (omega arith)) (ap (λ (e : End). e.asked) (sym s.ends) ∙ (is goes).asked)) s.unreset s.up becomes in
           fit_over k (y ∷ ms) (Over (Closed false) (places ms)) f (stage_now ∙ over.stage) (cls_over f cls) (cls_leaves false (places ms) f cls)
 
     hears : Hears k y ms → Fit k (y ∷ ms) f
@@ -217,10 +219,10 @@ module _ (k : Life) (y : Moment) (ms : List Moment) (f : Fate) where
       by (inr quiet) = absurd (gone_off s.ends (goes_on quiet.0 quiet.1 s.up becomes))
 
   -- one that begins
-  module _ (hosts : List Host) (kind : (z : Moment) (zs : List Moment) → Lawful hosts (z ∷ zs) → Kind k z zs) (l : Lawful hosts (y ∷ ms)) (clear : ((end_of k ms).gone ≡ false) × ((end_of k ms).taken ≡ false))
+  module _ (hosts : Network) (kind : (z : Moment) (zs : List Moment) → LawfulAmong hosts (z ∷ zs) → Kind k z zs) (l : LawfulAmong hosts (y ∷ ms)) (clear : ((end_of k ms).gone ≡ false) × ((end_of k ms).taken ≡ false))
       (is : is_over f ≡ false → IsGoing k (end_of k (y ∷ ms))) (host : host_in y ≡ k.host) (opens : TellsOpening k (notices_by y ms)) (becomes : Becomes) where
-    old : Lawful hosts ms
-    old = below hosts y ms l
+    old : LawfulAmong hosts ms
+    old = below_among hosts y ms l
 
     abbrev Begins : Type 0
     Begins =
@@ -399,7 +401,7 @@ module _ (hosts : List Host) where
   goes_now ms l x f i goes =
       let open_end : HasOpenEnd (program x.host ms) x =
       live hosts ms l.0 l.1 l.2 x (contains x (kept_in ms).book.lives (beside_of (kept_in ms).book.lives (kept_in ms).fates x f i)) (beside_over (kept_in ms).book.lives (kept_in ms).fates x f (kept_fated ms) i ∙ goes) in
-      let g : IsGoing x (end_of (key_of x) ms) = going hosts ms l x open_end in
+      let g : IsGoing x (end_of (key_of x) ms) = going (all_ours hosts) ms (lawful_among hosts ms l) x (refl, refl) open_end in
       record { asked = g.asked; partner = g.partner; live = g.live }
 
   -- before it begins no CLS of its end was taken, and none went out
@@ -408,11 +410,11 @@ module _ (hosts : List Host) where
     not_shut shut =
         let old : Lawful hosts ms = below hosts y ms l in
         no_openings x (notices_by y ms)
-        (unopened x.peer x.socket x.foreign hosts old.0 ms old.1 old.2 y (coupled_in hosts (y ∷ ms) l).story
+        (unopened x.peer x.socket x.foreign (all_ours hosts) old.0 ms old.1 (happened hosts ms old.2) y refl (coupled_in hosts (y ∷ ms) l).story
         (λ e there own foreign. shut e (contains_among (pair_with x.peer (program x.host ms).peers).entries e (subst (λ (h : Host). Contains (pair_with x.peer (program h ms).peers).entries e) host there)) own foreign)) opens
 
     ends_as : (e : Entry) → Among e (pair_with x.peer (program x.host ms).peers).entries → e.own ≡ x.socket → e.foreign ≡ x.foreign → end_of (key_of x) ms ≡ plain itself (standing e)
-    ends_as e there own foreign = (entry_is hosts ms (below hosts y ms l) x.host x.peer x.socket x.foreign e there own foreign).0
+    ends_as e there own foreign = (entry_is (all_ours hosts) ms (lawful_among hosts ms (below hosts y ms l)) x.host x.peer (refl, refl) x.socket x.foreign e there own foreign).0
 
     clear_before : ((end_of (key_of x) ms).gone ≡ false) × ((end_of (key_of x) ms).taken ≡ false)
     clear_before = (by_gone (end_of (key_of x) ms).gone refl, by_taken (end_of (key_of x) ms).taken refl) where
@@ -482,7 +484,7 @@ module _ (hosts : List Host) where
         own = eqb-true h.end.own x.socket (both h.end.mine (h.end.own == x.socket) there.1).1
 
         is : law_end x.host x.peer x.socket x.foreign ms ≡ plain itself (standing h.end)
-        is = (entry_is hosts ms l x.host x.peer x.socket x.foreign h.end there.0 own h.foreign).0
+        is = (entry_is (all_ours hosts) ms (lawful_among hosts ms l) x.host x.peer (refl, refl) x.socket x.foreign h.end there.0 own h.foreign).0
 
         gone_is : (end_of (key_of x) ms).gone ≡ is_sent h.end.closing
         gone_is = ap (λ (z : End). z.gone) is
@@ -529,9 +531,9 @@ module _ (hosts : List Host) where
       → IsBeside x f (kept_in (y ∷ ms)).book.lives (kept_in (y ∷ ms)).fates
       → IsBegun (host_in y) (notices_by y ms) x f → HasBegun y ms x f
   begun_now y ms l x f i b =
-      begins (key_of x) y ms f hosts (kind_here hosts x) l (clear_before y ms l x b.host b.opens)
+      begins (key_of x) y ms f (all_ours hosts) (kind_here (all_ours hosts) x (refl, refl)) (lawful_among hosts (y ∷ ms) l) (clear_before y ms l x b.host b.opens)
       (goes_now (y ∷ ms) l x f i) b.host (openings_named x (notices_by y ms) b.opens) (how_key y ms x f (inl b.how))
-      (kind_here hosts x y ms l)
+      (kind_here (all_ours hosts) x (refl, refl) y ms (lawful_among hosts (y ∷ ms) l))
 
   pub fits_now : (ms : List Moment) → Lawful hosts ms → (x : Life) (f : Fate)
       → IsBeside x f (kept_in ms).book.lives (kept_in ms).fates → IsFit (key_of x) ms f
@@ -565,17 +567,17 @@ module _ (hosts : List Host) where
           }
       of false goes = record {
         both =
-            step (key_of w) y ms f hosts (kind_here hosts w) l (goes_now ms old w g there goes)
+            step (key_of w) y ms f (all_ours hosts) (kind_here (all_ours hosts) w (refl, refl)) (lawful_among hosts (y ∷ ms) l) (goes_now ms old w g there goes)
             (λ on. subst (λ (k : Life). IsGoing k (end_of k (y ∷ ms))) (key_named w x m.named)
             (goes_now (y ∷ ms) l x f i on)) (was.both.1 goes) (how_key y ms w f (m.how goes))
-            (kind_here hosts w y ms l);
+            (kind_here (all_ours hosts) w (refl, refl) y ms (lawful_among hosts (y ∷ ms) l));
         early = begun_stays (key_of w) y ms (ap is_asking (was.both.1 goes)) was.early;
         unshut =
-            λ o. unshut_next hosts y ms l w (ended_now ms w g there ∙ goes) (m.unclosed o) (was.unshut (m.opens o));
+            λ o. unshut_next (all_ours hosts) y ms (lawful_among hosts (y ∷ ms) l) w (refl, refl) (ended_now ms w g there ∙ goes) (m.unclosed o) (was.unshut (m.opens o));
         first = λ n st ended. elim (m.ends ended) [
           | inl over ↦ never (sym (ap is_over over) ∙ goes)
           | inr t ↦ not_gone ms old w g there goes (was.unshut t.0) (first_gone (key_of w) y ms f ended n
-              (kind_here hosts w y ms l) (goes_now ms old w g there goes) (was.both.1 goes)
+              (kind_here (all_ours hosts) w (refl, refl) y ms (lawful_among hosts (y ∷ ms) l)) (goes_now ms old w g there goes) (was.both.1 goes)
               (how_key y ms w f (m.how goes)) st)
         ];
       }
@@ -589,8 +591,7 @@ module _ (hosts : List Host) where
       both = fit_goes (key_of x) (y ∷ ms) f begun.0 begun.1;
       early = begun.2;
       unshut =
-          λ o. unshut_next hosts y ms l x (ended_now (y ∷ ms) x f i ∙ begun.0) (no_close_opening y ms x b.opens)
-          (unshut_before y ms l x b.host b.opens begun.3);
+          λ o. unshut_next (all_ours hosts) y ms (lawful_among hosts (y ∷ ms) l) x (refl, refl) (ended_now (y ∷ ms) x f i ∙ begun.0) (no_close_opening y ms x b.opens) (unshut_before y ms l x b.host b.opens begun.3);
       first =
           λ n st ended. going_over (key_of x) y ms f ended n (end_of (key_of x) (y ∷ ms)).gone
           (end_of (key_of x) (y ∷ ms)).taken (sym begun.1 ∙ st);

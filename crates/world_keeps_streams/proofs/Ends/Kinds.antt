@@ -16,7 +16,6 @@ use Rattle.host_keeps_pairing.specs.Words.{all_taken, marks}
 use Rattle.host_keeps_pairing.proofs.lemmas.{offer_may, offer_says, offer_tells}
 use Rattle.sockets.specs.Sending.{offered}
 use Rattle.promise.specs.declared.life.Life.{Life}
-use Rattle.world_keeps_streams.proofs.Books.Run.{below}
 use Rattle.world_keeps_streams.proofs.Deeds.Effects.{Among}
 use Rattle.world_keeps_streams.proofs.Ends.Courses.{course_in}
 use Rattle.world_keeps_streams.proofs.Ends.Kept.{AllKept, AllPass, AllSpare, AreOff, IsTest, all_keep, test_any, test_sent, test_taken}
@@ -24,7 +23,8 @@ use Rattle.world_keeps_streams.proofs.Ends.Marks.{AllHere, AskOnce, all_said, al
 use Rattle.world_keeps_streams.proofs.Ends.Owes.{AData, AReply, AReset, Outs, Several, next_out, outs, owes_is, pair_is, queue_plain, when_on}
 use Rattle.world_keeps_streams.proofs.Ends.Ties.{end_in, entry_is, has_now, itself, law_end, once}
 use Rattle.world_keeps_streams.proofs.Lives.Fates.{IsDown, IsEnd, IsOpening, IsResetting, TellsEnd, TellsOpening, TellsReset}
-use Rattle.world_keeps_streams.proofs.Requests.Sides.{Lawful, coupled_in}
+use Rattle.world_keeps_streams.proofs.Requests.Sides.{LawfulAmong, below_among, coupled_among}
+use Rattle.reset_law.specs.Network.{AreOurs, Network}
 
 -- ---- what notices say of a life
 
@@ -278,41 +278,44 @@ module _ (k : Life) where
         )
     spare_taken (o ∷ os) none = (tt, spare_taken os (append_none (mark_in place k.foreign k.socket o) (marks_in place k.foreign k.socket os) none).1)
 
-  module _ (hosts : List Host) where
-    module _ (ms : List Moment) (l : Lawful hosts ms) where
+  module _ (hosts : Network) (ours : AreOurs hosts k.host k.peer) where
+    module _ (ms : List Moment) (l : LawfulAmong hosts ms) where
       -- the ends of its sockets, by tests of them
       pub off_any : (e : Entry) → Among e (pair_with k.peer (program k.host ms).peers).entries → e.own ≡ k.socket → e.foreign ≡ k.foreign → false ≡ false
       off_any e i is there = refl
 
       pub off_taken : (end_of ms).taken ≡ false → (e : Entry) → Among e (pair_with k.peer (program k.host ms).peers).entries → e.own ≡ k.socket → e.foreign ≡ k.foreign → e.partner_closed ≡ false
-      off_taken t e i is there = sym (ap (λ (x : End). x.taken) (entry_is hosts ms l k.host k.peer k.socket k.foreign e i is there).0) ∙ t
+      off_taken t e i is there = sym (ap (λ (x : End). x.taken) (entry_is hosts ms l k.host k.peer ours k.socket k.foreign e i is there).0) ∙ t
 
       pub off_sent : (end_of ms).gone ≡ false → (e : Entry) → Among e (pair_with k.peer (program k.host ms).peers).entries → e.own ≡ k.socket → e.foreign ≡ k.foreign → is_sent e.closing ≡ false
-      off_sent t e i is there = sym (ap (λ (x : End). x.gone) (entry_is hosts ms l k.host k.peer k.socket k.foreign e i is there).0) ∙ t
+      off_sent t e i is there = sym (ap (λ (x : End). x.gone) (entry_is hosts ms l k.host k.peer ours k.socket k.foreign e i is there).0) ∙ t
 
       pub off_over : (e : Entry) → Among e (pair_with k.peer (program k.host ms).peers).entries → e.own ≡ k.socket → e.foreign ≡ k.foreign → is_over e ≡ false
-      off_over e i is there = (entry_is hosts ms l k.host k.peer k.socket k.foreign e i is there).1
+      off_over e i is there = (entry_is hosts ms l k.host k.peer ours k.socket k.foreign e i is there).1
 
     -- ---- what goes out
 
-    module _ (m : HostMessage) (ms : List Moment) (l : Lawful hosts (Crossed (crossing.Out m) ∷ ms)) (from : same_host k.host m.flow.source ≡ true) (to : same_host k.peer m.flow.destination ≡ true) where
+    module _ (m : HostMessage) (ms : List Moment) (l : LawfulAmong hosts (Crossed (crossing.Out m) ∷ ms)) (from : same_host k.host m.flow.source ≡ true) (to : same_host k.peer m.flow.destination ≡ true) where
       abbrev y : Moment
       y = Crossed (crossing.Out m)
 
-      lower : Lawful hosts ms
-      lower = below hosts (Crossed (crossing.Out m)) ms l
+      lower : LawfulAmong hosts ms
+      lower = below_among hosts (Crossed (crossing.Out m)) ms l
 
       n : IsNext (program k.host ms) m
-      n = subst (λ (h : Host). IsNext (program h ms) m) (sym (same_host-true k.host m.flow.source from)) ((coupled_in hosts (Crossed (crossing.Out m) ∷ ms) l).story.0 refl)
+      n = subst (λ (h : Host). IsNext (program h ms) m) (sym (same_host-true k.host m.flow.source from)) ((coupled_among hosts (Crossed (crossing.Out m) ∷ ms) l).story.0 (subst (λ (g : Host). hosts.strange g ≡ false) (same_host-true k.host m.flow.source from) ours.0))
 
       there : n.peer.host ≡ k.peer
       there = sym (same_host-true k.peer m.flow.destination to ∙ ap (λ (x : HostMessage). x.flow.destination) n.message)
 
+      with_peer : AreOurs hosts k.host n.peer.host
+      with_peer = (ours.0, subst (λ (g : Host). hosts.strange g ≡ false) (sym there) ours.1)
+
       q_is : pair_with k.peer (program k.host ms).peers ≡ n.peer.pair
-      q_is = sym (ap (λ (p : Host). pair_with p (program k.host ms).peers) there) ∙ pair_is hosts ms lower k.host m n
+      q_is = sym (ap (λ (p : Host). pair_with p (program k.host ms).peers) there) ∙ pair_is hosts ms lower k.host m n with_peer
 
       has : HasEnd itself k.socket k.foreign (pair_with n.peer.host (program k.host ms).peers) (end_of ms)
-      has = subst (λ (p : Host). HasEnd itself k.socket k.foreign (pair_with p (program k.host ms).peers) (end_of ms)) (sym there) (has_now hosts ms lower k.host k.peer k.socket k.foreign)
+      has = subst (λ (p : Host). HasEnd itself k.socket k.foreign (pair_with p (program k.host ms).peers) (end_of ms)) (sym there) (has_now hosts ms lower k.host k.peer ours k.socket k.foreign)
 
       out_ends : (p : Parcel) → n.parcel ≡ p → end_of (Crossed (crossing.Out m) ∷ ms) ≡ all_gone (words.marks (places ms) k.socket k.foreign (commands_of n.peer.pair p)) (end_of ms)
       out_ends p is =
@@ -353,18 +356,18 @@ module _ (k : Life) where
 
       speaks : (count : ℕ) → n.parcel ≡ parcel.Commands count → MaySpeak n.peer.pair
       speaks count is =
-          (what_goes n.peer.pair (parcel.Commands count) (next_out hosts ms lower k.host m n
+          (what_goes n.peer.pair (parcel.Commands count) (next_out hosts ms lower k.host m n with_peer
           ∙ ap (λ (x : Parcel). Some x) is)).0
 
       out_by : Outs n.peer.pair n.parcel m → Kind (Crossed (crossing.Out m)) ms
       out_by (AReset wanted zero orders is) = ItIdles (record { ends = out_ends parcel.Reset is ∙ none; idle = inl none; unopened = λ e t. subst (λ (ns : List Notice). TellsOpening k ns) (notes parcel.Reset is) t; up = λ d. d }) where
         none : end_of ms ≡ nothing
-        none = (has_now hosts ms lower k.host k.peer k.socket k.foreign).idle (ap (λ (q : PairState). is_ready q.phase) q_is ∙ ap is_ready wanted)
+        none = (has_now hosts ms lower k.host k.peer ours k.socket k.foreign).idle (ap (λ (q : PairState). is_ready q.phase) q_is ∙ ap is_ready wanted)
       out_by (AReply owed zero orders is) = ItStays (record {
         pace =
             ap pace (on_flow (Legal command.Rrp ∷ []) zero orders)
             ∙ ap (λ (v : Bool). pace (if v then course_in k ms else ended_by (cut Dropped (places ms))
-            (course_in k ms))) (owes_is hosts k ms lower ∙ ap (λ (q : PairState). q.owed) q_is ∙ owed);
+            (course_in k ms))) (owes_is hosts k ours ms lower ∙ ap (λ (q : PairState). q.owed) q_is ∙ owed);
         ends = out_ends parcel.Reply is;
         unended = λ e t. subst (λ (ns : List Notice). TellsEnd k ns) (notes parcel.Reply is) t;
         unreset = λ e t. subst (λ (ns : List Notice). TellsReset k ns) (notes parcel.Reply is) t;
@@ -385,11 +388,11 @@ module _ (k : Life) where
         stage =
             ap (λ (j : Course). j.stage) (on_flow (map Legal (take count n.peer.pair.queue)) zero orders)
             ∙ all_said k (places ms) (take count n.peer.pair.queue) (course_in k ms)
-            (plain_take count n.peer.pair.queue (queue_plain hosts ms lower k.host m n));
+            (plain_take count n.peer.pair.queue (queue_plain hosts ms lower k.host m n with_peer));
         early =
             ap (λ (j : Course). j.early) (on_flow (map Legal (take count n.peer.pair.queue)) zero orders)
             ∙ all_said_early k (places ms) (take count n.peer.pair.queue) (course_in k ms)
-            (plain_take count n.peer.pair.queue (queue_plain hosts ms lower k.host m n));
+            (plain_take count n.peer.pair.queue (queue_plain hosts ms lower k.host m n with_peer));
         ends = out_ends (parcel.Commands count) is;
         may = λ j lower_than. subst (λ (x : Parcel). MayAllGo (words.marks (places ms) k.socket k.foreign (commands_of n.peer.pair x)) (end_of ms) j) is
             (offer_may itself k.socket k.foreign (program k.host ms) (places ms) n.peer n.parcel (end_of ms) j n.order n.next lower_than has);
@@ -407,4 +410,4 @@ module _ (k : Life) where
       })
 
       pub out_here : Kind (Crossed (crossing.Out m)) ms
-      out_here = out_by (outs hosts ms lower k.host m n)
+      out_here = out_by (outs hosts ms lower k.host m n with_peer)

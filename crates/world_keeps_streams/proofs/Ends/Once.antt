@@ -9,11 +9,11 @@ use Rattle.host_keeps_pairing.specs.Words as words
 use Rattle.host_keeps_pairing.proofs.lemmas.{offer_may}
 use Rattle.pairing_law.specs.Ends.{gone}
 use Rattle.net_sim.proofs.lemmas.{cleared_waits, fetched_waits}
-use Rattle.world_keeps_streams.proofs.Books.Run.{below}
 use Rattle.world_keeps_streams.proofs.Ends.Marks.{AllHere, AskOnce, NoAsk, marks_here}
 use Rattle.world_keeps_streams.proofs.Ends.Owes.{AData, AReply, AReset, Outs, Several, outs}
 use Rattle.world_keeps_streams.proofs.Ends.Ties.{LikeMarks, has_now, itself, law_end, like_marks}
-use Rattle.world_keeps_streams.proofs.Requests.Sides.{Lawful, coupled_in}
+use Rattle.world_keeps_streams.proofs.Requests.Sides.{LawfulAmong, below_among, coupled_among}
+use Rattle.reset_law.specs.Network.{AreOurs, Network}
 
 -- ---- marks
 
@@ -60,13 +60,16 @@ legal_marks place own foreign (c ∷ cs) =
 abbrev OnceIn : List Order → Type 0
 OnceIn os = (own foreign place : ℕ) → AskOnce (marks_in place own foreign os)
 
-module _ (hosts : List Host) (m : HostMessage) (ms : List Moment) (l : Lawful hosts
-    (Crossed (crossing.Out m) ∷ ms)) where
-  lower : Lawful hosts ms
-  lower = below hosts (Crossed (crossing.Out m)) ms l
+module _ (hosts : Network) (m : HostMessage) (ms : List Moment) (l : LawfulAmong hosts
+    (Crossed (crossing.Out m) ∷ ms)) (ours : AreOurs hosts m.flow.source m.flow.destination) where
+  lower : LawfulAmong hosts ms
+  lower = below_among hosts (Crossed (crossing.Out m)) ms l
 
   n : IsNext (program m.flow.source ms) m
-  n = (coupled_in hosts (Crossed (crossing.Out m) ∷ ms) l).story.0 refl
+  n = (coupled_among hosts (Crossed (crossing.Out m) ∷ ms) l).story.0 ours.0
+
+  with_peer : AreOurs hosts m.flow.source n.peer.host
+  with_peer = (ours.0, subst (λ (g : Host). hosts.strange g ≡ false) (ap (λ (y : HostMessage). y.flow.destination) n.message) ours.1)
 
   several : (count : ℕ) → n.parcel ≡ parcel.Commands count → OnceIn (map Legal (take count n.peer.pair.queue))
   several count is own foreign place =
@@ -83,10 +86,10 @@ module _ (hosts : List Host) (m : HostMessage) (ms : List Moment) (l : Lawful ho
       (law_end m.flow.source n.peer.host own foreign ms) (places ms) n.order n.next (omega arith) has)))) where
         has : HasEnd itself own foreign (pair_with n.peer.host (program m.flow.source ms).peers)
             (law_end m.flow.source n.peer.host own foreign ms)
-        has = has_now hosts ms lower m.flow.source n.peer.host own foreign
+        has = has_now hosts ms lower m.flow.source n.peer.host with_peer own foreign
 
   out_once : (m.flow.link.0 == 0) ≡ true → OnceIn (orders_of m.text)
-  out_once zero = by (outs hosts ms lower m.flow.source m n) where
+  out_once zero = by (outs hosts ms lower m.flow.source m n with_peer) where
     by : Outs n.peer.pair n.parcel m → OnceIn (orders_of m.text)
     by (AReset wanted at orders is) = subst OnceIn (sym orders) (λ own foreign place. tt)
     by (AReply owed at orders is) = subst OnceIn (sym orders) (λ own foreign place. tt)
@@ -95,21 +98,21 @@ module _ (hosts : List Host) (m : HostMessage) (ms : List Moment) (l : Lawful ho
 
 -- ---- where it comes in
 
-abbrev AllOnce : List Crossing → Type 0
-AllOnce [] = Unit {0}
-AllOnce (crossing.Out m ∷ log) = ((m.flow.link.0 == 0) ≡ true → OnceIn (orders_of m.text)) × AllOnce log
-AllOnce (c ∷ log) = AllOnce log
+abbrev AllOnce : Network → List Crossing → Type 0
+AllOnce hosts [] = Unit {0}
+AllOnce hosts (crossing.Out m ∷ log) = (AreOurs hosts m.flow.source m.flow.destination → (m.flow.link.0 == 0) ≡ true → OnceIn (orders_of m.text)) × AllOnce hosts log
+AllOnce hosts (c ∷ log) = AllOnce hosts log
 
-all_once : (hosts : List Host) (ms : List Moment) → Lawful hosts ms → AllOnce (crossings_of ms)
+all_once : (hosts : Network) (ms : List Moment) → LawfulAmong hosts ms → AllOnce hosts (crossings_of ms)
 all_once hosts [] l = tt
 all_once hosts (Crossed (crossing.Out m) ∷ ms) l =
-    (out_once hosts m ms l, all_once hosts ms (below hosts (Crossed (crossing.Out m)) ms l))
-all_once hosts (Crossed (crossing.In m) ∷ ms) l = all_once hosts ms (below hosts (Crossed (crossing.In m)) ms l)
+    (out_once hosts m ms l, all_once hosts ms (below_among hosts (Crossed (crossing.Out m)) ms l))
+all_once hosts (Crossed (crossing.In m) ∷ ms) l = all_once hosts ms (below_among hosts (Crossed (crossing.In m)) ms l)
 all_once hosts (Crossed (crossing.Answer kind f) ∷ ms) l =
-    all_once hosts ms (below hosts (Crossed (crossing.Answer kind f)) ms l)
-all_once hosts (Crossed (crossing.Down h) ∷ ms) l = all_once hosts ms (below hosts (Crossed (crossing.Down h)) ms l)
-all_once hosts (Crossed (crossing.Up h) ∷ ms) l = all_once hosts ms (below hosts (Crossed (crossing.Up h)) ms l)
-all_once hosts (Asked h r ∷ ms) l = all_once hosts ms (below hosts (Asked h r) ms l)
+    all_once hosts ms (below_among hosts (Crossed (crossing.Answer kind f)) ms l)
+all_once hosts (Crossed (crossing.Down h) ∷ ms) l = all_once hosts ms (below_among hosts (Crossed (crossing.Down h)) ms l)
+all_once hosts (Crossed (crossing.Up h) ∷ ms) l = all_once hosts ms (below_among hosts (Crossed (crossing.Up h)) ms l)
+all_once hosts (Asked h r ∷ ms) l = all_once hosts ms (below_among hosts (Asked h r) ms l)
 
 abbrev text_in : mail.Box → List Bool
 text_in mail.Empty = []
@@ -117,30 +120,30 @@ text_in (mail.Waiting place text) = text
 text_in (mail.Taken place text) = text
 
 -- what waits went out
-waits_once : (f : Flow) (p : ℕ) (text : List Bool) (log : List Crossing) → (f.link.0 == 0) ≡ true → AllOnce log
+waits_once : (hosts : Network) (f : Flow) → AreOurs hosts f.source f.destination → (p : ℕ) (text : List Bool) (log : List Crossing) → (f.link.0 == 0) ≡ true → AllOnce hosts log
     → mail.box_of f log ≡ mail.Waiting p text → OnceIn (orders_of text)
-waits_once f p text [] zero all is = absurd (let none : mail.Empty ≡ mail.Waiting p text = is in cc)
-waits_once f p text (crossing.Out m ∷ log) zero all is =
-    by (same_flow f m.flow) refl is (λ w. waits_once f p text log zero all.1 w) where
+waits_once hosts f ours p text [] zero all is = absurd (let none : mail.Empty ≡ mail.Waiting p text = is in cc)
+waits_once hosts f ours p text (crossing.Out m ∷ log) zero all is =
+    by (same_flow f m.flow) refl is (λ w. waits_once hosts f ours p text log zero all.1 w) where
       by : (v : Bool) → same_flow f m.flow ≡ v
           → (if v then mail.Waiting (length log) m.text else mail.box_of f log) ≡ mail.Waiting p text
           → (mail.box_of f log ≡ mail.Waiting p text → OnceIn (orders_of text)) → OnceIn (orders_of text)
       by true e w rest =
-          subst (λ (t : List Bool). OnceIn (orders_of t)) (ap text_in w) (all.0
+          subst (λ (t : List Bool). OnceIn (orders_of t)) (ap text_in w) (all.0 (subst (λ (g : Flow). AreOurs hosts g.source g.destination) (same_flow-true f m.flow e) ours)
           (ap (λ (g : Flow). g.link.0 == 0) (sym (same_flow-true f m.flow e)) ∙ zero))
       by false e w rest = rest w
-waits_once f p text (crossing.In m ∷ log) zero all is =
-    waits_once f p text log zero all (fetched_waits (mail.box_of f log) p text (same_flow f m.flow) is)
-waits_once f p text (crossing.Answer kind g ∷ log) zero all is =
-    waits_once f p text log zero all (cleared_waits (mail.box_of f log) p text (same_flow f g) is)
-waits_once f p text (crossing.Down h ∷ log) zero all is = waits_once f p text log zero all is
-waits_once f p text (crossing.Up h ∷ log) zero all is =
-    waits_once f p text log zero all (cleared_waits (mail.box_of f log) p text (same_host f.source h) is)
+waits_once hosts f ours p text (crossing.In m ∷ log) zero all is =
+    waits_once hosts f ours p text log zero all (fetched_waits (mail.box_of f log) p text (same_flow f m.flow) is)
+waits_once hosts f ours p text (crossing.Answer kind g ∷ log) zero all is =
+    waits_once hosts f ours p text log zero all (cleared_waits (mail.box_of f log) p text (same_flow f g) is)
+waits_once hosts f ours p text (crossing.Down h ∷ log) zero all is = waits_once hosts f ours p text log zero all is
+waits_once hosts f ours p text (crossing.Up h ∷ log) zero all is =
+    waits_once hosts f ours p text log zero all (cleared_waits (mail.box_of f log) p text (same_host f.source h) is)
 
-pub in_once : (hosts : List Host) (m : HostMessage) (ms : List Moment) → Lawful hosts (Crossed (crossing.In m) ∷ ms)
-    → (m.flow.link.0 == 0) ≡ true → (own foreign place : ℕ) → AskOnce (marks_in place own foreign (orders_of m.text))
-in_once hosts m ms l zero =
+pub in_once : (hosts : Network) (m : HostMessage) (ms : List Moment) → LawfulAmong hosts (Crossed (crossing.In m) ∷ ms)
+    → AreOurs hosts m.flow.source m.flow.destination → (m.flow.link.0 == 0) ≡ true → (own foreign place : ℕ) → AskOnce (marks_in place own foreign (orders_of m.text))
+in_once hosts m ms l ours zero =
     let w : (place : ℕ) × (mail.box_of m.flow (crossings_of ms) ≡ mail.Waiting place m.text) =
     waits_with (mail.box_of m.flow (crossings_of ms)) m.text l.1.0.1 in
-    waits_once m.flow w.0 m.text (crossings_of ms) zero (all_once hosts ms
-    (below hosts (Crossed (crossing.In m)) ms l)) w.1
+    waits_once hosts m.flow ours w.0 m.text (crossings_of ms) zero (all_once hosts ms
+    (below_among hosts (Crossed (crossing.In m)) ms l)) w.1

@@ -1,5 +1,6 @@
 -- A life that begins: no user of its host has closed its end before.
 use Rattle.world_keeps_streams.proofs.Common.{◌≡◌, ◌⊎◌, inl, inr, ℕ, ◌==◌, ◌&&◌, ◌||◌, not, Bool, true, false, List, [], ◌∷◌, filter, length, Option, Some, None, is_some, refl, ap, sym, subst, ◌∙◌, eq-eqb, list_any, Host, same_host, or_false, same_host-true, has_cls, is_answered, is_at, is_busy, is_called_off, is_due, is_ending, is_link, is_mine_on, is_receiving, sends_on, Closing, Entry, has_opened, name_now, numbered, sender_now, marks, pair_with, Moment, program, mine_on, held, own_calls, story_agrees}
+use Rattle.net_sim.proofs.lemmas.AllOurs.{happened}
 use Rattle.reset_law.specs.Network.{all_ours}
 use Rattle.host_keeps_streams.specs.Ends.{AreSender}
 use Rattle.host_pairs.specs.declared.entry.Closing.TheVariants as closing
@@ -16,7 +17,7 @@ use Rattle.world_keeps_streams.proofs.Ends.Marks.{never}
 use Rattle.world_keeps_streams.proofs.Ends.Ties.{has_now, itself, law_end}
 use Rattle.world_keeps_streams.proofs.Ends.Unshut.{is_shut}
 use Rattle.world_keeps_streams.proofs.Lives.Left.{at_it, one_of}
-use Rattle.world_keeps_streams.proofs.Requests.Sides.{Lawful, coupled_in}
+use Rattle.world_keeps_streams.proofs.Requests.Sides.{Lawful, coupled_in, lawful_among}
 use Rattle.world_keeps_streams.proofs.Steps.Streams.{has_sender}
 use Rattle.world_keeps_streams.proofs.Tidy.Pairs.{Each, IsTidy}
 use Rattle.world_keeps_streams.proofs.Tidy.Programs.{all_tidy}
@@ -68,7 +69,7 @@ module _ (hosts : List Host) (ms : List Moment) (l : Lawful hosts ms) (x : Life)
       one_of itself 0 (filter (is_at x.socket x.foreign) (pair_with x.peer (program x.host ms).peers).entries)
       (marks 0 x.socket x.foreign (pair_with x.peer (program x.host ms).peers).queue)
       (law_end x.host x.peer x.socket x.foreign ms) e f
-      ((has_now hosts ms l x.host x.peer x.socket x.foreign).ends 0)
+      ((has_now (all_ours hosts) ms (lawful_among hosts ms l) x.host x.peer (refl, refl) x.socket x.foreign).ends 0)
       (among_kept (is_at x.socket x.foreign) (pair_with x.peer (program x.host ms).peers).entries e i
       (at_it x.socket x.foreign e a b)) (among_kept (is_at x.socket x.foreign)
       (pair_with x.peer (program x.host ms).peers).entries f j (at_it x.socket x.foreign f c d))
@@ -168,14 +169,14 @@ module _ (hosts : List Host) (ms : List Moment) (l : Lawful hosts ms) (x : Life)
             only_sender (name_now numbered x.peer (own_calls x.host x.peer ms))
             (filter (sends_on k) (pair_with x.peer (program x.host ms).peers).entries)
             (sender_now numbered x.peer k (own_calls x.host x.peer ms)) e h.0
-            (has_sender hosts l.0 k (away k is) x.host x.peer ms l.1 l.2).here
+            (has_sender (all_ours hosts) l.0 k (away k is) x.host x.peer (refl, refl) ms l.1 (happened hosts ms l.2)).here
             (among_kept (sends_on k) (pair_with x.peer (program x.host ms).peers).entries e there here)
             (among_kept (sends_on k) (pair_with x.peer (program x.host ms).peers).entries h.0 h.1 parts.sends) in
             never (sym (ap (λ (v : Bool). v && is_some h.0.partner) parts.asked ∙ parts.partner)
             ∙ ap has_opened (sym same) ∙ fresh)
 
         by : (v : Bool) → is_busy (pair_with x.peer (program x.host ms).peers).busy k ≡ v → not v ≡ true
-        by true busy = absurd (other (busy_open hosts x.host x.peer k (away k is) ms l ready owes busy))
+        by true busy = absurd (other (busy_open (all_ours hosts) x.host x.peer (refl, refl) k (away k is) ms (lawful_among hosts ms l) ready owes busy))
         by false free = refl
 
   open_closing : (c : Closing) → has_cls c ≡ false → is_due c ≡ false → is_called_off c ≡ false

@@ -1,6 +1,5 @@
 -- Whether a life's host owes its peer an RRP, by what crosses and by its program.
-use Rattle.world_keeps_streams.proofs.Common.{◌≡◌, ℕ, ◌==◌, ◌&&◌, not, Bool, true, false, if◌then◌else◌, List, [], ◌∷◌, map, take, Some, refl, ap, sym, subst, ◌∙◌, eq-eqb, Host, same_host, Answer, HostMessage, same_host-true, MayGo, Legal, Order, Wrong, orders_of, PairState, Parcel, link_for, next_of, text_for, Entry, IsReadBack, what_goes, Command, offer_read, eqb-sym, Begin, Hear, Message, Other, Send, Take, are, when, Pair, pair, pair_moved, pair_with, next_is, next_pair, Agrees, AllPlain, ArePlain, IsApart, control_message, is_rrp, is_rst, message_on, Asked, Crossed, IsNext, Moment, events_of, places, program, data_away, plain_take, story_agrees, Course, Dropped, Stopped, cut, each, ended_by, fails, heard, own_asked, own_closed, partner_asked, partner_closed, said, AText, AnRrp, AnRst, Sort, programs_ranged, served_in, sort_of}
-use Rattle.reset_law.specs.Network.{all_ours}
+use Rattle.world_keeps_streams.proofs.Common.{◌≡◌, ℕ, ◌==◌, ◌&&◌, not, Bool, true, false, if◌then◌else◌, List, [], ◌∷◌, map, take, Some, refl, ap, sym, subst, ◌∙◌, eq-eqb, Host, same_host, Answer, HostMessage, same_host-true, MayGo, Legal, Order, Wrong, orders_of, PairState, Parcel, link_for, next_of, text_for, Entry, IsReadBack, what_goes, Command, offer_read, eqb-sym, Begin, Hear, Message, Other, Send, Take, are, when, Pair, pair, pair_moved, pair_with, next_is, next_pair, Agrees, AllPlain, ArePlain, IsApart, control_message, is_rrp, is_rst, message_on, Asked, Crossed, IsNext, Moment, events_of, places, program, data_away, plain_take, story_agrees, Course, Dropped, Stopped, cut, each, ended_by, fails, heard, own_asked, own_closed, partner_asked, partner_closed, said, AText, AnRrp, AnRst, Sort, programs_ranged, sort_of}
 use Rattle.interface.specs.declared.crossing.Answer.TheVariants as answer
 use Rattle.interface.specs.declared.crossing.Crossing.TheVariants as crossing
 use Rattle.host_pairs.specs.Parcels as parcel
@@ -12,10 +11,11 @@ use Rattle.sockets.specs.declared.request.Request.TheVariants as request
 use Rattle.net_sim.specs.Projection.{has_control, is_alone}
 use Rattle.promise.specs.Ends.{asks_for, closes}
 use Rattle.promise.specs.declared.life.Life.{Life}
-use Rattle.world_keeps_streams.proofs.Books.Run.{below}
 use Rattle.world_keeps_streams.proofs.Ends.Courses.{course_in}
 use Rattle.world_keeps_streams.proofs.Ends.Marks.{heard_plain, said_plain}
-use Rattle.world_keeps_streams.proofs.Requests.Sides.{Lawful, coupled_in}
+use Rattle.world_keeps_streams.proofs.Requests.Sides.{LawfulAmong, below_among, coupled_among}
+use Rattle.world_keeps_pairing.proofs.lemmas as served
+use Rattle.reset_law.specs.Network.{AreOurs, Network}
 
 -- ---- what a program sends
 
@@ -25,12 +25,12 @@ pub data Outs (q : PairState) (p : Parcel) (m : HostMessage) : Type 0 where
   Several : (count : ℕ) → (is : p ≡ parcel.Commands count) → (zero : m.flow.link.0 ≡ 0) → (orders : orders_of m.text ≡ map Legal (take count q.queue)) → Outs q p m
   AData : (e : Entry) → (size count : ℕ) → (is : p ≡ parcel.Bytes e size count) → (away : (m.flow.link.0 == 0) ≡ false) → Outs q p m
 
-module _ (hosts : List Host) (ms : List Moment) (l : Lawful hosts ms) (h : Host) (m : HostMessage) (n : IsNext (program h ms) m) where
+module _ (hosts : Network) (ms : List Moment) (l : LawfulAmong hosts ms) (h : Host) (m : HostMessage) (n : IsNext (program h ms) m) (ours : AreOurs hosts h n.peer.host) where
   pub pair_is : pair_with n.peer.host (program h ms).peers ≡ n.peer.pair
   pair_is = next_pair (program h ms).peers n.peer n.parcel n.order n.next
 
   agrees : Agrees (pair_with n.peer.host (program h ms).peers) (pair h n.peer.host (events_of ms))
-  agrees = story_agrees (all_ours hosts) ms h n.peer.host (refl, refl) (coupled_in hosts ms l).story
+  agrees = story_agrees hosts ms h n.peer.host ours (coupled_among hosts ms l).story
 
   pub queue_plain : ArePlain n.peer.pair.queue
   queue_plain = subst (λ (q : PairState). ArePlain q.queue) pair_is agrees.plain
@@ -41,7 +41,7 @@ module _ (hosts : List Host) (ms : List Moment) (l : Lawful hosts ms) (h : Host)
   pub outs : Outs n.peer.pair n.parcel m
   outs = by n.parcel refl where
     back : IsReadBack n.peer.pair n.parcel
-    back = offer_read (program h ms) n.peer n.parcel (programs_ranged (all_ours hosts) ms (served_in hosts ms l.2) h refl) n.next
+    back = offer_read (program h ms) n.peer n.parcel (programs_ranged hosts ms (served.served_in hosts ms l.2) h ours.0) n.next
 
     link_is : (p : Parcel) → n.parcel ≡ p → m.flow.link.0 ≡ link_for p
     link_is p e = ap (λ (x : HostMessage). x.flow.link.0) n.message ∙ ap link_for e
@@ -111,20 +111,23 @@ when_on f z orders os k e g = ap (λ (v : Bool). if v then each f orders k else 
 
 -- ---- all moments
 
-module _ (hosts : List Host) (x : Life) where
+module _ (hosts : Network) (x : Life) (ours : AreOurs hosts x.host x.peer) where
   abbrev IsOwed : List Moment → Type 0
   IsOwed ms = (course_in x ms).owes ≡ (pair x.host x.peer (events_of ms)).owed
 
-  out_owed : (m : HostMessage) (ms : List Moment) → Lawful hosts (Crossed (crossing.Out m) ∷ ms) → IsOwed ms → IsOwed (Crossed (crossing.Out m) ∷ ms)
+  out_owed : (m : HostMessage) (ms : List Moment) → LawfulAmong hosts (Crossed (crossing.Out m) ∷ ms) → IsOwed ms → IsOwed (Crossed (crossing.Out m) ∷ ms)
   out_owed m ms l old = by (same_host x.host m.flow.source) (same_host x.peer m.flow.destination) refl refl where
-    on : same_host x.host m.flow.source ≡ true
+    on : same_host x.host m.flow.source ≡ true → same_host x.peer m.flow.destination ≡ true
         → (if 0 == m.flow.link.0 then each (said x (places ms)) (orders_of m.text) (course_in x ms) else course_in x ms).owes ≡ (pair_sent m.flow.link.0 (message_on m.flow.link.0 m.text) (pair x.host x.peer (events_of ms))).owed
-    on e = of (outs hosts ms lower x.host m n) where
-      lower : Lawful hosts ms
-      lower = below hosts (Crossed (crossing.Out m)) ms l
+    on e f = of (outs hosts ms lower x.host m n with_peer) where
+      lower : LawfulAmong hosts ms
+      lower = below_among hosts (Crossed (crossing.Out m)) ms l
 
       n : IsNext (program x.host ms) m
-      n = subst (λ (h : Host). IsNext (program h ms) m) (sym (same_host-true x.host m.flow.source e)) ((coupled_in hosts (Crossed (crossing.Out m) ∷ ms) l).story.0 refl)
+      n = subst (λ (h : Host). IsNext (program h ms) m) (sym (same_host-true x.host m.flow.source e)) ((coupled_among hosts (Crossed (crossing.Out m) ∷ ms) l).story.0 (subst (λ (g : Host). hosts.strange g ≡ false) (same_host-true x.host m.flow.source e) ours.0))
+
+      with_peer : AreOurs hosts x.host n.peer.host
+      with_peer = (ours.0, subst (λ (g : Host). hosts.strange g ≡ false) (same_host-true x.peer m.flow.destination f ∙ ap (λ (y : HostMessage). y.flow.destination) n.message) ours.1)
 
       zero_is : m.flow.link.0 ≡ 0 → (0 == m.flow.link.0) ≡ true
       zero_is z = eq-eqb 0 m.flow.link.0 (sym z)
@@ -138,7 +141,7 @@ module _ (hosts : List Host) (x : Life) where
           ap (λ (k : Course). k.owes) (when_on (said x (places ms)) (0 == m.flow.link.0) (orders_of m.text) (Legal command.Rrp ∷ []) (course_in x ms) (zero_is zero) orders)
           ∙ ap (λ (t : Message). (pair_sent m.flow.link.0 t (pair x.host x.peer (events_of ms))).owed) (sym (message_is m.flow.link.0 m.text (Legal command.Rrp ∷ []) (eq-eqb m.flow.link.0 0 zero) orders))
       of (Several count is zero orders) =
-          let plain : ArePlain (take count n.peer.pair.queue) = plain_take count n.peer.pair.queue (queue_plain hosts ms lower x.host m n) in
+          let plain : ArePlain (take count n.peer.pair.queue) = plain_take count n.peer.pair.queue (queue_plain hosts ms lower x.host m n with_peer) in
           ap (λ (k : Course). k.owes) (when_on (said x (places ms)) (0 == m.flow.link.0) (orders_of m.text) (map Legal (take count n.peer.pair.queue)) (course_in x ms) (zero_is zero) orders)
           ∙ said_owes x (places ms) (take count n.peer.pair.queue) (course_in x ms) plain ∙ old
           ∙ sym (owed_plain m.flow.link.0 m.text (pair x.host x.peer (events_of ms)) (is_alone is_rst (map Legal (take count n.peer.pair.queue))) (is_alone is_rrp (map Legal (take count n.peer.pair.queue))) (not_reply (take count n.peer.pair.queue) plain))
@@ -149,33 +152,33 @@ module _ (hosts : List Host) (x : Life) where
 
     by : (v w : Bool) → same_host x.host m.flow.source ≡ v → same_host x.peer m.flow.destination ≡ w
         → (if v && w && 0 == m.flow.link.0 then each (said x (places ms)) (orders_of m.text) (course_in x ms) else course_in x ms).owes ≡ (pair_moved (when (v && w) (Send m.flow.link.0 (message_on m.flow.link.0 m.text))) (pair x.host x.peer (events_of ms))).owed
-    by true true e f = on e
+    by true true e f = on e f
     by true false e f = old
     by false w e f = old
 
-  in_owed : (m : HostMessage) (ms : List Moment) → Lawful hosts (Crossed (crossing.In m) ∷ ms) → IsOwed ms → IsOwed (Crossed (crossing.In m) ∷ ms)
-  in_owed m ms l old = by (same_host x.host m.flow.destination) (same_host x.peer m.flow.source) where
-    on : Sort m.flow.link.0 m.text → (if 0 == m.flow.link.0 then each (heard x (places ms)) (orders_of m.text) (course_in x ms) else course_in x ms).owes ≡ (took (message_on m.flow.link.0 m.text) (pair x.host x.peer (events_of ms))).owed
-    on (AnRst zero orders is) =
+  in_owed : (m : HostMessage) (ms : List Moment) → LawfulAmong hosts (Crossed (crossing.In m) ∷ ms) → IsOwed ms → IsOwed (Crossed (crossing.In m) ∷ ms)
+  in_owed m ms l old = by (same_host x.host m.flow.destination) (same_host x.peer m.flow.source) refl refl where
+    on : same_host x.host m.flow.destination ≡ true → same_host x.peer m.flow.source ≡ true → Sort m.flow.link.0 m.text → (if 0 == m.flow.link.0 then each (heard x (places ms)) (orders_of m.text) (course_in x ms) else course_in x ms).owes ≡ (took (message_on m.flow.link.0 m.text) (pair x.host x.peer (events_of ms))).owed
+    on e f (AnRst zero orders is) =
         ap (λ (k : Course). k.owes) (when_on (heard x (places ms)) (0 == m.flow.link.0) (orders_of m.text) (Legal command.Rst ∷ []) (course_in x ms) (eqb-sym 0 m.flow.link.0 ∙ zero) orders)
         ∙ ap (λ (t : Message). (took t (pair x.host x.peer (events_of ms))).owed) (sym is)
-    on (AnRrp zero orders is) =
+    on e f (AnRrp zero orders is) =
         ap (λ (k : Course). k.owes) (when_on (heard x (places ms)) (0 == m.flow.link.0) (orders_of m.text) (Legal command.Rrp ∷ []) (course_in x ms) (eqb-sym 0 m.flow.link.0 ∙ zero) orders) ∙ old
         ∙ ap (λ (t : Message). (took t (pair x.host x.peer (events_of ms))).owed) (sym is)
-    on (AText is) = text (m.flow.link.0 == 0) refl ∙ old ∙ ap (λ (t : Message). (took t (pair x.host x.peer (events_of ms))).owed) (sym is) where
+    on e f (AText is) = text (m.flow.link.0 == 0) refl ∙ old ∙ ap (λ (t : Message). (took t (pair x.host x.peer (events_of ms))).owed) (sym is) where
       plain : (m.flow.link.0 == 0) ≡ true → AllPlain (orders_of m.text)
-      plain = subst (λ (t : Message). IsApart m.flow.link.0 m.text t) is ((coupled_in hosts (Crossed (crossing.In m) ∷ ms) l).story.0 (refl, refl))
+      plain = subst (λ (t : Message). IsApart m.flow.link.0 m.text t) is ((coupled_among hosts (Crossed (crossing.In m) ∷ ms) l).story.0 (subst (λ (g : Host). hosts.strange g ≡ false) (same_host-true x.peer m.flow.source f) ours.1, subst (λ (g : Host). hosts.strange g ≡ false) (same_host-true x.host m.flow.destination e) ours.0))
 
       text : (v : Bool) → (m.flow.link.0 == 0) ≡ v → (if 0 == m.flow.link.0 then each (heard x (places ms)) (orders_of m.text) (course_in x ms) else course_in x ms).owes ≡ (course_in x ms).owes
       text true zero =
           ap (λ (v : Bool). (if v then each (heard x (places ms)) (orders_of m.text) (course_in x ms) else course_in x ms).owes) (eqb-sym 0 m.flow.link.0 ∙ zero) ∙ heard_owes x (places ms) (orders_of m.text) (course_in x ms) (plain zero)
       text false away = ap (λ (v : Bool). (if v then each (heard x (places ms)) (orders_of m.text) (course_in x ms) else course_in x ms).owes) (eqb-sym 0 m.flow.link.0 ∙ away)
 
-    by : (v w : Bool) → (if w && v && 0 == m.flow.link.0 then each (heard x (places ms)) (orders_of m.text) (course_in x ms) else course_in x ms).owes ≡ (pair_moved (when (v && w) (Take (message_on m.flow.link.0 m.text))) (pair x.host x.peer (events_of ms))).owed
-    by true true = on (sort_of m.flow.link.0 m.text)
-    by true false = old
-    by false true = old
-    by false false = old
+    by : (v w : Bool) → same_host x.host m.flow.destination ≡ v → same_host x.peer m.flow.source ≡ w → (if w && v && 0 == m.flow.link.0 then each (heard x (places ms)) (orders_of m.text) (course_in x ms) else course_in x ms).owes ≡ (pair_moved (when (v && w) (Take (message_on m.flow.link.0 m.text))) (pair x.host x.peer (events_of ms))).owed
+    by true true e f = on e f (sort_of m.flow.link.0 m.text)
+    by true false e f = old
+    by false true e f = old
+    by false false e f = old
 
   told_same : (v : Bool) (link : ℕ) (kind : Answer) (p : Pair) → (pair_moved (when v (Hear link kind)) p).owed ≡ p.owed
   told_same true link answer.Rfnm p = refl
@@ -194,21 +197,21 @@ module _ (hosts : List Host) (x : Life) where
   stops true j k p old e = e
   stops false j k p old e = old
 
-  pub owes_law : (ms : List Moment) → Lawful hosts ms → IsOwed ms
+  pub owes_law : (ms : List Moment) → LawfulAmong hosts ms → IsOwed ms
   owes_law [] l = refl
-  owes_law (Crossed (crossing.Out m) ∷ ms) l = out_owed m ms l (owes_law ms (below hosts (Crossed (crossing.Out m)) ms l))
-  owes_law (Crossed (crossing.In m) ∷ ms) l = in_owed m ms l (owes_law ms (below hosts (Crossed (crossing.In m)) ms l))
+  owes_law (Crossed (crossing.Out m) ∷ ms) l = out_owed m ms l (owes_law ms (below_among hosts (Crossed (crossing.Out m)) ms l))
+  owes_law (Crossed (crossing.In m) ∷ ms) l = in_owed m ms l (owes_law ms (below_among hosts (Crossed (crossing.In m)) ms l))
   owes_law (Crossed (crossing.Answer kind f) ∷ ms) l =
-      cut_same (fails kind && (same_host x.host f.source && same_host x.peer f.destination) && not (course_in x ms).owes) (places ms) (course_in x ms) ∙ owes_law ms (below hosts (Crossed (crossing.Answer kind f)) ms l)
+      cut_same (fails kind && (same_host x.host f.source && same_host x.peer f.destination) && not (course_in x ms).owes) (places ms) (course_in x ms) ∙ owes_law ms (below_among hosts (Crossed (crossing.Answer kind f)) ms l)
       ∙ sym (told_same (are x.host x.peer f.source f.destination) f.link.0 kind (pair x.host x.peer (events_of ms)))
   owes_law (Crossed (crossing.Down h) ∷ ms) l =
-      stops (same_host x.host h) (record (ended_by (cut Stopped (places ms)) (course_in x ms)) { owes = false }) (course_in x ms) (pair x.host x.peer (events_of ms)) (owes_law ms (below hosts (Crossed (crossing.Down h)) ms l)) refl
+      stops (same_host x.host h) (record (ended_by (cut Stopped (places ms)) (course_in x ms)) { owes = false }) (course_in x ms) (pair x.host x.peer (events_of ms)) (owes_law ms (below_among hosts (Crossed (crossing.Down h)) ms l)) refl
   owes_law (Crossed (crossing.Up h) ∷ ms) l =
-      stops (same_host x.host h) (record (course_in x ms) { owes = false }) (course_in x ms) (pair x.host x.peer (events_of ms)) (owes_law ms (below hosts (Crossed (crossing.Up h)) ms l)) refl
+      stops (same_host x.host h) (record (course_in x ms) { owes = false }) (course_in x ms) (pair x.host x.peer (events_of ms)) (owes_law ms (below_among hosts (Crossed (crossing.Up h)) ms l)) refl
   owes_law (Asked h (request.Contact peer) ∷ ms) l =
-      cut_same (same_host x.host h && same_host x.peer peer) (places ms) (course_in x ms) ∙ owes_law ms (below hosts (Asked h (request.Contact peer)) ms l) ∙ sym (call_same (are x.host x.peer h peer) (pair x.host x.peer (events_of ms)))
-  owes_law (Asked h r ∷ ms) l = owes_law ms (below hosts (Asked h r) ms l)
+      cut_same (same_host x.host h && same_host x.peer peer) (places ms) (course_in x ms) ∙ owes_law ms (below_among hosts (Asked h (request.Contact peer)) ms l) ∙ sym (call_same (are x.host x.peer h peer) (pair x.host x.peer (events_of ms)))
+  owes_law (Asked h r ∷ ms) l = owes_law ms (below_among hosts (Asked h r) ms l)
 
   -- so it is in the program
-  pub owes_is : (ms : List Moment) → Lawful hosts ms → (course_in x ms).owes ≡ (pair_with x.peer (program x.host ms).peers).owed
-  owes_is ms l = owes_law ms l ∙ (story_agrees (all_ours hosts) ms x.host x.peer (refl, refl) (coupled_in hosts ms l).story).owed
+  pub owes_is : (ms : List Moment) → LawfulAmong hosts ms → (course_in x ms).owes ≡ (pair_with x.peer (program x.host ms).peers).owed
+  owes_is ms l = owes_law ms l ∙ (story_agrees hosts ms x.host x.peer ours (coupled_among hosts ms l).story).owed

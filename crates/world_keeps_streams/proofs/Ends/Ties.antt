@@ -1,6 +1,5 @@
 -- The end of two sockets in a host's program as the law of pairing has it, where a partner's request is named by the place at which it was taken.
 use Rattle.world_keeps_streams.proofs.Common.{◌≡◌, ℕ, ◌==◌, Bool, true, false, not, ◌&&◌, ◌||◌, if◌then◌else◌, List, [], ◌∷◌, ◌++◌, filter, Option, Some, None, is_some, refl, ap, sym, subst, ◌∙◌, eq-eqb, eqb-true, Host, Legal, Order, Wrong, is_at, is_mine_on, is_sent, PairState, Entry, both, Command, End, mark_taken, Ask, Close, Mark, HasEnd, Stand, Standing, at, came_from, end_of, is_past, standing, AllFit, mark_of, marks, marks_in, live_end, plain, pair_with, Moment, program, crossings_of, Coupled, HasOpenEnd, origin_in, AllBare, AllTied, all_bare, all_tied, are_origins, served_in}
-use Rattle.reset_law.specs.Network.{all_ours}
 use Rattle.ncp_control.specs.declared.command.Command.TheVariants as command
 use Rattle.pairing_law.specs.Ends.{nothing}
 use Rattle.promise.specs.declared.life.Life.{Life}
@@ -8,7 +7,9 @@ use Rattle.world_keeps_streams.proofs.Books.Arrives.{end_at}
 use Rattle.world_keeps_streams.proofs.Calls.MayHear.{has_end}
 use Rattle.world_keeps_streams.proofs.Deeds.Effects.{Among, among_kept, among_mapped}
 use Rattle.world_keeps_streams.proofs.Lives.Left.{stands_as}
-use Rattle.world_keeps_streams.proofs.Requests.Sides.{Lawful, coupled_in}
+use Rattle.world_keeps_streams.proofs.Requests.Sides.{LawfulAmong, coupled_among}
+use Rattle.world_keeps_pairing.proofs.lemmas as served
+use Rattle.reset_law.specs.Network.{AreOurs, Network}
 
 abbrev pub itself : ℕ → ℕ
 itself n = n
@@ -149,33 +150,33 @@ pub record IsGoing (x : Life) (e : End) : Type 0 where
 
 -- ---- at all moments
 
-module _ (hosts : List Host) (ms : List Moment) (l : Lawful hosts ms) where
-  pub has_now : (h p : Host) (own foreign : ℕ) → HasEnd itself own foreign (pair_with p (program h ms).peers) (law_end h p own foreign ms)
-  has_now h p own foreign = has_in (origin_in (crossings_of ms) h p) own foreign (pair_with p (program h ms).peers) found.0 found.1 where
-    c : Coupled (all_ours hosts) ms
-    c = coupled_in hosts ms l
+module _ (hosts : Network) (ms : List Moment) (l : LawfulAmong hosts ms) where
+  pub has_now : (h p : Host) → AreOurs hosts h p → (own foreign : ℕ) → HasEnd itself own foreign (pair_with p (program h ms).peers) (law_end h p own foreign ms)
+  has_now h p ours own foreign = has_in (origin_in (crossings_of ms) h p) own foreign (pair_with p (program h ms).peers) found.0 found.1 where
+    c : Coupled hosts ms
+    c = coupled_among hosts ms l
 
-    tied : AllTied (all_ours hosts) (origin_in (crossings_of ms)) ms
-    tied = all_tied (all_ours hosts) (origin_in (crossings_of ms)) ms (are_origins 0 (crossings_of ms) [] ms refl) c.story c.run (served_in hosts ms l.2)
+    tied : AllTied hosts (origin_in (crossings_of ms)) ms
+    tied = all_tied hosts (origin_in (crossings_of ms)) ms (are_origins 0 (crossings_of ms) [] ms refl) c.story c.run (served.served_in hosts ms l.2)
 
-    bare : AllBare (all_ours hosts) (origin_in (crossings_of ms)) ms
-    bare = all_bare (all_ours hosts) (origin_in (crossings_of ms)) ms (are_origins 0 (crossings_of ms) [] ms refl) c.story c.run l.1 (served_in hosts ms l.2)
+    bare : AllBare hosts (origin_in (crossings_of ms)) ms
+    bare = all_bare hosts (origin_in (crossings_of ms)) ms (are_origins 0 (crossings_of ms) [] ms refl) c.story c.run l.1 (served.served_in hosts ms l.2)
 
     found : (x : End) × HasEnd (origin_in (crossings_of ms) h p) own foreign (pair_with p (program h ms).peers) x
-    found = has_end hosts (origin_in (crossings_of ms)) ms tied bare h p own foreign
+    found = has_end hosts (origin_in (crossings_of ms)) ms tied bare h p ours own foreign
 
   -- each end of the two sockets is that one
-  pub entry_is : (h p : Host) (own foreign : ℕ) (e : Entry) → Among e (pair_with p (program h ms).peers).entries → e.own ≡ own → e.foreign ≡ foreign → (law_end h p own foreign ms ≡ plain itself (standing e)) × (is_past (standing e) ≡ false)
-  entry_is h p own foreign e there is at_it =
+  pub entry_is : (h p : Host) → AreOurs hosts h p → (own foreign : ℕ) (e : Entry) → Among e (pair_with p (program h ms).peers).entries → e.own ≡ own → e.foreign ≡ foreign → (law_end h p own foreign ms ≡ plain itself (standing e)) × (is_past (standing e) ≡ false)
+  entry_is h p ours own foreign e there is at_it =
       let here : is_at own foreign e ≡ true = (let a : (e.own == own) ≡ true = eq-eqb e.own own is in let b : (e.foreign == foreign) ≡ true = eq-eqb e.foreign foreign at_it in rw (a, b) refl) in
       let s : (law_end h p own foreign ms ≡ end_of itself (standing e)) × (is_past (standing e) ≡ false) =
-      stands_as itself 0 (at own foreign (pair_with p (program h ms).peers).entries) (marks 0 own foreign (pair_with p (program h ms).peers).queue) (law_end h p own foreign ms) (standing e) ((has_now h p own foreign).ends 0)
+      stands_as itself 0 (at own foreign (pair_with p (program h ms).peers).entries) (marks 0 own foreign (pair_with p (program h ms).peers).queue) (law_end h p own foreign ms) (standing e) ((has_now h p ours own foreign).ends 0)
       (among_mapped standing (filter (is_at own foreign) (pair_with p (program h ms).peers).entries) e (among_kept (is_at own foreign) (pair_with p (program h ms).peers).entries e there here)) in
       (s.0 ∙ live_end itself (standing e) s.1, s.1)
 
   -- it is the end of a life that continues
-  pub going : (x : Life) → HasOpenEnd (program x.host ms) x → IsGoing x (law_end x.host x.peer x.socket x.foreign ms)
-  going x h = record {
+  pub going : (x : Life) → AreOurs hosts x.host x.peer → HasOpenEnd (program x.host ms) x → IsGoing x (law_end x.host x.peer x.socket x.foreign ms)
+  going x ours h = record {
     asked = ap (λ (e : End). e.asked) is ∙ h.own;
     partner = ap (λ (e : End). e.partner) is ∙ ap (came_from itself) h.partner;
     live = ap (λ (e : End). e.gone && e.taken) is ∙ at_it.1;
@@ -184,7 +185,7 @@ module _ (hosts : List Host) (ms : List Moment) (l : Lawful hosts ms) where
     there = end_at x (program x.host ms) h
 
     at_it : (law_end x.host x.peer x.socket x.foreign ms ≡ plain itself (standing h.end)) × (is_past (standing h.end) ≡ false)
-    at_it = entry_is x.host x.peer x.socket x.foreign h.end there.0 (eqb-true h.end.own x.socket (both h.end.mine (h.end.own == x.socket) there.1).1) h.foreign
+    at_it = entry_is x.host x.peer ours x.socket x.foreign h.end there.0 (eqb-true h.end.own x.socket (both h.end.mine (h.end.own == x.socket) there.1).1) h.foreign
 
     is : law_end x.host x.peer x.socket x.foreign ms ≡ plain itself (standing h.end)
     is = at_it.0

@@ -14,16 +14,16 @@ use Rattle.sockets.specs.declared.request.Request.TheVariants as request
 use Rattle.promise.specs.declared.life.Life.{Life}
 use Rattle.world_keeps_pairing.specs.Steps.{keeps}
 use Rattle.world_keeps_streams.specs.Calls.{called}
-use Rattle.world_keeps_streams.proofs.Books.Run.{below}
 use Rattle.world_keeps_streams.proofs.Calls.Chain.{Chained, chain}
 use Rattle.world_keeps_streams.proofs.Deeds.Effects.{Among, Changed, among_changed, among_filter}
 use Rattle.world_keeps_streams.proofs.Ends.Kept.{IsTest, Keeps, Spares, keeps_changed, keeps_found, keeps_gone, keeps_joined, keeps_quiet, keeps_settled, keeps_taken}
 use Rattle.world_keeps_streams.proofs.Ends.Marks.{never}
 use Rattle.world_keeps_streams.proofs.Lives.Fates.{IsClose}
-use Rattle.world_keeps_streams.proofs.Requests.Sides.{Lawful}
+use Rattle.world_keeps_streams.proofs.Requests.Sides.{LawfulAmong, below_among}
 use Rattle.world_keeps_streams.proofs.Steps.Kinds.{NoClose, NoneClose, none_crossed, none_if, none_owner}
 use Rattle.world_keeps_streams.proofs.Steps.Streams.{all_allowed}
 use Rattle.world_keeps_streams.proofs.Facts.{middle_off, no_zero}
+use Rattle.reset_law.specs.Network.{AreOurs, Network}
 
 -- ---- an end that its user has closed, and its partner hasn't
 
@@ -242,19 +242,19 @@ abbrev pub Unshut : Life → List Moment → Type 0
 Unshut x ms = AreUnshut x.socket x.foreign (pair_with x.peer (program x.host ms).peers).entries
 
 -- a moment in which no user closes it leaves it so
-pub unshut_next : (hosts : List Host) (y : Moment) (ms : List Moment) → Lawful hosts (y ∷ ms) → (x : Life)
+pub unshut_next : (hosts : Network) (y : Moment) (ms : List Moment) → LawfulAmong hosts (y ∷ ms) → (x : Life) → AreOurs hosts x.host x.peer
     → x.ended ≡ false → (IsClose y x → ⊥) → Unshut x ms → Unshut x (y ∷ ms)
-unshut_next hosts y ms l x goes none h =
+unshut_next hosts y ms l x ours goes none h =
     subst (λ (es : List Entry). AreUnshut x.socket x.foreign es) now.1
     (by (keeps x.host x.peer (event_in y) (events_of ms)) refl) where
-      lower : Lawful hosts ms
-      lower = below hosts y ms l
+      lower : LawfulAmong hosts ms
+      lower = below_among hosts y ms l
 
       now : Chained x.host x.peer (y ∷ ms)
-      now = chain hosts l.0 (y ∷ ms) l.1 l.2 x.host x.peer
+      now = chain hosts l.0 (y ∷ ms) l.1 l.2 x.host x.peer ours
 
       was : Chained x.host x.peer ms
-      was = chain hosts lower.0 ms lower.1 lower.2 x.host x.peer
+      was = chain hosts lower.0 ms lower.1 lower.2 x.host x.peer ours
 
       by : (v : Bool) → keeps x.host x.peer (event_in y) (events_of ms) ≡ v
           → AreUnshut x.socket x.foreign (ends_now x.peer (own_calls x.host x.peer (y ∷ ms)))
@@ -265,7 +265,7 @@ unshut_next hosts y ms l x goes none h =
           (walk x.peer x.socket x.foreign (suc zero) (calls_by x.host x.peer y ms) (own_calls x.host x.peer ms)
           (subst (λ (cs : List calls.Moment). IsHistory x.peer cs) is now.0)
           (subst (λ (cs : List calls.Moment). AreAllowed numbered x.peer (suc zero) cs) is
-          (all_allowed hosts l.0 (suc zero) (no_zero zero) x.host x.peer (y ∷ ms) l.1 l.2)) (others x goes ms y none)
+          (all_allowed hosts l.0 (suc zero) (no_zero zero) x.host x.peer ours (y ∷ ms) l.1 l.2)) (others x goes ms y none)
           (subst (λ (es : List Entry). AreUnshut x.socket x.foreign es) (sym was.1) h))
       by false e =
           subst (λ (cs : List calls.Moment). AreUnshut x.socket x.foreign (ends_now x.peer cs))

@@ -1,6 +1,8 @@
 -- What a host heard by its calls is what the law of pairing has it hear.
-use Rattle.world_keeps_streams.proofs.Common.{◌≡◌, ℕ, ◌==◌, ◌&&◌, Bool, true, false, if◌then◌else◌, List, [], ◌∷◌, ◌++◌, take, Option, Some, None, refl, ap, sym, subst, ◌∙◌, append_assoc, Host, same_host, HostMessage, same_host-true, Command, Order, Legal, Wrong, orders_of, desk_of, listens_on, is_busy, PairState, Parcel, command_gone, with_connections, is_ready, TurnState, order_taken, Entry, Listener, eqb-sym, mark_of, marks_in, Answered, AsksBack, Closes, Gives, Grants, Hears, OpensReceiver, OpensSender, Says, Takes, Sockets, Who, Mark, Ask, Close, placed_event, tagged, with_box, with_place, Side, hears, Fresh, begins_fresh, stays_same, boxes, Event, In, Message, Other, stays_ready, turn_of, NcpState, owner_of, pair_with, next_in, Peer, Request, HaveAddresses, message_on, Asked, Crossed, Moment, event_in, events_of, places, program, IsTimeline, crossings_of, Coupled, by_request, coupled, IsAsking, law_events, keeps, AText, AnRrp, AnRst, AreOrigins, Sort, all_hears, all_says, at_texts, foreign_of, half, heard_is, hears_if, left_if, mail_below, met_if, other, own_of, sort_of, waiting, answer_calls, calls_by, commands_said, message_calls, next_calls, orders_heard, own_calls, owner_calls, parcel_calls, request_calls}
-use Rattle.reset_law.specs.Network.{all_ours}
+use Rattle.world_keeps_streams.proofs.Common.{◌≡◌, ℕ, ◌==◌, ◌&&◌, Bool, true, false, if◌then◌else◌, List, [], ◌∷◌, ◌++◌, take, Option, Some, None, refl, ap, sym, subst, ◌∙◌, append_assoc, Host, same_host, HostMessage, same_host-true, Command, Order, Legal, Wrong, orders_of, desk_of, listens_on, is_busy, PairState, Parcel, command_gone, with_connections, is_ready, TurnState, order_taken, Entry, Listener, eqb-sym, mark_of, marks_in, Answered, AsksBack, Closes, Gives, Grants, Hears, OpensReceiver, OpensSender, Says, Takes, Sockets, Who, Mark, Ask, Close, placed_event, tagged, with_box, with_place, Side, hears, Fresh, begins_fresh, stays_same, boxes, Event, In, Message, Other, stays_ready, turn_of, NcpState, owner_of, pair_with, next_in, Peer, Request, HaveAddresses, message_on, Asked, Crossed, Moment, event_in, events_of, places, program, crossings_of, Coupled, by_request, IsAsking, law_events, keeps, AText, AnRrp, AnRst, AreOrigins, Sort, all_hears, all_says, at_texts, foreign_of, half, heard_is, hears_if, left_if, mail_below, met_if, other, own_of, sort_of, waiting, answer_calls, calls_by, commands_said, message_calls, next_calls, orders_heard, own_calls, owner_calls, parcel_calls, request_calls}
+use Rattle.net_sim.proofs.lemmas.{coupled}
+use Rattle.reset_law.specs.Network.{AreOurs, Network}
+use Rattle.net_sim.specs.Mixed.{Happened}
 use Rattle.interface.specs.Mailboxes as mail
 use Rattle.interface.specs.declared.crossing.Crossing.TheVariants as crossing
 use Rattle.ncp_control.specs.declared.command.Command.TheVariants as command
@@ -191,18 +193,18 @@ module _ (s : Sockets) (is_pair : IsPair s) (who : Who) (h p : Host) (origin : H
     inner true = rw zero heard
     inner false = refl
 
-  agrees : (hosts : List Host) (x : Moment) (ms : List Moment) → Coupled (all_ours hosts) (x ∷ ms) → IsOrigin origin x ms → stay.stays h p (events_of ms) ≡ true → Agrees x ms
-  agrees hosts (Crossed (crossing.Out m)) ms c from on = none_if (origin h p) (foreign_of who s) (own_of who s) (same_host h m.flow.source) (next_calls p (places ms) (program h ms).listening (next_in (program h ms).peers)) (next_list (origin h p) (foreign_of who s) (own_of who s) p (places ms) (program h ms).listening (next_in (program h ms).peers))
-  agrees hosts (Crossed (crossing.Answer kind f)) ms c from on =
+  agrees : (hosts : Network) → AreOurs hosts h p → (x : Moment) (ms : List Moment) → Coupled hosts (x ∷ ms) → IsOrigin origin x ms → stay.stays h p (events_of ms) ≡ true → Agrees x ms
+  agrees hosts ours (Crossed (crossing.Out m)) ms c from on = none_if (origin h p) (foreign_of who s) (own_of who s) (same_host h m.flow.source) (next_calls p (places ms) (program h ms).listening (next_in (program h ms).peers)) (next_list (origin h p) (foreign_of who s) (own_of who s) p (places ms) (program h ms).listening (next_in (program h ms).peers))
+  agrees hosts ours (Crossed (crossing.Answer kind f)) ms c from on =
       none_if (origin h p) (foreign_of who s) (own_of who s) (same_host h f.source && same_host p f.destination) (answer_calls f.link.0 (pair_with p (program h ms).peers) (program h ms).listening)
       (none_if (origin h p) (foreign_of who s) (own_of who s) (is_busy (pair_with p (program h ms).peers).busy f.link.0) (called (Answered f.link.0) (pair_with p (program h ms).peers) (program h ms).listening ∷ []) refl)
-  agrees hosts (Crossed (crossing.Down g)) ms c from on = refl
-  agrees hosts (Crossed (crossing.Up g)) ms c from on = refl
-  agrees hosts (Asked g r) ms c from on =
+  agrees hosts ours (Crossed (crossing.Down g)) ms c from on = refl
+  agrees hosts ours (Crossed (crossing.Up g)) ms c from on = refl
+  agrees hosts ours (Asked g r) ms c from on =
       by_request (λ e. list_now (calls_by h p (Asked g r) ms) ≡ upon (at_texts s (other who) (stay.heard_by p h 0 (placed_event e (events_of ms)))) []) g r (λ peer. asked) asked where
         asked : list_now (calls_by h p (Asked g r) ms) ≡ []
         asked = none_if (origin h p) (foreign_of who s) (own_of who s) (same_host h g) (request_calls p (program h ms) r) (request_list (origin h p) (foreign_of who s) (own_of who s) p (program h ms) r)
-  agrees hosts (Crossed (crossing.In m)) ms c from on = by (sort_of m.flow.link.0 m.text) where
+  agrees hosts ours (Crossed (crossing.In m)) ms c from on = by (sort_of m.flow.link.0 m.text) where
     there : (n : ℕ) × (boxes m.flow.source m.flow.destination (events_of ms) m.flow.link.0 ≡ Waiting n (message_on m.flow.link.0 m.text))
     there = waiting (boxes m.flow.source m.flow.destination (events_of ms) m.flow.link.0) (message_on m.flow.link.0 m.text) c.run.0.1
 
@@ -219,29 +221,29 @@ module _ (s : Sockets) (is_pair : IsPair s) (who : Who) (h p : Host) (origin : H
     by : Sort m.flow.link.0 m.text → Goal (with_box (boxes m.flow.source m.flow.destination (events_of ms) m.flow.link.0) (message_on m.flow.link.0 m.text))
     by (AnRst zero os is) = subst Goal (sym (boxed Reset is)) (one_order_list command.Rst m ms zero os refl)
     by (AnRrp zero os is) = subst Goal (sym (boxed Reply is)) (one_order_list command.Rrp m ms zero os refl)
-    by (AText is) = subst Goal (sym (boxed (Other m.text) is)) (in_text m ms there.0 (ready_both hosts h p ms c.story.1) (stays_ready (events_of ms) h p on) place)
+    by (AText is) = subst Goal (sym (boxed (Other m.text) is)) (in_text m ms there.0 (ready_both hosts h p ms ours c.story.1) (stays_ready (events_of ms) h p on) place)
 
-  module _ (hosts : List Host) (addresses : HaveAddresses hosts) where
+  module _ (hosts : Network) (addresses : HaveAddresses hosts.all) (ours : AreOurs hosts h p) where
     same_stays : (ms : List Moment) → stay.stays h p (law_events ms) ≡ stay.stays h p (events_of ms)
     same_stays ms = stays_same h p (events_of ms)
 
-    pub heard_marks : (ms : List Moment) → mail.IsRun hosts (crossings_of ms) → IsTimeline hosts ms → AreOrigins origin ms → stay.stays h p (events_of ms) ≡ true → (Side_now ms).heard ≡ list_now (own_calls h p ms)
+    pub heard_marks : (ms : List Moment) → mail.IsRun hosts.all (crossings_of ms) → Happened hosts ms → AreOrigins origin ms → stay.stays h p (events_of ms) ≡ true → (Side_now ms).heard ≡ list_now (own_calls h p ms)
     heard_marks [] run time from on = absurd (cc)
-    heard_marks (x ∷ ms) run time from on = by (stay.begins h p (event_in x) (events_of ms)) refl (heard_marks ms (mail_below hosts x ms run) time.1 from.1) where
-      now : Coupled (all_ours hosts) (x ∷ ms)
+    heard_marks (x ∷ ms) run time from on = by (stay.begins h p (event_in x) (events_of ms)) refl (heard_marks ms (mail_below hosts.all x ms run) time.1 from.1) where
+      now : Coupled hosts (x ∷ ms)
       now = coupled hosts addresses (x ∷ ms) run time
 
       by : (t : Bool) → stay.begins h p (event_in x) (events_of ms) ≡ t → (stay.stays h p (events_of ms) ≡ true → (Side_now ms).heard ≡ list_now (own_calls h p ms)) → (Side_now (x ∷ ms)).heard ≡ list_now (own_calls h p (x ∷ ms))
       by true begun old =
-          let f : Fresh h p (event_in x) (events_of ms) = begins_fresh (all_ours hosts) (event_in x) (events_of ms) now.run h p (refl, refl) begun in
+          let f : Fresh h p (event_in x) (events_of ms) = begins_fresh hosts (event_in x) (events_of ms) now.run h p ours begun in
           met_heard h p (at_texts s who) (at_texts s (other who)) (event_now x ms) (law_events ms) (Side_now ms) (begins_same h p (event_in x) (events_of ms) ∙ begun)
-          ∙ sym (solo_list (origin h p) (foreign_of who s) (own_of who s) p (own_calls h p (x ∷ ms)) (pair_with p (program h (x ∷ ms)).peers).queue (solo_there hosts addresses h p x ms run time f.left f.silent))
+          ∙ sym (solo_list (origin h p) (foreign_of who s) (own_of who s) p (own_calls h p (x ∷ ms)) (pair_with p (program h (x ∷ ms)).peers).queue (solo_there hosts addresses h p ours x ms run time f.left f.silent))
       by false none old =
           let kept : (keeps h p (event_in x) (events_of ms) ≡ true) × (stay.stays h p (events_of ms) ≡ true) = stays_on h p (event_in x) (events_of ms) on none in
           let marks : List Mark = at_texts s (other who) (stay.heard_by p h 0 (event_now x ms)) in
           on_heard h p (at_texts s who) (at_texts s (other who)) (event_now x ms) (law_events ms) (Side_now ms) (begins_same h p (event_in x) (events_of ms) ∙ none) (same_stays ms ∙ kept.1)
           ∙ ap (λ (w : List Mark). upon marks w) (old kept.1)
           ∙ sym (upon_on marks [] (list_now (own_calls h p ms)))
-          ∙ ap (λ (w : List Mark). w ++ list_now (own_calls h p ms)) (sym (agrees hosts x ms now from.0 kept.1))
+          ∙ ap (λ (w : List Mark). w ++ list_now (own_calls h p ms)) (sym (agrees hosts ours x ms now from.0 kept.1))
           ∙ sym (list_join (origin h p) (foreign_of who s) (own_of who s) (calls_by h p x ms) (own_calls h p ms))
           ∙ sym (ap (λ (k : Bool). list_now (if k then calls_by h p x ms ++ own_calls h p ms else [])) kept.0)

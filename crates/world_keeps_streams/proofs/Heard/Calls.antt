@@ -1,5 +1,7 @@
 -- How many CLS of a peer a host has heard since it dropped its ends: one in each connection that is gone, and that of the end which is there.
-use Rattle.world_keeps_streams.proofs.Common.{◌≡◌, ℕ, suc, ◌==◌, ◌&&◌, Bool, true, false, if◌then◌else◌, List, [], ◌∷◌, ◌++◌, refl, ap, sym, subst, ◌∙◌, Host, Command, PairState, Entry, AreAllowed, Hears, IsHistory, IsTelling, ends_now, gone_now, receiver_now, sender_now, holds_now, pair_with, HaveAddresses, Moment, event_in, events_of, program, IsTimeline, crossings_of, heard_from, keeps, mail_below, calls_by, own_calls}
+use Rattle.world_keeps_streams.proofs.Common.{◌≡◌, ℕ, suc, ◌==◌, ◌&&◌, Bool, true, false, if◌then◌else◌, List, [], ◌∷◌, ◌++◌, refl, ap, sym, subst, ◌∙◌, Host, Command, PairState, Entry, AreAllowed, Hears, IsHistory, IsTelling, ends_now, gone_now, receiver_now, sender_now, holds_now, pair_with, HaveAddresses, Moment, event_in, events_of, program, crossings_of, heard_from, keeps, mail_below, calls_by, own_calls}
+use Rattle.reset_law.specs.Network.{AreOurs, Network}
+use Rattle.net_sim.specs.Mixed.{Happened}
 use Rattle.interface.specs.Mailboxes as mail
 use Rattle.ncp_control.specs.declared.command.Command.TheVariants as command
 use Rattle.host_keeps_streams.specs.Histories as calls
@@ -50,17 +52,17 @@ all_may : (xs ys : List calls.Moment) → AllMay xs → AllMay ys → AllMay (xs
 all_may [] ys m n = n
 all_may (x ∷ xs) ys m n = (m.0, all_may xs ys m.1 n)
 
-pub own_may : (hosts : List Host) → HaveAddresses hosts → (moments : List Moment) → mail.IsRun hosts (crossings_of moments) → IsTimeline hosts moments → (a b : Host) → AllMay (own_calls a b moments)
-own_may hosts addresses [] run time a b = tt
-own_may hosts addresses (x ∷ moments) run time a b = by (own_may hosts addresses moments (mail_below hosts x moments run) time.1 a b) (keeps a b (event_in x) (events_of moments)) where
+pub own_may : (hosts : Network) → HaveAddresses hosts.all → (moments : List Moment) → mail.IsRun hosts.all (crossings_of moments) → Happened hosts moments → (a b : Host) → AreOurs hosts a b → AllMay (own_calls a b moments)
+own_may hosts addresses [] run time a b ours = tt
+own_may hosts addresses (x ∷ moments) run time a b ours = by (own_may hosts addresses moments (mail_below hosts.all x moments run) time.1 a b ours) (keeps a b (event_in x) (events_of moments)) where
   by : AllMay (own_calls a b moments) → (k : Bool) → AllMay (if k then calls_by a b x moments ++ own_calls a b moments else [])
-  by old true = all_may (calls_by a b x moments) (own_calls a b moments) (may_calls hosts addresses x moments run time a b) old
+  by old true = all_may (calls_by a b x moments) (own_calls a b moments) (may_calls hosts addresses x moments run time a b ours) old
   by old false = tt
 
 -- so a host has heard as many as it has seen connections go, and one more where the end that is there heard one
-pub heard_calls : (number : ℕ → ℕ → ℕ → ℕ) → IsTelling number → (link : ℕ) (hosts : List Host) → HaveAddresses hosts → (moments : List Moment) → mail.IsRun hosts (crossings_of moments) → IsTimeline hosts moments → (a b : Host)
+pub heard_calls : (number : ℕ → ℕ → ℕ → ℕ) → IsTelling number → (link : ℕ) (hosts : Network) → HaveAddresses hosts.all → (moments : List Moment) → mail.IsRun hosts.all (crossings_of moments) → Happened hosts moments → (a b : Host) → AreOurs hosts a b
     → AreAllowed number b link (own_calls a b moments) → (foreign own : ℕ) → closes_in foreign own (own_calls a b moments) ≡ heard_from (gone_now b (own_calls a b moments)) (pair_with b (program a moments).peers).entries foreign own
-heard_calls number tells link hosts addresses moments run time a b allowed foreign own =
-    let c : Chained a b moments = chain hosts addresses moments run time a b in
-    history_heard number tells b link foreign own (own_calls a b moments) c.0 allowed (own_may hosts addresses moments run time a b)
+heard_calls number tells link hosts addresses moments run time a b ours allowed foreign own =
+    let c : Chained a b moments = chain hosts addresses moments run time a b ours in
+    history_heard number tells b link foreign own (own_calls a b moments) c.0 allowed (own_may hosts addresses moments run time a b ours)
     ∙ ap (λ (es : List Entry). heard_from (gone_now b (own_calls a b moments)) es foreign own) c.1

@@ -1,6 +1,6 @@
 -- The CLS that a host has heard of its peer since both met, over all moments: as many by the law of pairing as by its calls.
 use Rattle.world_keeps_streams.proofs.Common.{◌≡◌, ℕ, ◌==◌, ◌&&◌, ◌||◌, not, Bool, true, false, if◌then◌else◌, List, [], ◌∷◌, ◌++◌, refl, ap, sym, subst, ◌∙◌, Host, same_host, HostMessage, same_host-true, Command, Order, orders_of, PairState, eqb-sym, marks_in, Hears, IsAsking, Sockets, Who, Mark, placed_event, tagged, with_box, with_place, Side, Fresh, begins_fresh, stays_same, boxes, Event, Message, Other, In, stays_ready, turn_of, pair_with, next_in, message_on, Moment, Crossed, Asked, event_in, events_of, places, program, Coupled, by_request, law_events, keeps, AText, AnRrp, AnRst, Sort, all_says, at_texts, foreign_of, half, heard_is, hears_if, left_if, met_if, other, own_of, sort_of, waiting, answer_calls, calls_by, message_calls, next_calls, own_calls, request_calls}
-use Rattle.reset_law.specs.Network.{all_ours}
+use Rattle.reset_law.specs.Network.{AreOurs, Network}
 use Rattle.interface.specs.declared.crossing.Crossing.TheVariants as crossing
 use Rattle.ncp_control.specs.Phases as program_phases
 use Rattle.host_keeps_streams.specs.Histories as calls
@@ -14,7 +14,7 @@ use Rattle.net_sim.specs.Projection.{event_of}
 use Rattle.world_keeps_pairing.proofs.lemmas.{IsPair, are_same, before, heard_off_in}
 use Rattle.world_keeps_streams.proofs.Calls.Chain.{ready_both}
 use Rattle.world_keeps_streams.proofs.Books.Run.{below}
-use Rattle.world_keeps_streams.proofs.Requests.Sides.{Lawful, begins_same, coupled_in}
+use Rattle.world_keeps_streams.proofs.Requests.Sides.{LawfulAmong, below_among, begins_same, coupled_among}
 use Rattle.world_keeps_streams.proofs.Heard.Calls.{closes_by, closes_in}
 use Rattle.world_keeps_streams.proofs.Heard.Marks.{NoneHeard, adds, closes_join, closes_on, heard_adds, none_answer, none_asked, none_if, none_next, none_on, orders_add, said_heard}
 use Rattle.world_keeps_streams.proofs.Stays.Meets.{solo_there}
@@ -43,7 +43,7 @@ stay_parts false true true e f = (refl, refl)
 stay_parts false true false e f = absurd (let no : false ≡ true = e in cc)
 stay_parts false false stays e f = absurd (let no : false ≡ true = e in cc)
 
-module _ (s : Sockets) (q : IsPair s) (who : Who) (hosts : List Host) where
+module _ (s : Sockets) (q : IsPair s) (who : Who) (hosts : Network) where
   abbrev foreign : ℕ
   foreign = foreign_of who s
 
@@ -100,10 +100,10 @@ module _ (s : Sockets) (q : IsPair s) (who : Who) (hosts : List Host) where
 
   -- ---- each moment
 
-  in_waits : (m : HostMessage) (ms : List Moment) → IsRun (all_ours hosts) (events_of (Crossed (crossing.In m) ∷ ms)) → (n : ℕ) × (boxes m.flow.source m.flow.destination (events_of ms) m.flow.link.0 ≡ Waiting n (message_on m.flow.link.0 m.text))
+  in_waits : (m : HostMessage) (ms : List Moment) → IsRun hosts (events_of (Crossed (crossing.In m) ∷ ms)) → (n : ℕ) × (boxes m.flow.source m.flow.destination (events_of ms) m.flow.link.0 ≡ Waiting n (message_on m.flow.link.0 m.text))
   in_waits m ms run = waiting (boxes m.flow.source m.flow.destination (events_of ms) m.flow.link.0) (message_on m.flow.link.0 m.text) run.0.1
 
-  in_same : (h p : Host) (m : HostMessage) (ms : List Moment) → IsRun (all_ours hosts) (events_of (Crossed (crossing.In m) ∷ ms)) → keeps h p (event_of (crossing.In m)) (events_of ms) ≡ true → program_phases.is_ready (pair_with p (program h ms).peers).phase ≡ true
+  in_same : (h p : Host) (m : HostMessage) (ms : List Moment) → IsRun hosts (events_of (Crossed (crossing.In m) ∷ ms)) → keeps h p (event_of (crossing.In m)) (events_of ms) ≡ true → program_phases.is_ready (pair_with p (program h ms).peers).phase ≡ true
       → Same h p (Crossed (crossing.In m)) ms
   in_same h p m ms run keep ready = by (same_host h m.flow.destination) (same_host p m.flow.source) refl refl where
     away : (same_host p m.flow.source && same_host h m.flow.destination) ≡ false → (same_host h m.flow.destination && same_host p m.flow.source) ≡ false → Same h p (Crossed (crossing.In m)) ms
@@ -133,7 +133,7 @@ module _ (s : Sockets) (q : IsPair s) (who : Who) (hosts : List Host) where
     by false true e f = away (ap (λ (v : Bool). v && same_host h m.flow.destination) f ∙ e) (ap (λ (v : Bool). v && same_host p m.flow.source) e)
     by false false e f = away (ap (λ (v : Bool). v && same_host h m.flow.destination) f) (ap (λ (v : Bool). v && same_host p m.flow.source) e)
 
-  each_same : (h p : Host) (y : Moment) (ms : List Moment) → IsRun (all_ours hosts) (events_of (y ∷ ms)) → keeps h p (event_in y) (events_of ms) ≡ true → program_phases.is_ready (pair_with p (program h ms).peers).phase ≡ true → Same h p y ms
+  each_same : (h p : Host) (y : Moment) (ms : List Moment) → IsRun hosts (events_of (y ∷ ms)) → keeps h p (event_in y) (events_of ms) ≡ true → program_phases.is_ready (pair_with p (program h ms).peers).phase ≡ true → Same h p y ms
   each_same h p (Crossed (crossing.Out m)) ms run keep ready =
       nothing h p (Crossed (crossing.Out m)) ms refl
       (none_if (same_host h m.flow.source) (next_calls p (places ms) (program h ms).listening (next_in (program h ms).peers)) (none_next p (places ms) (program h ms).listening (next_in (program h ms).peers)))
@@ -166,25 +166,25 @@ module _ (s : Sockets) (q : IsPair s) (who : Who) (hosts : List Host) where
         left true z = refl
         left false z = refl
 
-  pub heard_closes : (h p : Host) (ms : List Moment) → Lawful hosts ms → stay.stays h p (events_of ms) ≡ true
+  pub heard_closes : (h p : Host) → AreOurs hosts h p → (ms : List Moment) → LawfulAmong hosts ms → stay.stays h p (events_of ms) ≡ true
       → closes (half h p (at_texts s who) (at_texts s (other who)) (law_events ms)).heard ≡ closes_in (foreign_of who s) (own_of who s) (own_calls h p ms)
-  heard_closes h p [] l stays = refl
-  heard_closes h p (y ∷ ms) l stays = by (stay.begins h p (event_in y) (events_of ms)) refl (heard_closes h p ms (below hosts y ms l)) where
-    law : Coupled (all_ours hosts) (y ∷ ms)
-    law = coupled_in hosts (y ∷ ms) l
+  heard_closes h p ours [] l stays = refl
+  heard_closes h p ours (y ∷ ms) l stays = by (stay.begins h p (event_in y) (events_of ms)) refl (heard_closes h p ours ms (below_among hosts y ms l)) where
+    law : Coupled hosts (y ∷ ms)
+    law = coupled_among hosts (y ∷ ms) l
 
     by : (v : Bool) → stay.begins h p (event_in y) (events_of ms) ≡ v
         → (stay.stays h p (events_of ms) ≡ true → closes (half h p (at_texts s who) (at_texts s (other who)) (law_events ms)).heard ≡ closes_in (foreign_of who s) (own_of who s) (own_calls h p ms))
         → closes (half h p (at_texts s who) (at_texts s (other who)) (law_events (y ∷ ms))).heard ≡ closes_in (foreign_of who s) (own_of who s) (own_calls h p (y ∷ ms))
     by true new old =
-        let f : Fresh h p (event_in y) (events_of ms) = begins_fresh (all_ours hosts) (event_in y) (events_of ms) law.run h p (refl, refl) new in
+        let f : Fresh h p (event_in y) (events_of ms) = begins_fresh hosts (event_in y) (events_of ms) law.run h p ours new in
         ap (λ (v : Bool). closes (met_if v (before h p (at_texts s who) (at_texts s (other who)) (placed_event (event_in y) (events_of ms)) (law_events ms) (half h p (at_texts s who) (at_texts s (other who)) (law_events ms)))).heard)
         (begins_same h p (event_in y) (events_of ms) ∙ new)
-        ∙ sym (solo_none p (foreign_of who s) (own_of who s) (own_calls h p (y ∷ ms)) (pair_with p (program h (y ∷ ms)).peers).queue (solo_there hosts l.0 h p y ms l.1 l.2 f.left f.silent))
+        ∙ sym (solo_none p (foreign_of who s) (own_of who s) (own_calls h p (y ∷ ms)) (pair_with p (program h (y ∷ ms)).peers).queue (solo_there hosts l.0 h p ours y ms l.1 l.2 f.left f.silent))
     by false none old =
         let parts : (keeps h p (event_in y) (events_of ms) ≡ true) × (stay.stays h p (events_of ms) ≡ true) =
         stay_parts (stay.begins h p (event_in y) (events_of ms)) (keeps h p (event_in y) (events_of ms)) (stay.stays h p (events_of ms)) stays none in
-        let ready : program_phases.is_ready (pair_with p (program h ms).peers).phase ≡ true = sym (ready_both hosts h p ms law.story.1) ∙ stays_ready (events_of ms) h p parts.1 in
+        let ready : program_phases.is_ready (pair_with p (program h ms).peers).phase ≡ true = sym (ready_both hosts h p ms ours law.story.1) ∙ stays_ready (events_of ms) h p parts.1 in
         side_on h p y ms none parts.1
         ∙ ap (adds (at_texts s (other who) (stay.heard_by p h 0 (placed_event (event_in y) (events_of ms))))) (old parts.1)
         ∙ each_same h p y ms law.run parts.0 ready (closes_in (foreign_of who s) (own_of who s) (own_calls h p ms))

@@ -103,7 +103,7 @@ module _ (hosts : List Host) (p : Host) where
     in_stay e r =
         let c : Coupled (all_ours hosts) (Crossed (crossing.In m) ∷ ms) = coupled_in hosts (Crossed (crossing.In m) ∷ ms) l in
         let run : IsRun (all_ours hosts) (In m.flow.source m.flow.destination m.flow.link.0 (Other m.text) ∷ events_of ms) = subst (λ (n : Message). IsRun (all_ours hosts) (In m.flow.source m.flow.destination m.flow.link.0 n ∷ events_of ms)) is c.run in
-        let ready : stay.ready m.flow.destination m.flow.source (events_of ms) ≡ true = ready_both hosts m.flow.destination m.flow.source ms c.story.1 ∙ r in
+        let ready : stay.ready m.flow.destination m.flow.source (events_of ms) ≡ true = ready_both (all_ours hosts) m.flow.destination m.flow.source ms (refl, refl) c.story.1 ∙ r in
         let stays : stay.stays m.flow.destination m.flow.source (events_of ms) ≡ true
         = takes_in_stay (all_ours hosts) (events_of ms) m.flow.source m.flow.destination m.flow.link.0 m.text (refl, refl) run (ready_phase (pair m.flow.destination m.flow.source (events_of ms)).phase ready) in
         clash ⊥ (stay.stays m.flow.destination p (events_of ms)) (subst (λ (g : Host). stay.stays m.flow.destination g (events_of ms) ≡ true) (same_host-true m.flow.source p e) stays) before

@@ -16,6 +16,7 @@ use Rattle.world_keeps_streams.proofs.Lives.LeavesEnds.{answer_quiet, quiet_tell
 use Rattle.world_keeps_streams.proofs.Lives.Left.{at_it, none_found, one_tied}
 use Rattle.world_keeps_streams.proofs.Lives.Unended.{IsNoEnding, heard_lasts, said_lasts}
 use Rattle.world_keeps_streams.proofs.Requests.Sides.{Lawful, coupled_in}
+use Rattle.net_sim.proofs.lemmas.AllOurs.{happened}
 
 -- ---- lists
 
@@ -76,7 +77,7 @@ module _ (hosts : List Host) (y : Moment) (ms : List Moment) (l : Lawful hosts (
   not_shut : ((e : Entry) → Among e (pair_with x.peer (program x.host ms).peers).entries → e.own ≡ x.socket → e.foreign ≡ x.foreign → is_ending e ≡ true) → ⊥
   not_shut shut =
       no_openings x (notices_by y ms)
-      (unopened x.peer x.socket x.foreign hosts old.0 ms old.1 old.2 y (coupled_in hosts (y ∷ ms) l).story
+      (unopened x.peer x.socket x.foreign (all_ours hosts) old.0 ms old.1 (happened hosts ms old.2) y refl (coupled_in hosts (y ∷ ms) l).story
       (λ e there own foreign. shut e (contains_among (pair_with x.peer (program x.host ms).peers).entries e (subst (λ (h : Host). Contains (pair_with x.peer (program h ms).peers).entries e) host there)) own foreign)) opens
 
   pub record Before : Type 0 where

@@ -1,5 +1,6 @@
 -- The lives of two hosts that stay, as a safe book asks for them.
 use Rattle.world_keeps_streams.proofs.Common.{◌≡◌, inl, inr, ℕ, zero, suc, ◌≤◌, ◌==◌, true, false, List, [], ◌∷◌, drop, refl, sym, subst, arith, Host, is_receive_socket, AreAllowed, gone_now, numbered, receiver_now, sender_now, Sockets, Who, Asks, Mark, Side, pair_with, Moment, events_of, program, crossings_of, Coupled, law_events, origin_in, are_origins, at_texts, even_odd, foreign_of, half, life_paired, other, own_of, receiver_half, sender_half, served_in, own_calls, numbered_by_peer}
+use Rattle.net_sim.proofs.lemmas.AllOurs.{happened}
 use Rattle.reset_law.specs.Network.{all_ours}
 use Rattle.world_keeps_pairing.specs.Lives.{ArePaired}
 use Rattle.pairing_law.specs.Links.{Receiver, Sender}
@@ -42,9 +43,9 @@ module _ (hosts : List Host) (ms : List Moment) (l : Lawful hosts ms) (h p : Hos
   law_heard : (s : Sockets) (q : IsPair s) (who : Who) (g stamp : ℕ) → Named number p (own_calls h p ms) (own_of who s) (foreign_of who s) g stamp
       → Asks g (origin_in (crossings_of ms) h p stamp) (half h p (at_texts s who) (at_texts s (other who)) (law_events ms)).heard
   law_heard s q who g stamp named =
-      let c : Chained h p ms = chain hosts l.0 ms l.1 l.2 h p in
-      subst (λ (w : List Mark). Asks g (origin_in (crossings_of ms) h p stamp) w) (sym (heard_marks s q who h p (origin_in (crossings_of ms)) hosts l.0 ms l.1 l.2 (are_origins 0 (crossings_of ms) [] ms refl) stays))
-      (named 1 c.0 allowed (own_may hosts l.0 ms l.1 l.2 h p) (origin_in (crossings_of ms) h p))
+      let c : Chained h p ms = chain (all_ours hosts) l.0 ms l.1 (happened hosts ms l.2) h p (refl, refl) in
+      subst (λ (w : List Mark). Asks g (origin_in (crossings_of ms) h p stamp) w) (sym (heard_marks s q who h p (origin_in (crossings_of ms)) (all_ours hosts) l.0 (refl, refl) ms l.1 (happened hosts ms l.2) (are_origins 0 (crossings_of ms) [] ms refl) stays))
+      (named 1 c.0 allowed (own_may (all_ours hosts) l.0 ms l.1 (happened hosts ms l.2) h p (refl, refl)) (origin_in (crossings_of ms) h p))
 
 -- ---- sockets
 
@@ -72,14 +73,14 @@ module _ (hosts : List Host) (a b : Host) (mine : (ms : List Moment) → Lawful 
   module _ (ms : List Moment) (l : Lawful hosts ms) where
     own_request : stay.stays a b (events_of ms) ≡ true → (link g : ℕ) (x : Life) → IsOf x (lives_in ms) → x.host ≡ a → x.peer ≡ b → receives x ≡ true → Mine ms link g x → Own a b ms x.socket x.foreign x.own_stamp g
     own_request stays link g x i f k r c =
-        let allowed : AreAllowed numbered b 1 (own_calls a b ms) = (joined 1 refl hosts l.0 a b ms l.1 l.2).allowed_a stays in
+        let allowed : AreAllowed numbered b 1 (own_calls a b ms) = (joined 1 refl (all_ours hosts) l.0 a b (refl, refl) ms l.1 (happened hosts ms l.2)).allowed_a stays in
         own_is_of hosts ms l a b x g i (f, k) r
         (subst (λ (y : Side). Asks g (origin_in (crossings_of ms) a b x.partner_stamp) y.heard) (sym (receiver_half (record { receive = x.socket; send = x.foreign }) a b (law_events ms)))
         (law_heard hosts ms l a b numbered allowed stays (record { receive = x.socket; send = x.foreign }) (r, other_sends x r (life_pair hosts ms l x i)) Receiver g x.partner_stamp c.named))
 
     heard_request : stay.stays b a (events_of ms) ≡ true → (link g : ℕ) (x : Life) → IsOf x (lives_in ms) → sends x ≡ true → Theirs ms link g x → Heard a b ms x.foreign x.socket x.partner_stamp g
     heard_request stays link g x i r c =
-        let allowed : AreAllowed numbered_by_peer a 1 (own_calls b a ms) = (joined 1 refl hosts l.0 a b ms l.1 l.2).allowed_b stays in
+        let allowed : AreAllowed numbered_by_peer a 1 (own_calls b a ms) = (joined 1 refl (all_ours hosts) l.0 a b (refl, refl) ms l.1 (happened hosts ms l.2)).allowed_b stays in
         subst (λ (y : Side). Asks g (origin_in (crossings_of ms) b a x.partner_stamp) y.heard) (sym (sender_half (record { receive = x.foreign; send = x.socket }) a b (law_events ms)))
         (law_heard hosts ms l b a numbered_by_peer allowed stays (record { receive = x.foreign; send = x.socket }) (foreign_receives x r (life_pair hosts ms l x i), r) Sender g x.partner_stamp c.named)
 

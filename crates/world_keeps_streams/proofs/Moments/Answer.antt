@@ -1,5 +1,6 @@
 -- The lives of a host with one peer are carried by its calls at a moment at which an answer comes back.
 use Rattle.world_keeps_streams.proofs.Common.{◌≡◌, ℕ, ◌==◌, Bool, true, false, not, ◌&&◌, ◌||◌, if◌then◌else◌, List, [], ◌∷◌, ◌++◌, is_some, refl, ap, sym, subst, ◌∙◌, Host, same_host, Flow, Answer, same_host-true, is_busy, PairState, TurnState, answered_turn, failed, failed_by, freed, is_gone, settled_turn, Notice, Phase, put, Answered, AreAllowed, IsTelling, ends_after, ends_now, pair, turn_of, NcpState, pair_with, all_told, crossed, HaveAddresses, Agrees, Crossed, IsStory, Moment, event_in, events_of, places, program, IsTimeline, crossings_of, coupled, program_own, story_agrees, keeps, mail_below, calls_by, own_calls, both}
+use Rattle.net_sim.proofs.lemmas.AllOurs.{happened}
 use Rattle.reset_law.specs.Network.{all_ours}
 use Rattle.interface.specs.Mailboxes as mail
 use Rattle.interface.specs.declared.crossing.Answer.TheVariants as answer
@@ -88,7 +89,7 @@ module _ (number : ℕ → ℕ → ℕ → ℕ) (tells : IsTelling number) (host
     -- the host keeps its ends, so it is ready after the answer
     ready_by : program_phases.is_ready (pair_with b (program a (Crossed (crossing.Answer kind f) ∷ ms)).peers).phase ≡ true
     ready_by =
-        sym (ready_both hosts a b (Crossed (crossing.Answer kind f) ∷ ms) story)
+        sym (ready_both (all_ours hosts) a b (Crossed (crossing.Answer kind f) ∷ ms) (refl, refl) story)
         ∙ (both (stay.ready a b (events_of (Crossed (crossing.Answer kind f) ∷ ms))) (not (stay.takes_reset a b (event_in (Crossed (crossing.Answer kind f))))) on).0
 
     ready_now : program_phases.is_ready (answered_turn f.destination kind f.link.0 (turn_of (program a ms) f.destination)).pair.phase ≡ true
@@ -107,7 +108,7 @@ module _ (number : ℕ → ℕ → ℕ → ℕ) (tells : IsTelling number) (host
     -- the calls lead to the program's ends
     ends_are : ends_after b Call ≡ (pair_with b (program a (Crossed (crossing.Answer kind f) ∷ ms)).peers).entries
     ends_are =
-        let c : Chained a b (Crossed (crossing.Answer kind f) ∷ ms) = chain hosts addresses (Crossed (crossing.Answer kind f) ∷ ms) run time a b in
+        let c : Chained a b (Crossed (crossing.Answer kind f) ∷ ms) = chain (all_ours hosts) addresses (Crossed (crossing.Answer kind f) ∷ ms) run (happened hosts (Crossed (crossing.Answer kind f) ∷ ms) time) a b (refl, refl) in
         let last : ends_now b (calls_by a b (Crossed (crossing.Answer kind f)) ms ++ own_calls a b ms) ≡ (pair_with b (program a (Crossed (crossing.Answer kind f) ∷ ms)).peers).entries = rw on at c.1 in
         subst (λ (ks : List calls.Moment). ends_now b (ks ++ own_calls a b ms) ≡ (pair_with b (program a (Crossed (crossing.Answer kind f) ∷ ms)).peers).entries) calls_are last
 

@@ -1,5 +1,7 @@
 -- The lives of a host with one peer are carried by its calls at a moment at which its user asks for something.
 use Rattle.world_keeps_streams.proofs.Common.{◌≡◌, ℕ, ◌==◌, ◌&&◌, not, Bool, true, false, if◌then◌else◌, List, [], ◌∷◌, map, filter, find, Option, Some, None, refl, ap, sym, subst, ◌∙◌, eqb-true, Host, same_host, same_host-refl, same_host-true, is_receive_socket, contact_notices, listens_on, is_mine_on, PairState, is_ready, Entry, Notice, both, AreAllowed, AsksBack, Closes, Gives, Grants, IsTelling, OpensReceiver, OpensSender, IsAsking, NcpState, owner_of, pair_with, grant_fault, on_open, Request, not_first, changed_when, life_ended, lives_asked, lives_at, lives_with, where_it, HaveAddresses, Asked, Moment, event_in, events_of, program, IsTimeline, crossings_of, coupled, same_host-sym, HasOpenEnd, mine_on, live, owner_found, keeps, send_odd, calls_by, owner_calls, own_calls, request_calls}
+use Rattle.reset_law.specs.Network.{all_ours}
+use Rattle.net_sim.proofs.lemmas.AllOurs.{happened}
 use Rattle.std.proofs.Common.{append-nil}
 use Rattle.interface.specs.Mailboxes as mail
 use Rattle.host_pairs.specs.declared.notice.Notice.TheVariants as notice
@@ -74,7 +76,7 @@ module _ (number : ℕ → ℕ → ℕ → ℕ) (tells : IsTelling number) (host
     one k asks is same =
         call_kept number tells hosts addresses a b allowed (Asked a r) ms run time on (called k q s.listening) (here (called k q s.listening ∷ []) is) refl (fits_asked k q asks may.0) same c where
           may : AllMay (called k q s.listening ∷ [])
-          may = subst (λ (cs : List calls.Moment). AllMay cs) (here (called k q s.listening ∷ []) is) (may_calls hosts addresses (Asked a r) ms run time a b)
+          may = subst (λ (cs : List calls.Moment). AllMay cs) (here (called k q s.listening ∷ []) is) (may_calls (all_ours hosts) addresses (Asked a r) ms run (happened hosts ((Asked a r) ∷ ms) time) a b (refl, refl))
 
     -- one that is no deed, where the lives stay as they were
     quiet : (k : Call) → IsAsking k → request_calls b s r ≡ called k q s.listening ∷ [] → deed_of k q ≡ deeds.Nothing → (kept_in (Asked a r ∷ ms)).book.lives ≡ (kept_in ms).book.lives → Kept

@@ -1,5 +1,7 @@
 -- A moment at which a host that keeps its ends with its peer makes one call with it, or none: what the law and the program have of the calls is had from all moments.
 use Rattle.world_keeps_streams.proofs.Common.{◌≡◌, inl, inr, ℕ, zero, suc, ◌==◌, Bool, true, false, List, [], ◌∷◌, ◌++◌, drop, refl, ap, sym, subst, ◌∙◌, Host, Entry, AreAllowed, IsHistory, IsTelling, ends_now, pair_with, changed_when, where_it, HaveAddresses, Moment, event_in, events_of, program, IsTimeline, crossings_of, AreRefusing, held, keeps, mail_below, calls_by, own_calls}
+use Rattle.reset_law.specs.Network.{all_ours}
+use Rattle.net_sim.proofs.lemmas.AllOurs.{happened}
 use Rattle.interface.specs.Mailboxes as mail
 use Rattle.host_keeps_streams.specs.Histories as calls
 use Rattle.promise.specs.declared.life.Life.{Life}
@@ -58,7 +60,7 @@ module _ (number : ℕ → ℕ → ℕ → ℕ) (tells : IsTelling number) (host
     own cs is = rw on (ap (λ (ys : List calls.Moment). ys ++ own_calls a b ms) is)
 
     chained : (cs : List calls.Moment) → calls_by a b x ms ≡ cs → IsHistory b (cs ++ own_calls a b ms) × (ends_now b (cs ++ own_calls a b ms) ≡ (pair_with b (program a (x ∷ ms)).peers).entries)
-    chained cs is = subst (λ (ys : List calls.Moment). IsHistory b ys × (ends_now b ys ≡ (pair_with b (program a (x ∷ ms)).peers).entries)) (own cs is) (chain hosts addresses (x ∷ ms) run time a b)
+    chained cs is = subst (λ (ys : List calls.Moment). IsHistory b ys × (ends_now b ys ≡ (pair_with b (program a (x ∷ ms)).peers).entries)) (own cs is) (chain (all_ours hosts) addresses (x ∷ ms) run (happened hosts (x ∷ ms) time) a b (refl, refl))
 
     pub call_kept : (m : calls.Moment) → calls_by a b x ms ≡ m ∷ [] → m.pair.entries ≡ (pair_with b (program a ms).peers).entries → Fits m.call m.pair
         → (kept_in (x ∷ ms)).book.lives ≡ After a b (deed_of m.call m.pair) (kept_in ms).book.lives → Carries number a b ms → Carries number a b (x ∷ ms)
@@ -70,7 +72,7 @@ module _ (number : ℕ → ℕ → ℕ → ℕ) (tells : IsTelling number) (host
 
     pub nothing_kept : calls_by a b x ms ≡ [] → AreIn a b (recent a b ms) (drop (since a b ms) (kept_in (x ∷ ms)).book.lives) → AreIn a b (drop (since a b ms) (kept_in (x ∷ ms)).book.lives) (recent a b ms)
         → Carries number a b ms → Carries number a b (x ∷ ms)
-    nothing_kept is forth back c = still_next number a b x ms on is (sym (chained [] is).1 ∙ (chain hosts addresses ms below time.1 a b).1) forth back c
+    nothing_kept is forth back c = still_next number a b x ms on is (sym (chained [] is).1 ∙ (chain (all_ours hosts) addresses ms below (happened hosts ms time.1) a b (refl, refl)).1) forth back c
 
     -- where the book's lives are as they were
     pub unchanged_kept : calls_by a b x ms ≡ [] → (kept_in (x ∷ ms)).book.lives ≡ (kept_in ms).book.lives → Carries number a b ms → Carries number a b (x ∷ ms)

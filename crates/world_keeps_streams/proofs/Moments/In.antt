@@ -1,5 +1,7 @@
 -- The lives of a host with one peer are carried by its calls at a moment at which a message of the peer comes in.
 use Rattle.world_keeps_streams.proofs.Common.{◌≡◌, ℕ, ◌==◌, ◌&&◌, not, Bool, true, false, List, [], ◌∷◌, ◌++◌, drop, refl, ap, sym, subst, ◌∙◌, Host, same_host, HostMessage, same_host-true, Legal, Order, Wrong, orders_of, data_taken, desk_of, PairState, TurnState, message_taken, orders_taken, reply_notices, with_desk, Entry, Notice, Phase, AreJoint, IsJoint, orders_idle, AreAllowed, Hears, IsHistory, IsTelling, Takes, In, Message, Other, are, turn_of, NcpState, pair_with, all_told, crossed, HaveAddresses, IsApart, message_on, Crossed, Moment, event_in, events_of, places, program, IsTimeline, crossings_of, coupled, program_own, held, keeps, AText, AnRrp, AnRst, Sort, mail_below, message_pair, plain_joint, sort_of, calls_by, message_calls, orders_heard, own_calls, both}
+use Rattle.reset_law.specs.Network.{all_ours}
+use Rattle.net_sim.proofs.lemmas.AllOurs.{happened}
 use Rattle.interface.specs.Mailboxes as mail
 use Rattle.interface.specs.declared.crossing.Crossing.TheVariants as crossing
 use Rattle.interface.specs.declared.crossing.Inbound.TheVariants as inbound
@@ -101,7 +103,7 @@ module _ (number : ℕ → ℕ → ℕ → ℕ) (tells : IsTelling number) (host
       own_with = own_are ∙ ap (λ (k : List calls.Moment). k ++ own_calls a b ms) are
 
       history : IsHistory b (cs ++ own_calls a b ms)
-      history = subst (λ (k : List calls.Moment). IsHistory b k) own_with (chain hosts addresses (Crossed (crossing.In m) ∷ ms) run time a b).0
+      history = subst (λ (k : List calls.Moment). IsHistory b k) own_with (chain (all_ours hosts) addresses (Crossed (crossing.In m) ∷ ms) run (happened hosts (Crossed (crossing.In m) ∷ ms) time) a b (refl, refl)).0
 
       may : AllAllowed number tells a b (cs ++ own_calls a b ms)
       may link other = subst (λ (k : List calls.Moment). AreAllowed number b link k) own_with (allowed (Crossed (crossing.In m) ∷ ms) run time link other)

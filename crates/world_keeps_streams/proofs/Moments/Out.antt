@@ -1,5 +1,6 @@
 -- The lives of a host with one peer are carried by its calls at a moment at which a message goes out to the peer.
 use Rattle.world_keeps_streams.proofs.Common.{◌≡◌, ℕ, ◌==◌, true, false, ◌&&◌, List, [], ◌∷◌, ◌++◌, take, drop, Some, refl, ap, sym, subst, ◌∙◌, Host, same_host, HostMessage, same_host-true, Command, DeskState, desk_of, PairState, Parcel, next_of, parcel_gone, with_connections, Entry, Listener, Notice, pair_range, AreAllowed, IsHistory, IsTelling, Says, Sends, turn_of, NcpState, pair_with, next_in, Peer, next_is, next_pair, all_told, crossed, HaveAddresses, Crossed, IsNext, IsStory, Moment, event_in, events_of, places, program, IsTimeline, crossings_of, coupled, GoodTurn, Place, has_ends, held, origin_in, keeps, mail_below, offered_pair, programs_ranged, served_in, calls_by, commands_said, own_calls, parcel_calls, both}
+use Rattle.net_sim.proofs.lemmas.AllOurs.{happened}
 use Rattle.reset_law.specs.Network.{all_ours}
 use Rattle.interface.specs.Mailboxes as mail
 use Rattle.interface.specs.declared.crossing.Crossing.TheVariants as crossing
@@ -37,7 +38,7 @@ module _ (number : ℕ → ℕ → ℕ → ℕ) (tells : IsTelling number) (host
   -- the calls of a moment at which the host keeps its ends, upon those before it
   pub history_at : (x : Moment) (ms : List Moment) (cs : List calls.Moment) → mail.IsRun hosts (crossings_of (x ∷ ms)) → IsTimeline hosts (x ∷ ms) → keeps a b (event_in x) (events_of ms) ≡ true → calls_by a b x ms ≡ cs → IsHistory b (cs ++ own_calls a b ms)
   history_at x ms cs run time on is =
-      let h : IsHistory b (own_calls a b (x ∷ ms)) = (chain hosts addresses (x ∷ ms) run time a b).0 in
+      let h : IsHistory b (own_calls a b (x ∷ ms)) = (chain (all_ours hosts) addresses (x ∷ ms) run (happened hosts (x ∷ ms) time) a b (refl, refl)).0 in
       subst (λ (ks : List calls.Moment). IsHistory b (ks ++ own_calls a b ms)) is (rw on at h)
 
   pub allowed_at : (x : Moment) (ms : List Moment) (cs : List calls.Moment) → mail.IsRun hosts (crossings_of (x ∷ ms)) → IsTimeline hosts (x ∷ ms) → keeps a b (event_in x) (events_of ms) ≡ true → calls_by a b x ms ≡ cs → AllAllowed number tells a b (cs ++ own_calls a b ms)

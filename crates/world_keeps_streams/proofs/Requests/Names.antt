@@ -11,7 +11,7 @@ use Rattle.world_keeps_pairing.specs.Free.{origin_or}
 use Rattle.world_keeps_pairing.specs.Lives.{with_lives}
 use Rattle.world_keeps_pairing.proofs.lemmas.AllOurs.{life_matches, lives_among, partner_named}
 use Rattle.world_keeps_pairing.proofs.lemmas.{between_itself, by_sockets, in_among, one_own, place_there, told_in}
-use Rattle.world_keeps_streams.proofs.Requests.Sides.{Lawful, Own, Heard, coupled_in, lives_in, same_request}
+use Rattle.world_keeps_streams.proofs.Requests.Sides.{Lawful, Own, Heard, coupled_in, lives_in, same_request, lawful_among}
 
 some_place : (x : book.Life) (o : Option ℕ) → IsSome (named x o) → (p : ℕ) × (o ≡ Some p)
 some_place x None i = absurd (let none : false ≡ true = i in cc)
@@ -82,4 +82,4 @@ module _ (hosts : List Host) (ms : List Moment) (l : Lawful hosts ms) where
       → Own a b ms x.socket x.foreign x.own_stamp g → Heard a b ms s.foreign s.socket s.partner_stamp g → Match (crossings_of ms) x s
   matched a b x s g here there of_a of_b ends receiving own heard =
       let taken : Heard a b ms x.socket x.foreign s.partner_stamp g = subst (λ (n : ℕ). Heard a b ms n x.foreign s.partner_stamp g) (sym ends.0) (subst (λ (n : ℕ). Heard a b ms s.foreign n s.partner_stamp g) (sym ends.1) heard) in
-      matched_by a b x s here there of_b ends receiving (same_request hosts ms l a b x.socket x.foreign x.own_stamp s.partner_stamp g own taken)
+      matched_by a b x s here there of_b ends receiving (same_request (all_ours hosts) ms (lawful_among hosts ms l) a b (refl, refl) x.socket x.foreign x.own_stamp s.partner_stamp g own taken)

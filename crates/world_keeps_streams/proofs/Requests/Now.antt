@@ -1,6 +1,7 @@
 -- The requests of an end that is there, in a host that stays: those of the connection that its sockets' gone ones count.
-use Rattle.world_keeps_streams.proofs.Common.{◌≡◌, ℕ, ◌+◌, ◌==◌, ◌&&◌, ◌||◌, Bool, true, false, List, [], ◌∷◌, Option, Some, None, refl, ap, sym, subst, ◌∙◌, arith, eqb-true, Host, entry_at, is_at, Entry, both, end_of, is_past, standing, gone_now, counted, has_heard, heard_from, End, Sockets, Who, receiver, Mark, Asks, Side, hears, says, Half, Joined, count, stays_same, Event, pair_with, Moment, events_of, program, crossings_of, Coupled, law_events, origin_in, keeps, steps, Tie, all_hears, all_says, all_tied, are_origins, at_texts, foreign_of, half, hears_if, left_if, met_if, other, own_of, receiver_half, sender_half, served_in, own_calls}
-use Rattle.reset_law.specs.Network.{all_ours}
+use Rattle.world_keeps_streams.proofs.Common.{◌≡◌, ℕ, ◌+◌, ◌==◌, ◌&&◌, ◌||◌, Bool, true, false, List, [], ◌∷◌, Option, Some, None, refl, ap, sym, subst, ◌∙◌, arith, eqb-true, Host, entry_at, is_at, Entry, both, end_of, is_past, standing, gone_now, counted, has_heard, heard_from, End, Sockets, Who, receiver, Mark, Asks, Side, hears, says, Half, Joined, count, stays_same, Event, pair_with, Moment, events_of, program, crossings_of, Coupled, law_events, origin_in, keeps, steps, Tie, all_hears, all_says, all_tied, are_origins, at_texts, foreign_of, half, hears_if, left_if, met_if, other, own_of, receiver_half, sender_half, own_calls}
+use Rattle.world_keeps_pairing.proofs.lemmas.{served_in}
+use Rattle.reset_law.specs.Network.{AreOurs, Network}
 use Rattle.pairing_law.specs.Links.{Receiver, Sender}
 use Rattle.pairing_law.specs.Marks.{closes}
 use Rattle.pairing_law.proofs.lemmas.{Balanced}
@@ -8,7 +9,7 @@ use Rattle.reset_law.specs.Stays as stay
 use Rattle.world_keeps_pairing.proofs.lemmas.{IsPair, before}
 use Rattle.world_keeps_streams.proofs.Deeds.Effects.{Among, found_among}
 use Rattle.world_keeps_streams.proofs.Lives.Left.{entry_end}
-use Rattle.world_keeps_streams.proofs.Requests.Sides.{Heard, Lawful, coupled_in, law_joined}
+use Rattle.world_keeps_streams.proofs.Requests.Sides.{Heard, LawfulAmong, coupled_among, law_joined}
 use Rattle.world_keeps_streams.proofs.Heard.Calls.{closes_in}
 use Rattle.world_keeps_streams.proofs.Heard.Run.{heard_closes}
 
@@ -72,7 +73,7 @@ now_at said heard kept x g pc b same taken counts =
 abbrev pub Counts : Host → Host → List Moment → Type 0
 Counts h p ms = (foreign own : ℕ) → closes_in foreign own (own_calls h p ms) ≡ heard_from (gone_now p (own_calls h p ms)) (pair_with p (program h ms).peers).entries foreign own
 
-module _ (hosts : List Host) (ms : List Moment) (l : Lawful hosts ms) (s : Sockets) (q : IsPair s) (who : Who) (h p : Host) (counts : Counts h p ms) (stays : stay.stays h p (events_of ms) ≡ true)
+module _ (hosts : Network) (ms : List Moment) (l : LawfulAmong hosts ms) (s : Sockets) (q : IsPair s) (who : Who) (h p : Host) (ours : AreOurs hosts h p) (counts : Counts h p ms) (stays : stay.stays h p (events_of ms) ≡ true)
     (tie : Tie s q who h p (origin_in (crossings_of ms) h p) ms) (other_side : Side) (floor above : ℕ) (law : Half floor above (half h p (at_texts s who) (at_texts s (other who)) (law_events ms)) other_side)
     (e : Entry) (found : entry_at (own_of who s) (foreign_of who s) (pair_with p (program h ms).peers).entries ≡ Some e) where
   place : Among e (pair_with p (program h ms).peers).entries × (is_at (own_of who s) (foreign_of who s) e ≡ true)
@@ -88,7 +89,7 @@ module _ (hosts : List Host) (ms : List Moment) (l : Lawful hosts ms) (s : Socke
 
   counted_here : closes (half h p (at_texts s who) (at_texts s (other who)) (law_events ms)).heard ≡ counted e.partner_closed (gone_now p (own_calls h p ms) (own_of who s) (foreign_of who s))
   counted_here =
-      heard_closes s q who hosts h p ms l stays ∙ counts (foreign_of who s) (own_of who s)
+      heard_closes s q who hosts h p ours ms l stays ∙ counts (foreign_of who s) (own_of who s)
       ∙ ap (λ (o : Option Entry). counted (has_heard o) (gone_now p (own_calls h p ms) (own_of who s) (foreign_of who s))) found
 
   now : Now (half h p (at_texts s who) (at_texts s (other who)) (law_events ms)).said (half h p (at_texts s who) (at_texts s (other who)) (law_events ms)).heard
@@ -108,38 +109,38 @@ module _ (hosts : List Host) (ms : List Moment) (l : Lawful hosts ms) (s : Socke
 
 -- ---- both hosts
 
-module _ (hosts : List Host) (ms : List Moment) (l : Lawful hosts ms) (a b : Host) (s : Sockets) (q : IsPair s) where
+module _ (hosts : Network) (ms : List Moment) (l : LawfulAmong hosts ms) (a b : Host) (ours : AreOurs hosts a b) (s : Sockets) (q : IsPair s) where
   pub joined_halves : Joined (half a b (at_texts s Receiver) (at_texts s Sender) (law_events ms)) (half b a (at_texts s Sender) (at_texts s Receiver) (law_events ms))
   joined_halves =
       subst (λ (x : Side). Joined x (half b a (at_texts s Sender) (at_texts s Receiver) (law_events ms))) (receiver_half s a b (law_events ms))
-      (subst (λ (y : Side). Joined (receiver s (steps a b (law_events ms))) y) (sender_half s a b (law_events ms)) (law_joined hosts ms l a b s))
+      (subst (λ (y : Side). Joined (receiver s (steps a b (law_events ms))) y) (sender_half s a b (law_events ms)) (law_joined hosts ms l a b ours s))
 
   -- the receiver heard the request that one of its ends has
   pub heard_there : Counts a b ms → stay.stays a b (events_of ms) ≡ true → (f : Entry) → entry_at s.receive s.send (pair_with b (program a ms).peers).entries ≡ Some f → (t : ℕ) → f.partner ≡ Some t
       → Asks (gone_now b (own_calls a b ms) s.receive s.send) (origin_in (crossings_of ms) a b t) (half a b (at_texts s Receiver) (at_texts s Sender) (law_events ms)).heard
   heard_there counts stays f found t partner =
-      let c : Coupled (all_ours hosts) ms = coupled_in hosts ms l in
+      let c : Coupled hosts ms = coupled_among hosts ms l in
       let j : Joined (half a b (at_texts s Receiver) (at_texts s Sender) (law_events ms)) (half b a (at_texts s Sender) (at_texts s Receiver) (law_events ms)) = joined_halves in
-      partner_here hosts ms l s q Receiver a b counts stays
-      (((all_tied (all_ours hosts) (origin_in (crossings_of ms)) ms (are_origins 0 (crossings_of ms) [] ms refl) c.story c.run (served_in hosts ms l.2)).tied a b (refl, refl)).receiver s q)
+      partner_here hosts ms l s q Receiver a b ours counts stays
+      (((all_tied hosts (origin_in (crossings_of ms)) ms (are_origins 0 (crossings_of ms) [] ms refl) c.story c.run (served_in hosts ms l.2)).tied a b ours).receiver s q)
       (half b a (at_texts s Sender) (at_texts s Receiver) (law_events ms)) j.floor j.other j.here f found t partner
 
   -- and the sender hasn't said that of an end which has none
   pub unsaid_there : Counts b a ms → stay.stays b a (events_of ms) ≡ true → (e : Entry) → entry_at s.send s.receive (pair_with a (program b ms).peers).entries ≡ Some e → e.asked ≡ None
       → (n : ℕ) → Asks (gone_now a (own_calls b a ms) s.send s.receive) n (half b a (at_texts s Sender) (at_texts s Receiver) (law_events ms)).said → ⊥
   unsaid_there counts stays e found none =
-      let c : Coupled (all_ours hosts) ms = coupled_in hosts ms l in
+      let c : Coupled hosts ms = coupled_among hosts ms l in
       let j : Joined (half a b (at_texts s Receiver) (at_texts s Sender) (law_events ms)) (half b a (at_texts s Sender) (at_texts s Receiver) (law_events ms)) = joined_halves in
-      unasked_here hosts ms l s q Sender b a counts stays
-      (((all_tied (all_ours hosts) (origin_in (crossings_of ms)) ms (are_origins 0 (crossings_of ms) [] ms refl) c.story c.run (served_in hosts ms l.2)).tied a b (refl, refl)).sender s q)
+      unasked_here hosts ms l s q Sender b a (ours.1, ours.0) counts stays
+      (((all_tied hosts (origin_in (crossings_of ms)) ms (are_origins 0 (crossings_of ms) [] ms refl) c.story c.run (served_in hosts ms l.2)).tied a b ours).sender s q)
       (half a b (at_texts s Receiver) (at_texts s Sender) (law_events ms)) j.other j.floor j.there e found none
 
   pub heard_now : Counts b a ms → stay.stays b a (events_of ms) ≡ true → (e : Entry) → entry_at s.send s.receive (pair_with a (program b ms).peers).entries ≡ Some e → (t : ℕ) → e.partner ≡ Some t
       → Heard a b ms s.receive s.send t (gone_now a (own_calls b a ms) s.send s.receive)
   heard_now counts stays e found t partner =
-      let c : Coupled (all_ours hosts) ms = coupled_in hosts ms l in
+      let c : Coupled hosts ms = coupled_among hosts ms l in
       let j : Joined (half a b (at_texts s Receiver) (at_texts s Sender) (law_events ms)) (half b a (at_texts s Sender) (at_texts s Receiver) (law_events ms)) = joined_halves in
       subst (λ (x : Side). Asks (gone_now a (own_calls b a ms) s.send s.receive) (origin_in (crossings_of ms) b a t) x.heard) (sym (sender_half s a b (law_events ms)))
-      (partner_here hosts ms l s q Sender b a counts stays
-      (((all_tied (all_ours hosts) (origin_in (crossings_of ms)) ms (are_origins 0 (crossings_of ms) [] ms refl) c.story c.run (served_in hosts ms l.2)).tied a b (refl, refl)).sender s q)
+      (partner_here hosts ms l s q Sender b a (ours.1, ours.0) counts stays
+      (((all_tied hosts (origin_in (crossings_of ms)) ms (are_origins 0 (crossings_of ms) [] ms refl) c.story c.run (served_in hosts ms l.2)).tied a b ours).sender s q)
       (half a b (at_texts s Receiver) (at_texts s Sender) (law_events ms)) j.other j.floor j.there e found t partner)

@@ -1,11 +1,11 @@
 -- The own request of a receiving life: it is that of the connection whose partner's request its host took.
-use Rattle.world_keeps_streams.proofs.Common.{◌≡◌, inl, inr, ℕ, ◌<◌, ◌≤◌, ◌&&◌, Bool, true, if◌then◌else◌, List, [], ap, sym, subst, ◌∙◌, arith, Contains, Host, is_receive_socket, is_send_socket, receiver, sender, Asks, IsIn, Side, Joined, Stands, Stood, asks_once, asks_said, every_in, from_asks, Moment, crossings_of, Coupled, law_events, origin_in, life_of, openings, steps, life_in, life_paired, served_in}
+use Rattle.world_keeps_streams.proofs.Common.{◌≡◌, inl, inr, ℕ, ◌<◌, ◌≤◌, ◌&&◌, Bool, true, if◌then◌else◌, List, [], refl, ap, sym, subst, ◌∙◌, arith, Contains, Host, is_receive_socket, is_send_socket, receiver, sender, Asks, IsIn, Side, Joined, Stands, Stood, asks_once, asks_said, every_in, from_asks, Moment, crossings_of, Coupled, law_events, origin_in, life_of, openings, steps, life_in, life_paired, served_in}
 use Rattle.reset_law.specs.Network.{all_ours}
 use Rattle.pairing_law.specs.Sides as law
 use Rattle.promise.specs.declared.life.Life.{Life}
 use Rattle.promise.specs.Safe.{receives}
 use Rattle.world_keeps_streams.proofs.Lives.Lists.{IsOf, contains}
-use Rattle.world_keeps_streams.proofs.Requests.Sides.{Lawful, Own, coupled_in, law_joined, lives_in}
+use Rattle.world_keeps_streams.proofs.Requests.Sides.{Lawful, Own, coupled_in, law_joined, lives_in, lawful_among}
 use Rattle.world_keeps_pairing.proofs.lemmas.{other_sends}
 
 -- an opened end whose partner's request of connection `g` was heard in this stay asked for `g` itself
@@ -38,7 +38,7 @@ module _ (hosts : List Host) (ms : List Moment) (l : Lawful hosts ms) where
   own_at x g there r took =
       let c : Coupled (all_ours hosts) ms = coupled_in hosts ms l in
       stood_own (receiver (record { receive = x.socket; send = x.foreign }) (steps x.host x.peer (law_events ms))) (sender (record { receive = x.socket; send = x.foreign }) (steps x.host x.peer (law_events ms)))
-      (life_of (origin_in (crossings_of ms) x.host x.peer) x) g (law_joined hosts ms l x.host x.peer (record { receive = x.socket; send = x.foreign }))
+      (life_of (origin_in (crossings_of ms) x.host x.peer) x) g (law_joined (all_ours hosts) ms (lawful_among hosts ms l) x.host x.peer (refl, refl) (record { receive = x.socket; send = x.foreign }))
       (receiver_in (life_of (origin_in (crossings_of ms) x.host x.peer) x) x ms r (other_sends x r (life_paired hosts ms c.story c.run l.1 (served_in hosts ms l.2) x there))
       (life_in hosts ms c.story c.run l.1 (served_in hosts ms l.2) 0 x there)) took
 

@@ -1,6 +1,8 @@
 -- Where two hosts of a world meet both streams begin.
-use Rattle.world_keeps_streams.proofs.Common.{◌≡◌, ℕ, ◌==◌, Bool, true, false, not, ◌&&◌, if◌then◌else◌, List, [], ◌∷◌, ◌++◌, refl, ap, sym, subst, ◌∙◌, Host, same_host, HostMessage, same_host-true, Command, PairState, ends_now, Message, In, pair, begins, ready, takes_reset, begins_either, contradicts, Fresh, begins_fresh, accepted, pair_with, HaveAddresses, Asked, Crossed, Moment, event_in, events_of, places, program, IsTimeline, crossings_of, Coupled, by_request, coupled, program_own, keeps, AText, AnRrp, AnRst, Sort, mail_below, sort_of, calls_by, own_calls}
-use Rattle.reset_law.specs.Network.{all_ours}
+use Rattle.world_keeps_streams.proofs.Common.{◌≡◌, ℕ, ◌==◌, Bool, true, false, not, ◌&&◌, if◌then◌else◌, List, [], ◌∷◌, ◌++◌, refl, ap, sym, subst, ◌∙◌, Host, same_host, HostMessage, same_host-true, Command, PairState, ends_now, Message, In, pair, begins, ready, takes_reset, begins_either, contradicts, Fresh, begins_fresh, accepted, pair_with, HaveAddresses, Asked, Crossed, Moment, event_in, events_of, places, program, crossings_of, Coupled, by_request, program_own, keeps, AText, AnRrp, AnRst, Sort, mail_below, sort_of, calls_by, own_calls}
+use Rattle.net_sim.proofs.lemmas.{coupled}
+use Rattle.reset_law.specs.Network.{AreOurs, Network}
+use Rattle.net_sim.specs.Mixed.{Happened}
 use Rattle.interface.specs.Mailboxes as mail
 use Rattle.interface.specs.declared.crossing.Crossing.TheVariants as crossing
 use Rattle.interface.specs.declared.crossing.Inbound.TheVariants as inbound
@@ -43,19 +45,19 @@ drops a b (Asked h r) moments takes =
 
 -- ---- what it does afterwards, until its peer has met it
 
-module _ (hosts : List Host) (addresses : HaveAddresses hosts) (a b : Host) where
+module _ (hosts : Network) (addresses : HaveAddresses hosts.all) (a b : Host) (ours : AreOurs hosts a b) where
   abbrev Solo : List Moment → Type 0
   Solo moments = IsSolo b (own_calls a b moments) (pair_with b (program a moments).peers).queue
 
-  leaves_empty : (x : Moment) (moments : List Moment) → mail.IsRun hosts (crossings_of (x ∷ moments)) → IsTimeline hosts (x ∷ moments) → keeps a b (event_in x) (events_of moments) ≡ false
+  leaves_empty : (x : Moment) (moments : List Moment) → mail.IsRun hosts.all (crossings_of (x ∷ moments)) → Happened hosts (x ∷ moments) → keeps a b (event_in x) (events_of moments) ≡ false
       → (pair_with b (program a (x ∷ moments)).peers).queue ≡ []
   leaves_empty x moments run time left = by (ready a b (events_of (x ∷ moments))) (takes_reset a b (event_in x)) refl refl left where
     by : (r t : Bool) → ready a b (events_of (x ∷ moments)) ≡ r → takes_reset a b (event_in x) ≡ t → (r && not t) ≡ false → (pair_with b (program a (x ∷ moments)).peers).queue ≡ []
     by true true e f g = drops a b x moments f
     by true false e f g = absurd (let no : true ≡ false = g in cc)
-    by false t e f g = (idle hosts addresses (x ∷ moments) run time a b (sym (ready_both hosts a b (x ∷ moments) (coupled hosts addresses (x ∷ moments) run time).story) ∙ e)).1
+    by false t e f g = (idle hosts addresses (x ∷ moments) run time a b ours (sym (ready_both hosts a b (x ∷ moments) ours (coupled hosts addresses (x ∷ moments) run time).story) ∙ e)).1
 
-  none_left : (x : Moment) (moments : List Moment) → mail.IsRun hosts (crossings_of (x ∷ moments)) → IsTimeline hosts (x ∷ moments) → keeps a b (event_in x) (events_of moments) ≡ false → Solo (x ∷ moments)
+  none_left : (x : Moment) (moments : List Moment) → mail.IsRun hosts.all (crossings_of (x ∷ moments)) → Happened hosts (x ∷ moments) → keeps a b (event_in x) (events_of moments) ≡ false → Solo (x ∷ moments)
   none_left x moments run time left =
       subst (λ (v : Bool). IsSolo b (if v then calls_by a b x moments ++ own_calls a b moments else []) (pair_with b (program a (x ∷ moments)).peers).queue) (sym left)
       (subst (λ (cs : List Command). IsSolo b [] cs) (sym (leaves_empty x moments run time left)) (no_more []))
@@ -76,13 +78,13 @@ module _ (hosts : List Host) (addresses : HaveAddresses hosts) (a b : Host) wher
   Waits moments = stays a b (events_of moments) ≡ false → (pair a b (events_of moments)).begun ≡ false → Solo moments
 
   -- after one moment more, also where it begins to stay
-  solo_next : (x : Moment) (moments : List Moment) → mail.IsRun hosts (crossings_of (x ∷ moments)) → IsTimeline hosts (x ∷ moments) → Waits moments → stays a b (events_of moments) ≡ false
+  solo_next : (x : Moment) (moments : List Moment) → mail.IsRun hosts.all (crossings_of (x ∷ moments)) → Happened hosts (x ∷ moments) → Waits moments → stays a b (events_of moments) ≡ false
       → (pair a b (events_of (x ∷ moments))).begun ≡ false → Solo (x ∷ moments)
   solo_next x moments run time old left silent = by (keeps a b (event_in x) (events_of moments)) refl where
-    below : mail.IsRun hosts (crossings_of moments)
-    below = mail_below hosts x moments run
+    below : mail.IsRun hosts.all (crossings_of moments)
+    below = mail_below hosts.all x moments run
 
-    now : Coupled (all_ours hosts) (x ∷ moments)
+    now : Coupled hosts (x ∷ moments)
     now = coupled hosts addresses (x ∷ moments) run time
 
     by : (k : Bool) → keeps a b (event_in x) (events_of moments) ≡ k → Solo (x ∷ moments)
@@ -90,12 +92,12 @@ module _ (hosts : List Host) (addresses : HaveAddresses hosts) (a b : Host) wher
     by true k =
         let before : (pair a b (events_of moments)).begun ≡ false = silent_before a b (event_in x) (events_of moments) k silent in
         subst (λ (v : Bool). IsSolo b (if v then calls_by a b x moments ++ own_calls a b moments else []) (pair_with b (program a (x ∷ moments)).peers).queue) (sym k)
-        (grows x moments (calls_by a b x moments) (calm a b hosts moments (coupled hosts addresses moments below time.1) x now.story now.run k left silent)
-        (may_calls hosts addresses x moments run time a b) (chain hosts addresses moments below time.1 a b).1 (old left before))
+        (grows x moments (calls_by a b x moments) (calm a b hosts moments (coupled hosts addresses moments below time.1) ours x now.story now.run k left silent)
+        (may_calls hosts addresses x moments run time a b ours) (chain hosts addresses moments below time.1 a b ours).1 (old left before))
 
-  solo : (moments : List Moment) → mail.IsRun hosts (crossings_of moments) → IsTimeline hosts moments → Waits moments
+  solo : (moments : List Moment) → mail.IsRun hosts.all (crossings_of moments) → Happened hosts moments → Waits moments
   solo [] run time left silent = no_more []
-  solo (x ∷ moments) run time left silent = by (keeps a b (event_in x) (events_of moments)) refl (solo moments (mail_below hosts x moments run) time.1) where
+  solo (x ∷ moments) run time left silent = by (keeps a b (event_in x) (events_of moments)) refl (solo moments (mail_below hosts.all x moments run) time.1) where
     by : (k : Bool) → keeps a b (event_in x) (events_of moments) ≡ k → Waits moments → Solo (x ∷ moments)
     by false k old = none_left x moments run time k
     by true k old = solo_next x moments run time old (was (stays a b (events_of moments)) refl) silent where
@@ -104,27 +106,27 @@ module _ (hosts : List Host) (addresses : HaveAddresses hosts) (a b : Host) wher
       was true e = absurd (contradicts (stays a b (events_of (x ∷ moments))) (goes_on a b (event_in x) (events_of moments) k e) left)
 
   -- where it begins to stay
-  pub solo_there : (x : Moment) (moments : List Moment) → mail.IsRun hosts (crossings_of (x ∷ moments)) → IsTimeline hosts (x ∷ moments) → stays a b (events_of moments) ≡ false
+  pub solo_there : (x : Moment) (moments : List Moment) → mail.IsRun hosts.all (crossings_of (x ∷ moments)) → Happened hosts (x ∷ moments) → stays a b (events_of moments) ≡ false
       → (pair a b (events_of (x ∷ moments))).begun ≡ false → Solo (x ∷ moments)
-  solo_there x moments run time left silent = solo_next x moments run time (solo moments (mail_below hosts x moments run) time.1) left silent
+  solo_there x moments run time left silent = solo_next x moments run time (solo moments (mail_below hosts.all x moments run) time.1) left silent
 
-  alone_there : (x : Moment) (moments : List Moment) (link : ℕ) → (link == 0) ≡ false → mail.IsRun hosts (crossings_of (x ∷ moments)) → IsTimeline hosts (x ∷ moments) → begins a b (event_in x) (events_of moments) ≡ true
+  alone_there : (x : Moment) (moments : List Moment) (link : ℕ) → (link == 0) ≡ false → mail.IsRun hosts.all (crossings_of (x ∷ moments)) → Happened hosts (x ∷ moments) → begins a b (event_in x) (events_of moments) ≡ true
       → Alone a b link (x ∷ moments)
   alone_there x moments link off run time begun =
-      let law : IsRun (all_ours hosts) (events_of (x ∷ moments)) = (coupled hosts addresses (x ∷ moments) run time).run in
-      let f : Fresh a b (event_in x) (events_of moments) = begins_fresh (all_ours hosts) (event_in x) (events_of moments) law a b (refl, refl) begun in
+      let law : IsRun hosts (events_of (x ∷ moments)) = (coupled hosts addresses (x ∷ moments) run time).run in
+      let f : Fresh a b (event_in x) (events_of moments) = begins_fresh hosts (event_in x) (events_of moments) law a b ours begun in
       record {
         stays = begins_stays a b (event_in x) (events_of moments) begun;
         solo = solo_there x moments run time f.left f.silent;
-        ends = (chain hosts addresses (x ∷ moments) run time a b).1;
-        control = (free_control hosts (event_in x) (events_of moments) law a b begun).0;
-        free = (free_links hosts (event_in x) (events_of moments) law a b begun link off).0;
+        ends = (chain hosts addresses (x ∷ moments) run time a b ours).1;
+        control = (free_control hosts (event_in x) (events_of moments) law a b ours begun).0;
+        free = (free_links hosts (event_in x) (events_of moments) law a b ours begun link off).0;
       }
 
 -- ---- both
 
-pub meets : (link : ℕ) → (link == 0) ≡ false → (hosts : List Host) → HaveAddresses hosts → (a b : Host) → (x : Moment) (moments : List Moment) → mail.IsRun hosts (crossings_of (x ∷ moments)) → IsTimeline hosts (x ∷ moments)
+pub meets : (link : ℕ) → (link == 0) ≡ false → (hosts : Network) → HaveAddresses hosts.all → (a b : Host) → AreOurs hosts a b → (x : Moment) (moments : List Moment) → mail.IsRun hosts.all (crossings_of (x ∷ moments)) → Happened hosts (x ∷ moments)
     → begins a b (event_in x) (events_of moments) ≡ true → Joined a b link (x ∷ moments)
-meets link off hosts addresses a b x moments run time begun =
-    met link off a b (x ∷ moments) (alone_there hosts addresses a b x moments link off run time begun)
-    (alone_there hosts addresses b a x moments link off run time (sym (begins_either a b (event_in x) (events_of moments)) ∙ begun))
+meets link off hosts addresses a b ours x moments run time begun =
+    met link off a b (x ∷ moments) (alone_there hosts addresses a b ours x moments link off run time begun)
+    (alone_there hosts addresses b a (ours.1, ours.0) x moments link off run time (sym (begins_either a b (event_in x) (events_of moments)) ∙ begun))

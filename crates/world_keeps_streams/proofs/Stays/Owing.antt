@@ -1,6 +1,6 @@
 -- A host that stays and owes an RRP has said nothing since its stay began; so a text fails only where its sender leaves.
 use Rattle.world_keeps_streams.proofs.Common.{◌≡◌, ◌⊎◌, ℕ, Bool, false, List, [], ◌∷◌, Some, refl, inl, inr, Host, same_host, Answer, failed_phase, is_ready, Phase, Want, Gone, Heard, Ready, Message, Other, Event, Contact, Out, In, Told, Down, Up, Idle, Take, Hear, when, are, place, Put, Fetch, Clear, ClearAll, boxes, Pair, MaySend, pair_moved, pair, kind_in, ready, begins, takes_reset, NoPlain, begin_quiet, carry, keeps}
-use Rattle.reset_law.specs.Network.{all_ours}
+use Rattle.reset_law.specs.Network.{AreOurs, Network}
 use Rattle.reset_law.specs.Pairs.{Plain}
 use Rattle.std.proofs.Common.{true}
 use Rattle.interface.specs.declared.crossing.Answer.TheVariants as answer
@@ -30,31 +30,31 @@ not_taken a b x y l (Other text) e is = absurd (cc)
 abbrev OwesSilent : Host → Host → List Event → Type 0
 OwesSilent a b events = (pair a b events).owed ≡ true → NoPlain (boxes a b events)
 
-owes_step : (hosts : List Host) (e : Event) (events : List Event) → IsRun (all_ours hosts) (e ∷ events) → (a b : Host) → takes_reset a b e ≡ false → OwesSilent a b events → OwesSilent a b (e ∷ events)
-owes_step hosts (Contact x y) events r a b none h owed = h (owed_call (are a b x y) (pair a b events) owed)
-owes_step hosts (Out x y l m) events r a b none h owed =
+owes_step : (hosts : Network) (e : Event) (events : List Event) → IsRun hosts (e ∷ events) → (a b : Host) → AreOurs hosts a b → takes_reset a b e ≡ false → OwesSilent a b events → OwesSilent a b (e ∷ events)
+owes_step hosts (Contact x y) events r a b ours none h owed = h (owed_call (are a b x y) (pair a b events) owed)
+owes_step hosts (Out x y l m) events r a b ours none h owed =
     let old : (pair a b events).owed ≡ true = (owed_sent (are a b x y) l m (pair a b events) owed).0 in
     plain_if (are a b x y) (Put l m) (place events) (boxes a b events)
-    (λ e. plain_put (boxes a b events) l (place events) m (sends_signal l m (pair a b events) old (carry (λ v w. MaySend (pair v w events) l m) a b x y e (r.1 (refl, refl)))) (h old)) (h old)
-owes_step hosts (In x y l m) events r a b none h owed =
+    (λ e. plain_put (boxes a b events) l (place events) m (sends_signal l m (pair a b events) old (carry (λ v w. AreOurs hosts v w → MaySend (pair v w events) l m) a b x y e r.1 ours)) (h old)) (h old)
+owes_step hosts (In x y l m) events r a b ours none h owed =
     let old : (pair a b events).owed ≡ true = owed_taken (are a b y x) m (pair a b events) (not_taken a b x y l m none) owed in
     plain_if (are a b x y) (Fetch l) (place events) (boxes a b events) (λ e. plain_fetched (boxes a b events) l (h old)) (h old)
-owes_step hosts (Told x y l k) events r a b none h owed =
+owes_step hosts (Told x y l k) events r a b ours none h owed =
     let old : (pair a b events).owed ≡ true = owed_told (are a b x y) l k (pair a b events) owed in
     plain_if (are a b x y) (Clear l) (place events) (boxes a b events) (λ e. plain_cleared (boxes a b events) l (h old)) (h old)
-owes_step hosts (Down x) events r a b none h owed = h (owed_begin (same_host a x) (pair a b events) owed)
-owes_step hosts (Up x) events r a b none h owed =
+owes_step hosts (Down x) events r a b ours none h owed = h (owed_begin (same_host a x) (pair a b events) owed)
+owes_step hosts (Up x) events r a b ours none h owed =
     plain_if (same_host a x) ClearAll (place events) (boxes a b events) (λ e k plain. absurd (cc)) (h (owed_begin (same_host a x) (pair a b events) owed))
-owes_step hosts Idle events r a b none h owed = h owed
+owes_step hosts Idle events r a b ours none h owed = h owed
 
-owes_silent : (hosts : List Host) (events : List Event) → IsRun (all_ours hosts) events → (a b : Host) → stays a b events ≡ true → (pair a b events).owed ≡ true → NoPlain (boxes a b events)
-owes_silent hosts [] r a b s owed = absurd (cc)
-owes_silent hosts (e ∷ events) r a b s owed = by (begins a b e events) refl (owes_silent hosts events r.2 a b) where
+owes_silent : (hosts : Network) (events : List Event) → IsRun hosts events → (a b : Host) → AreOurs hosts a b → stays a b events ≡ true → (pair a b events).owed ≡ true → NoPlain (boxes a b events)
+owes_silent hosts [] r a b ours s owed = absurd (cc)
+owes_silent hosts (e ∷ events) r a b ours s owed = by (begins a b e events) refl (owes_silent hosts events r.2 a b ours) where
   by : (t : Bool) → begins a b e events ≡ t → (stays a b events ≡ true → OwesSilent a b events) → NoPlain (boxes a b (e ∷ events))
-  by true begun rest = (begin_quiet (all_ours hosts) e events r a b (refl, refl) begun).0
+  by true begun rest = (begin_quiet hosts e events r a b ours begun).0
   by false old rest =
       let kept : (keeps a b e events ≡ true) × (stays a b events ≡ true) = stays_on a b e events s old in
-      owes_step hosts e events r a b (not_both (ready a b (e ∷ events)) (takes_reset a b e) kept.0) (rest kept.1) owed
+      owes_step hosts e events r a b ours (not_both (ready a b (e ∷ events)) (takes_reset a b e) kept.0) (rest kept.1) owed
 
 -- ---- answers
 
@@ -74,9 +74,9 @@ told_owed true l answer.NotTaken p is e = inr (failed_owed p.phase p.owed e)
 told_owed false l k p is e = absurd (cc)
 
 -- an answer about a text after which its sender is still ready is the RFNM
-pub told_rfnm : (hosts : List Host) (x y : Host) (l : ℕ) (k : Answer) (events : List Event) → IsRun (all_ours hosts) (Told x y l k ∷ events) → (a b : Host) → are a b x y ≡ true → stays a b events ≡ true
+pub told_rfnm : (hosts : Network) (x y : Host) (l : ℕ) (k : Answer) (events : List Event) → IsRun hosts (Told x y l k ∷ events) → (a b : Host) → AreOurs hosts a b → are a b x y ≡ true → stays a b events ≡ true
     → ready a b (Told x y l k ∷ events) ≡ true → kind_in (boxes a b events l) ≡ Some Plain → k ≡ answer.Rfnm
-told_rfnm hosts x y l k events r a b same s now plain = elim (told_owed (are a b x y) l k (pair a b events) same now) [
+told_rfnm hosts x y l k events r a b ours same s now plain = elim (told_owed (are a b x y) l k (pair a b events) same now) [
   | inl is ↦ is
-  | inr owed ↦ absurd (owes_silent hosts events r.2 a b s owed l plain)
+  | inr owed ↦ absurd (owes_silent hosts events r.2 a b ours s owed l plain)
 ]

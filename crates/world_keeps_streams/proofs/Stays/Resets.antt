@@ -1,6 +1,6 @@
 -- What the law of resets says of a stay: how it begins, who says what in it, and what is outstanding.
 use Rattle.world_keeps_streams.proofs.Common.{◌≡◌, ℕ, Bool, true, false, not, ◌&&◌, ◌||◌, ◌==◌, List, [], ◌∷◌, Option, Some, None, is_some, refl, ap, sym, ◌∙◌, eq-eqb, Host, is_busy, PairState, Other, Event, Out, boxes, pair, kind_in, is_signal, ready, begins, takes_reset, NoPlain, alone_run, begin_quiet, contradicts, ready_phase, sound_run, stays_ready, Agrees, keeps}
-use Rattle.reset_law.specs.Network.{all_ours}
+use Rattle.reset_law.specs.Network.{AreOurs, Network}
 use Rattle.reset_law.specs.Pairs.{Plain}
 use Rattle.std.proofs.Common.{◌≢◌}
 use Rattle.reset_law.specs.Events.{Reset, Reply, is_up}
@@ -12,13 +12,13 @@ use Rattle.reset_law.proofs.lemmas.{empty_kind, joint_stays, phase_ready, ready_
 use Rattle.world_keeps_streams.proofs.Steps.Joined.{commands_in}
 
 -- who says something outside of a stay has a peer that isn't in one
-pub out_alone : (hosts : List Host) (a b : Host) (l : ℕ) (text : List Bool) (events : List Event) → IsRun (all_ours hosts) (Out a b l (Other text) ∷ events) → stays a b events ≡ false → stays b a events ≡ false
-out_alone hosts a b l text events r left = by (stays b a events) refl where
+pub out_alone : (hosts : Network) (a b : Host) → AreOurs hosts a b → (l : ℕ) (text : List Bool) (events : List Event) → IsRun hosts (Out a b l (Other text) ∷ events) → stays a b events ≡ false → stays b a events ≡ false
+out_alone hosts a b ours l text events r left = by (stays b a events) refl where
   by : (v : Bool) → stays b a events ≡ v → stays b a events ≡ false
   by false e = e
   by true e =
-      let both : joint a b events ≡ true = rw (phase_ready (pair a b events).phase (r.1 (refl, refl)).0, stays_ready events b a e) refl in
-      absurd (contradicts (stays a b events) (joint_stays (all_ours hosts) events r.2 a b (refl, refl) both) left)
+      let both : joint a b events ≡ true = rw (phase_ready (pair a b events).phase (r.1 ours).0, stays_ready events b a e) refl in
+      absurd (contradicts (stays a b events) (joint_stays hosts events r.2 a b ours both) left)
 
 -- ---- events with which a stay continues, or ends
 
@@ -71,10 +71,10 @@ no_commands (Waiting p (Other text)) none = absurd (none refl)
 no_commands (Taken p m) none = refl
 
 -- on a connection's link nothing is outstanding but texts
-away_empty : (hosts : List Host) (events : List Event) → IsRun (all_ours hosts) events → (a b : Host) (l : ℕ) → (l == 0) ≡ false → kind_in (boxes a b events l) ≢ Some Plain → boxes a b events l ≡ Empty
-away_empty hosts events r a b l off none = empty_kind (boxes a b events l) (by (kind_in (boxes a b events l)) refl) where
+away_empty : (hosts : Network) (events : List Event) → IsRun hosts events → (a b : Host) → AreOurs hosts a b → (l : ℕ) → (l == 0) ≡ false → kind_in (boxes a b events l) ≢ Some Plain → boxes a b events l ≡ Empty
+away_empty hosts events r a b ours l off none = empty_kind (boxes a b events l) (by (kind_in (boxes a b events l)) refl) where
   signal : (k : Kind) → is_signal (Some k) ≡ true → kind_in (boxes a b events l) ≡ Some k → ⊥
-  signal k is e = contradicts (l == 0) (eq-eqb l 0 ((alone_run (all_ours hosts) events r a b (refl, refl)).on_zero l (ap is_signal e ∙ is))) off
+  signal k is e = contradicts (l == 0) (eq-eqb l 0 ((alone_run hosts events r a b ours).on_zero l (ap is_signal e ∙ is))) off
 
   by : (k : Option Kind) → kind_in (boxes a b events l) ≡ k → kind_in (boxes a b events l) ≡ None
   by None e = e
@@ -82,30 +82,30 @@ away_empty hosts events r a b l off none = empty_kind (boxes a b events l) (by (
   by (Some Rst) e = absurd (signal Rst refl e)
   by (Some Rrp) e = absurd (signal Rrp refl e)
 
-pub free_links : (hosts : List Host) (e : Event) (events : List Event) → IsRun (all_ours hosts) (e ∷ events) → (a b : Host) → begins a b e events ≡ true → (l : ℕ) → (l == 0) ≡ false
+pub free_links : (hosts : Network) (e : Event) (events : List Event) → IsRun hosts (e ∷ events) → (a b : Host) → AreOurs hosts a b → begins a b e events ≡ true → (l : ℕ) → (l == 0) ≡ false
     → (boxes a b (e ∷ events) l ≡ Empty) × (boxes b a (e ∷ events) l ≡ Empty)
-free_links hosts e events r a b begun l off =
-    let q : NoPlain (boxes a b (e ∷ events)) × NoPlain (boxes b a (e ∷ events)) = begin_quiet (all_ours hosts) e events r a b (refl, refl) begun in
-    (away_empty hosts (e ∷ events) r a b l off (q.0 l), away_empty hosts (e ∷ events) r b a l off (q.1 l))
+free_links hosts e events r a b ours begun l off =
+    let q : NoPlain (boxes a b (e ∷ events)) × NoPlain (boxes b a (e ∷ events)) = begin_quiet hosts e events r a b ours begun in
+    (away_empty hosts (e ∷ events) r a b ours l off (q.0 l), away_empty hosts (e ∷ events) r b a (ours.1, ours.0) l off (q.1 l))
 
-pub free_control : (hosts : List Host) (e : Event) (events : List Event) → IsRun (all_ours hosts) (e ∷ events) → (a b : Host) → begins a b e events ≡ true
+pub free_control : (hosts : Network) (e : Event) (events : List Event) → IsRun hosts (e ∷ events) → (a b : Host) → AreOurs hosts a b → begins a b e events ≡ true
     → (commands_in (boxes a b (e ∷ events) 0) ≡ []) × (commands_in (boxes b a (e ∷ events) 0) ≡ [])
-free_control hosts e events r a b begun =
-    let q : NoPlain (boxes a b (e ∷ events)) × NoPlain (boxes b a (e ∷ events)) = begin_quiet (all_ours hosts) e events r a b (refl, refl) begun in
+free_control hosts e events r a b ours begun =
+    let q : NoPlain (boxes a b (e ∷ events)) × NoPlain (boxes b a (e ∷ events)) = begin_quiet hosts e events r a b ours begun in
     (no_commands (boxes a b (e ∷ events) 0) (q.0 0), no_commands (boxes b a (e ∷ events) 0) (q.1 0))
 
 -- ---- what a host that is up knows of its boxes
 
-box_free : (hosts : List Host) (events : List Event) → IsRun (all_ours hosts) events → (a b : Host) → is_up hosts a events ≡ true → (l : ℕ) → (pair a b events).out l ≡ None → boxes a b events l ≡ Empty
-box_free hosts events r a b up l none = empty_kind (boxes a b events l) (sym ((sound_run (all_ours hosts) events r a b (refl, refl) up).outstanding.boxed l) ∙ none)
+box_free : (hosts : Network) (events : List Event) → IsRun hosts events → (a b : Host) → AreOurs hosts a b → is_up hosts.all a events ≡ true → (l : ℕ) → (pair a b events).out l ≡ None → boxes a b events l ≡ Empty
+box_free hosts events r a b ours up l none = empty_kind (boxes a b events l) (sym ((sound_run hosts events r a b ours up).outstanding.boxed l) ∙ none)
 
 -- the same, by its program
-pub box_busy : (hosts : List Host) (events : List Event) → IsRun (all_ours hosts) events → (a b : Host) → is_up hosts a events ≡ true → (q : PairState) → Agrees q (pair a b events) → (l : ℕ) → is_busy q.busy l ≡ false → boxes a b events l ≡ Empty
-box_busy hosts events r a b up q agrees l free = box_free hosts events r a b up l (by ((pair a b events).out l) refl) where
+pub box_busy : (hosts : Network) (events : List Event) → IsRun hosts events → (a b : Host) → AreOurs hosts a b → is_up hosts.all a events ≡ true → (q : PairState) → Agrees q (pair a b events) → (l : ℕ) → is_busy q.busy l ≡ false → boxes a b events l ≡ Empty
+box_busy hosts events r a b ours up q agrees l free = box_free hosts events r a b ours up l (by ((pair a b events).out l) refl) where
   by : (o : Option Kind) → (pair a b events).out l ≡ o → (pair a b events).out l ≡ None
   by None e = e
   by (Some k) e = absurd (contradicts (is_busy q.busy l) (sym (agrees.busy l) ∙ ap is_some e) free)
 
 -- a host that is ready is up
-pub up_ready : (hosts : List Host) (events : List Event) → IsRun (all_ours hosts) events → (a b : Host) → ready a b events ≡ true → is_up hosts a events ≡ true
-up_ready hosts events r a b e = ready_up (all_ours hosts) events r a b (refl, refl) (ready_phase (pair a b events).phase e)
+pub up_ready : (hosts : Network) (events : List Event) → IsRun hosts events → (a b : Host) → AreOurs hosts a b → ready a b events ≡ true → is_up hosts.all a events ≡ true
+up_ready hosts events r a b ours e = ready_up hosts events r a b ours (ready_phase (pair a b events).phase e)

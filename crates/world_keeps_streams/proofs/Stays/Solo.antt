@@ -1,6 +1,6 @@
 -- What a host did since it dropped its ends, where it has said nothing and wasn't in a stay, is what a host does by itself.
 use Rattle.world_keeps_streams.proofs.Common.{◌≡◌, ℕ, Bool, true, false, not, ◌&&◌, if◌then◌else◌, List, [], ◌∷◌, Option, Some, None, refl, ap, sym, subst, ◌∙◌, Host, same_host, Flow, Answer, HostMessage, same_host-true, PairState, Parcel, failed_phase, is_ready, Phase, Want, Gone, Heard, Ready, Message, Other, Event, Contact, Out, In, Told, Down, Up, Idle, Send, Take, Hear, Begin, when, are, boxes, MaySend, pair_moved, pair, ready, takes_reset, carry, contradicts, ready_phase, accepted, turn_of, opening_state, pair_with, served, next_in, offered, Peer, Request, answer_leaves, message_leaves, Agrees, message_on, Asked, Crossed, IsNext, IsStory, Moment, event_in, events_of, places, program, Coupled, program_own, story_agrees, keeps, AText, AnRrp, AnRst, Sort, sort_of, clash, answer_calls, calls_by, message_calls, next_calls, request_calls}
-use Rattle.reset_law.specs.Network.{all_ours}
+use Rattle.reset_law.specs.Network.{AreOurs, Network}
 use Rattle.std.proofs.lemmas.Bool.{and_from}
 use Rattle.interface.specs.declared.crossing.Answer.TheVariants as answer
 use Rattle.interface.specs.declared.crossing.Crossing.TheVariants as crossing
@@ -14,7 +14,7 @@ use Rattle.reset_law.specs.Runs.{IsRun}
 use Rattle.reset_law.specs.Stays.{stays}
 use Rattle.pairing_law.proofs.lemmas.{waits_in_stay}
 use Rattle.world_keeps_streams.proofs.Stays.Calm.{Calm, Calms, answer_calm, offer_calm, reply_calm, request_calm, still}
-use Rattle.world_keeps_streams.proofs.Calls.Chain.{ready_both}
+use Rattle.world_keeps_streams.proofs.Calls.Chain.{ready_both, plain_at}
 use Rattle.world_keeps_streams.proofs.Stays.Owing.{not_taken}
 
 -- ---- nothing was said before either
@@ -84,34 +84,32 @@ module _ (a b : Host) where
   abbrev IsCalm : Moment → List Moment → Type 0
   IsCalm x moments = Calm b (before moments) (before (x ∷ moments)) (calls_by a b x moments)
 
-  module _ (hosts : List Host) (moments : List Moment) (c : Coupled (all_ours hosts) moments) where
+  module _ (hosts : Network) (moments : List Moment) (c : Coupled hosts moments) (ours : AreOurs hosts a b) where
     abbrev events : List Event
     events = events_of moments
 
     own_is : (h : Host) → same_host a h ≡ true → same_host (program a moments).own h ≡ true
     own_is h e = ap (λ (g : Host). same_host g h) (program_own a moments) ∙ e
 
-    out_calm : (m : HostMessage) → IsStory (all_ours hosts) (Crossed (crossing.Out m) ∷ moments) → IsRun (all_ours hosts) (event_in (Crossed (crossing.Out m)) ∷ events) → ready a b (event_in (Crossed (crossing.Out m)) ∷ events) ≡ true
+    out_calm : (m : HostMessage) → IsStory hosts (Crossed (crossing.Out m) ∷ moments) → IsRun hosts (event_in (Crossed (crossing.Out m)) ∷ events) → ready a b (event_in (Crossed (crossing.Out m)) ∷ events) ≡ true
         → (pair a b (event_in (Crossed (crossing.Out m)) ∷ events)).begun ≡ false → IsCalm (Crossed (crossing.Out m)) moments
     out_calm m story run r silent = by (same_host a m.flow.source) refl where
-      n : IsNext (program m.flow.source moments) m
-      n = story.0 refl
-
       owes : same_host a m.flow.source ≡ true → (g : Peer) (x : Parcel) → next_in (program a moments).peers ≡ Some (g, x) → same_host b g.host ≡ true
           → (program_phases.is_ready (before moments).phase ≡ true) × ((before moments).owed ≡ true)
       owes e g x next same =
+          let n : IsNext (program m.flow.source moments) m = story.0 (plain_at hosts a m.flow.source e ours.0) in
           let is : a ≡ m.flow.source = same_host-true a m.flow.source e in
           let found : next_in (program a moments).peers ≡ Some (n.peer, n.parcel) = subst (λ (h : Host). next_in (program h moments).peers ≡ Some (n.peer, n.parcel)) (sym is) n.next in
           let peer : g.host ≡ m.flow.destination = ap (λ (o : Option (Peer × Parcel)). host_in b o) (sym next ∙ found) ∙ sym (ap (λ (h : HostMessage). h.flow.destination) n.message) in
           let there : same_host b m.flow.destination ≡ true = subst (λ (h : Host). same_host b h ≡ true) peer same in
           let both : are a b m.flow.source m.flow.destination ≡ true = and_from (same_host a m.flow.source) (same_host b m.flow.destination) e there in
           let msg : Message = message_on m.flow.link.0 m.text in
-          let may : MaySend (pair a b events) m.flow.link.0 msg = carry (λ v w. MaySend (pair v w events) m.flow.link.0 msg) a b m.flow.source m.flow.destination both (run.1 (refl, refl)) in
+          let may : MaySend (pair a b events) m.flow.link.0 msg = carry (λ v w. AreOurs hosts v w → MaySend (pair v w events) m.flow.link.0 msg) a b m.flow.source m.flow.destination both run.1 ours in
           let o : (is_ready (pair a b events).phase ≡ true) × ((pair a b events).owed ≡ true) =
           only_reply m.flow.link.0 msg (pair a b events) may (subst (λ (t : Bool). is_ready (pair_moved (when t (Send m.flow.link.0 msg)) (pair a b events)).phase ≡ true) both r)
           (subst (λ (t : Bool). (pair_moved (when t (Send m.flow.link.0 msg)) (pair a b events)).begun ≡ false) both silent) in
-          let agrees : Agrees (before moments) (pair a b events) = story_agrees (all_ours hosts) moments a b (refl, refl) c.story in
-          (sym (ready_both hosts a b moments c.story) ∙ o.0, sym agrees.owed ∙ o.1)
+          let agrees : Agrees (before moments) (pair a b events) = story_agrees hosts moments a b ours c.story in
+          (sym (ready_both hosts a b moments ours c.story) ∙ o.0, sym agrees.owed ∙ o.1)
         where
           host_in : Host → Option (Peer × Parcel) → Host
           host_in h None = h
@@ -119,10 +117,10 @@ module _ (a b : Host) where
 
       by : (d : Bool) → same_host a m.flow.source ≡ d → Calm b (before moments) (pair_with b (if d then (offered (program a moments) (places moments)).0 else program a moments).peers)
           (if d then next_calls b (places moments) (program a moments).listening (next_in (program a moments).peers) else [])
-      by true e = offer_calm (program a moments) (places moments) b (c.order a refl) (owes e)
+      by true e = offer_calm (program a moments) (places moments) b (c.order a ours.0) (owes e)
       by false e = still b (before moments) (before moments) refl
 
-    in_calm : (m : HostMessage) → IsRun (all_ours hosts) (event_in (Crossed (crossing.In m)) ∷ events) → ready a b (event_in (Crossed (crossing.In m)) ∷ events) ≡ true → takes_reset a b (event_in (Crossed (crossing.In m))) ≡ false
+    in_calm : (m : HostMessage) → IsRun hosts (event_in (Crossed (crossing.In m)) ∷ events) → ready a b (event_in (Crossed (crossing.In m)) ∷ events) ≡ true → takes_reset a b (event_in (Crossed (crossing.In m))) ≡ false
         → stays a b events ≡ false → IsCalm (Crossed (crossing.In m)) moments
     in_calm m run r none left = by (same_host a m.flow.destination) (same_host b m.flow.source) refl refl where
       Result : Host → Type 0
@@ -141,7 +139,7 @@ module _ (a b : Host) where
           let waits : WaitsWith (boxes b a events m.flow.link.0) (Other m.text) =
           carry (λ v w. WaitsWith (boxes v w events m.flow.link.0) (Other m.text)) b a m.flow.source m.flow.destination both (subst (λ (n : Message). WaitsWith (boxes m.flow.source m.flow.destination events m.flow.link.0) n) is run.0.1) in
           let place : (p : ℕ) × (boxes b a events m.flow.link.0 ≡ Waiting p (Other m.text)) = waiting (boxes b a events m.flow.link.0) (Other m.text) waits in
-          absurd (contradicts (stays a b events) (waits_in_stay (all_ours hosts) events c.run b a (refl, refl) (ready_phase (pair a b events).phase was) m.flow.link.0 place.0 m.text place.1) left)
+          absurd (contradicts (stays a b events) (waits_in_stay hosts events c.run b a (ours.1, ours.0) (ready_phase (pair a b events).phase was) m.flow.link.0 place.0 m.text place.1) left)
         where
           text_ready : (t : Bool) (text : List Bool) (p : law.Pair) → is_ready (pair_moved (when t (Take (Other text))) p).phase ≡ true → is_ready p.phase ≡ true
           text_ready true text p e = e
@@ -182,13 +180,13 @@ module _ (a b : Host) where
       by true = request_calm (program a moments) b r
       by false = λ now. still b (before moments) (before moments) refl
 
-    pub calm : (x : Moment) → IsStory (all_ours hosts) (x ∷ moments) → IsRun (all_ours hosts) (event_in x ∷ events) → keeps a b (event_in x) events ≡ true → stays a b events ≡ false → (pair a b (event_in x ∷ events)).begun ≡ false → IsCalm x moments
+    pub calm : (x : Moment) → IsStory hosts (x ∷ moments) → IsRun hosts (event_in x ∷ events) → keeps a b (event_in x) events ≡ true → stays a b events ≡ false → (pair a b (event_in x ∷ events)).begun ≡ false → IsCalm x moments
     calm x story run k left silent = by x story run silent (both_true (ready a b (event_in x ∷ events)) (takes_reset a b (event_in x)) k) where
-      by : (x : Moment) → IsStory (all_ours hosts) (x ∷ moments) → IsRun (all_ours hosts) (event_in x ∷ events) → (pair a b (event_in x ∷ events)).begun ≡ false
+      by : (x : Moment) → IsStory hosts (x ∷ moments) → IsRun hosts (event_in x ∷ events) → (pair a b (event_in x ∷ events)).begun ≡ false
           → (ready a b (event_in x ∷ events) ≡ true) × (takes_reset a b (event_in x) ≡ false) → IsCalm x moments
       by (Crossed (crossing.Out m)) story run silent k = out_calm m story run k.0 silent
       by (Crossed (crossing.In m)) story run silent k = in_calm m run k.0 k.1 left
-      by (Crossed (crossing.Answer kind f)) story run silent k = told_calm kind f (sym (ready_both hosts a b (Crossed (crossing.Answer kind f) ∷ moments) story) ∙ k.0)
-      by (Crossed (crossing.Down h)) story run silent k = start_calm h (sym (ready_both hosts a b (Crossed (crossing.Down h) ∷ moments) story) ∙ k.0)
-      by (Crossed (crossing.Up h)) story run silent k = start_calm h (sym (ready_both hosts a b (Crossed (crossing.Up h) ∷ moments) story) ∙ k.0)
-      by (Asked h r) story run silent k = asked_calm h r (sym (ready_both hosts a b (Asked h r ∷ moments) story) ∙ k.0)
+      by (Crossed (crossing.Answer kind f)) story run silent k = told_calm kind f (sym (ready_both hosts a b (Crossed (crossing.Answer kind f) ∷ moments) ours story) ∙ k.0)
+      by (Crossed (crossing.Down h)) story run silent k = start_calm h (sym (ready_both hosts a b (Crossed (crossing.Down h) ∷ moments) ours story) ∙ k.0)
+      by (Crossed (crossing.Up h)) story run silent k = start_calm h (sym (ready_both hosts a b (Crossed (crossing.Up h) ∷ moments) ours story) ∙ k.0)
+      by (Asked h r) story run silent k = asked_calm h r (sym (ready_both hosts a b (Asked h r ∷ moments) ours story) ∙ k.0)

@@ -1,6 +1,6 @@
 -- Moments in which messages of a host are gone: answers about them, and hosts that start.
 use Rattle.world_keeps_streams.proofs.Common.{◌≡◌, inl, inr, ℕ, ◌==◌, Bool, true, false, ◌&&◌, if◌then◌else◌, List, [], ◌∷◌, ◌++◌, Some, is_some, refl, ap, sym, subst, ◌∙◌, eq-eqb, eqb-true, Host, same_host, Flow, Answer, same_host-true, Command, Stream, desk_of, settled, is_busy, PairState, TurnState, answered_turn, failed, freed, settled_turn, eqb-sym, Answered, IsTelling, is_out, Fetched, Free, Party, Steps, Clear, ClearAll, posted, boxes, Other, are, place, when, kind_in, is_signal, pair, alone_run, stays_ready, turn_of, NcpState, opening_state, pair_with, answer_leaves, Agrees, Moment, Crossed, IsStory, event_in, events_of, places, program, program_own, story_agrees, answer_calls, own_calls}
-use Rattle.reset_law.specs.Network.{all_ours}
+use Rattle.reset_law.specs.Network.{AreOurs, Network}
 use Rattle.reset_law.specs.Pairs.{Plain}
 use Rattle.interface.specs.declared.crossing.Answer.TheVariants as answer
 use Rattle.interface.specs.declared.crossing.Crossing.TheVariants as crossing
@@ -19,7 +19,7 @@ use Rattle.world_keeps_streams.proofs.Steps.GoesOut.{IsCleared, box_is_free, out
 use Rattle.world_keeps_streams.proofs.Steps.Held.{Acted, Held, HereIn, act_by}
 use Rattle.world_keeps_streams.proofs.Steps.Joined.{commands_in, post_in}
 use Rattle.world_keeps_streams.proofs.Stays.Owing.{told_rfnm}
-use Rattle.world_keeps_streams.proofs.Calls.Chain.{ready_both}
+use Rattle.world_keeps_streams.proofs.Calls.Chain.{ready_both, plain_at}
 use Rattle.world_keeps_streams.proofs.Moments.Answer.{accepted_pair}
 use Rattle.world_keeps_streams.proofs.Steps.ActsAsked.{kept_stop}
 use Rattle.reset_law.proofs.lemmas.{ready_phase}
@@ -81,7 +81,7 @@ answered_pair s kind f stamp p is own busy =
     subst (λ (h : Host). pair_with h (accepted s (inbound.Answer kind f) stamp).0.peers ≡ (answered_turn h kind f.link.0 (turn_of s h)).pair) (sym is)
     (accepted_pair s kind f stamp own (subst (λ (h : Host). is_busy (pair_with h s.peers).busy f.link.0 ≡ true) is busy))
 
-module _ (number other : ℕ → ℕ → ℕ → ℕ) (tells : IsTelling number) (others : IsTelling other) (link : ℕ) (off : (link == 0) ≡ false) (steps : Steps number other tells others link) (hosts : List Host) (h p : Host) (moments : List Moment) (rest : List Command) (b : Party) (x y : Stream)
+module _ (number other : ℕ → ℕ → ℕ → ℕ) (tells : IsTelling number) (others : IsTelling other) (link : ℕ) (off : (link == 0) ≡ false) (steps : Steps number other tells others link) (hosts : Network) (h p : Host) (ours : AreOurs hosts h p) (moments : List Moment) (rest : List Command) (b : Party) (x y : Stream)
     (held : Held number other tells others link h p moments (commands_in (boxes h p (events_of moments) 0)) rest (post_in (boxes h p (events_of moments) link)) b x y) where
   abbrev X : ℕ → Box
   X = boxes h p (events_of moments)
@@ -105,7 +105,7 @@ module _ (number other : ℕ → ℕ → ℕ → ℕ) (tells : IsTelling number)
         by false e here = stays_as number other tells others link p (own_calls h p moments) (pair_with p s.peers) (commands_in (X 0)) (post_in (X link)) b x y here
 
   -- an answer about a message of this host
-  module _ (kind : Answer) (f : Flow) (story : IsStory (all_ours hosts) (Crossed (crossing.Answer kind f) ∷ moments)) (run : IsRun (all_ours hosts) (events_of (Crossed (crossing.Answer kind f) ∷ moments))) where
+  module _ (kind : Answer) (f : Flow) (story : IsStory hosts (Crossed (crossing.Answer kind f) ∷ moments)) (run : IsRun hosts (events_of (Crossed (crossing.Answer kind f) ∷ moments))) where
     abbrev k : ℕ
     k = f.link.0
 
@@ -115,7 +115,7 @@ module _ (number other : ℕ → ℕ → ℕ → ℕ) (tells : IsTelling number)
     module _ (mine : same_host h f.source ≡ true) (theirs : same_host p f.destination ≡ true) (stays : stay.stays h p (events_of moments) ≡ true) (still : stay.stays h p (events_of (Crossed (crossing.Answer kind f) ∷ moments)) ≡ true)
         (here : HereIn number other tells others link h p moments (commands_in (X 0)) (post_in (X link)) b x y) where
       agrees : Agrees (pair_with p (program h moments).peers) (pair h p (events_of moments))
-      agrees = story_agrees (all_ours hosts) moments h p (refl, refl) story.1
+      agrees = story_agrees hosts moments h p ours story.1
 
       are_these : are h p f.source f.destination ≡ true
       are_these = rw (mine, theirs) refl
@@ -132,19 +132,19 @@ module _ (number other : ℕ → ℕ → ℕ → ℕ) (tells : IsTelling number)
       outstanding : is_busy (pair_with p (program h moments).peers).busy f.link.0 ≡ true
       outstanding =
           sym (agrees.busy f.link.0) ∙ subst (λ (g : Host). is_some ((pair g p (events_of moments)).out f.link.0) ≡ true) (sym own_host)
-          (subst (λ (g : Host). is_some ((pair f.source g (events_of moments)).out f.link.0) ≡ true) (sym peer_host) (story.0 (refl, refl)))
+          (subst (λ (g : Host). is_some ((pair f.source g (events_of moments)).out f.link.0) ≡ true) (sym peer_host) (story.0 (plain_at hosts h f.source mine ours.0, plain_at hosts p f.destination theirs ours.1)))
 
       fits : Fits kind (X f.link.0)
       fits = subst (λ (g : Host). Fits kind (boxes g p (events_of moments) f.link.0)) (sym own_host) (subst (λ (g : Host). Fits kind (boxes f.source g (events_of moments) f.link.0)) (sym peer_host) run.0.1)
 
       rfnm : kind_in (X f.link.0) ≡ Some Plain → kind ≡ answer.Rfnm
-      rfnm plain = told_rfnm hosts f.source f.destination f.link.0 kind (events_of moments) run h p are_these stays (stays_ready (events_of (Crossed (crossing.Answer kind f) ∷ moments)) h p still) plain
+      rfnm plain = told_rfnm hosts f.source f.destination f.link.0 kind (events_of moments) run h p ours are_these stays (stays_ready (events_of (Crossed (crossing.Answer kind f) ∷ moments)) h p still) plain
 
       now_ready : program_phases.is_ready (pair_with p (program h (Crossed (crossing.Answer kind f) ∷ moments)).peers).phase ≡ true
-      now_ready = sym (ready_both hosts h p (Crossed (crossing.Answer kind f) ∷ moments) story) ∙ stays_ready (events_of (Crossed (crossing.Answer kind f) ∷ moments)) h p still
+      now_ready = sym (ready_both hosts h p (Crossed (crossing.Answer kind f) ∷ moments) ours story) ∙ stays_ready (events_of (Crossed (crossing.Answer kind f) ∷ moments)) h p still
 
       was_ready : (pair_with p (program h moments).peers).phase ≡ phase.Ready
-      was_ready = ready_phase (pair_with p (program h moments).peers).phase (sym (ready_both hosts h p moments story.1) ∙ stays_ready (events_of moments) h p stays)
+      was_ready = ready_phase (pair_with p (program h moments).peers).phase (sym (ready_both hosts h p moments ours story.1) ∙ stays_ready (events_of moments) h p stays)
 
       changed : pair_with p (accepted (program h moments) (inbound.Answer kind f) (places moments)).0.peers ≡ (answered_turn p kind f.link.0 (turn_of (program h moments) p)).pair
       changed = answered_pair (program h moments) kind f (places moments) p peer_host own_is outstanding
@@ -167,7 +167,7 @@ module _ (number other : ℕ → ℕ → ℕ → ℕ) (tells : IsTelling number)
           sym (freed_busy (pair_with p (program h moments).peers) (pair h p (events_of moments)) f.link.0 agrees.busy link) ∙ rw swapped (agrees.busy link)
 
       room : (f.link.0 == link) ≡ false → is_out link (Answered f.link.0) (pair_with p (program h moments).peers) ≡ false → post_in (X link) ≡ Free
-      room away free = ap post_in (box_is_free hosts h p moments run.2 story.1 stays link (sym (still_busy away) ∙ free))
+      room away free = ap post_in (box_is_free hosts h p ours moments run.2 story.1 stays link (sym (still_busy away) ∙ free))
 
       clash_links : (f.link.0 == link) ≡ true → (0 == f.link.0) ≡ true → ⊥
       clash_links e z =
@@ -181,7 +181,7 @@ module _ (number other : ℕ → ℕ → ℕ → ℕ) (tells : IsTelling number)
           let one : f.link.0 ≡ link = eqb-true f.link.0 link e in
           subst (λ (l : ℕ). post_in (X l) ≡ Fetched) one (fits_fetched kind (X f.link.0) fits rfnm (no_signal (is_signal (kind_in (X f.link.0))) refl e)) where
             no_signal : (v : Bool) → is_signal (kind_in (X f.link.0)) ≡ v → (f.link.0 == link) ≡ true → v ≡ false
-            no_signal true g e = absurd (clash_links e (eq-eqb 0 f.link.0 (sym ((alone_run (all_ours hosts) (events_of moments) run.2 h p (refl, refl)).on_zero f.link.0 g))))
+            no_signal true g e = absurd (clash_links e (eq-eqb 0 f.link.0 (sym ((alone_run hosts (events_of moments) run.2 h p ours).on_zero f.link.0 g))))
             no_signal false g e = refl
 
       none_left : (0 == f.link.0) ≡ true → commands_in (X 0) ≡ []

@@ -1,6 +1,6 @@
 -- A host takes a message of its peer.
 use Rattle.world_keeps_streams.proofs.Common.{◌≡◌, ℕ, ◌==◌, Bool, true, false, not, ◌&&◌, if◌then◌else◌, List, [], ◌∷◌, ◌++◌, length, Option, Some, None, refl, ap, sym, subst, ◌∙◌, eqb-true, Host, same_host, HostMessage, same_host-true, Command, covers, for, is_size, Stream, Legal, orders_of, data_taken, desk_of, is_busy, PairState, message_taken, orders_taken, with_desk, AreJoint, eqb-sym, IsTelling, Fetched, Free, Joint, Lies, Party, Post, Steps, Fetch, posted, boxes, In, Message, Other, are, place, when, stays_ready, accepted, turn_of, pair_with, message_leaves, IsApart, message_on, Moment, Crossed, IsStory, event_in, events_of, places, program, program_own, keeps, AText, AnRrp, AnRst, Sort, message_pair, plain_joint, sort_of, waiting, message_calls, orders_heard, own_calls}
-use Rattle.reset_law.specs.Network.{all_ours}
+use Rattle.reset_law.specs.Network.{AreOurs, Network}
 use Rattle.std.proofs.Common.{append-nil}
 use Rattle.interface.specs.declared.crossing.Crossing.TheVariants as crossing
 use Rattle.interface.specs.declared.crossing.Inbound.TheVariants as inbound
@@ -20,7 +20,7 @@ use Rattle.world_keeps_streams.proofs.Steps.GoesHeard.{blind, deaf, heard_run, r
 use Rattle.world_keeps_streams.proofs.Steps.Held.{Acted, Held, HereIn, act_by, acted_out, left_held, side}
 use Rattle.world_keeps_streams.proofs.Steps.Joined.{IsSettled, commands_in, commands_of_message, legal_in, post_in}
 use Rattle.world_keeps_streams.proofs.Calls.MayCalls.{MayCalls}
-use Rattle.world_keeps_streams.proofs.Calls.Chain.{ready_both}
+use Rattle.world_keeps_streams.proofs.Calls.Chain.{ready_both, plain_at}
 
 -- what a receiver that takes data keeps
 pub record Took (old new : Receiver) : Type 0 where
@@ -65,14 +65,14 @@ took size bits r (Some c) =
 
 -- ---- what a message is
 
-module _ (number other : ℕ → ℕ → ℕ → ℕ) (tells : IsTelling number) (others : IsTelling other) (link : ℕ) (off : (link == 0) ≡ false) (steps : Steps number other tells others link) (hosts : List Host) (h p : Host) (moments : List Moment) (front rest : List Command) (post : Post)
+module _ (number other : ℕ → ℕ → ℕ → ℕ) (tells : IsTelling number) (others : IsTelling other) (link : ℕ) (off : (link == 0) ≡ false) (steps : Steps number other tells others link) (hosts : Network) (h p : Host) (ours : AreOurs hosts h p) (moments : List Moment) (front rest : List Command) (post : Post)
     (b : Party) (more : List Command) (x y : Stream) where
   -- the peer, by what lies in its boxes
   abbrev pub peer_by : (ℕ → Box) → Party
   peer_by Z = record b { pending = commands_in (Z 0) ++ more; post = post_in (Z link) }
 
   module _ (held : Held number other tells others link h p moments front rest post (peer_by (boxes p h (events_of moments))) x y)
-      (m : HostMessage) (story : IsStory (all_ours hosts) (Crossed (crossing.In m) ∷ moments)) (run : IsRun (all_ours hosts) (events_of (Crossed (crossing.In m) ∷ moments)))
+      (m : HostMessage) (story : IsStory hosts (Crossed (crossing.In m) ∷ moments)) (run : IsRun hosts (events_of (Crossed (crossing.In m) ∷ moments)))
       (room : stay.stays h p (events_of moments) ≡ true → is_busy (pair_with p (program h moments).peers).busy link ≡ false → post ≡ Free) where
     abbrev Y : ℕ → Box
     Y = boxes p h (events_of moments)
@@ -202,7 +202,7 @@ module _ (number other : ℕ → ℕ → ℕ → ℕ) (tells : IsTelling number)
       module _ (k : keeps h p (event_in (Crossed (crossing.In m))) (events_of moments) ≡ true) (e : stay.stays h p (events_of moments) ≡ true) (here : HereIn number other tells others link h p moments front post (peer_by Y) x y)
           (may : MayCalls (message_calls p (places moments) m.flow.link.0 m.text (turn_of (program h moments) p))) where
         ready : program_phases.is_ready (pair_with p (program h moments).peers).phase ≡ true
-        ready = sym (ready_both hosts h p moments story.1) ∙ stays_ready (events_of moments) h p e
+        ready = sym (ready_both hosts h p moments ours story.1) ∙ stays_ready (events_of moments) h p e
 
         own_is : same_host (program h moments).own m.flow.destination ≡ true
         own_is = ap (λ (g : Host). same_host g m.flow.destination) (program_own h moments) ∙ mine
@@ -234,7 +234,7 @@ module _ (number other : ℕ → ℕ → ℕ → ℕ) (tells : IsTelling number)
 
         text_turns : message_on m.flow.link.0 m.text ≡ Other m.text → (m.flow.link.0 == 0) ≡ true → Turns (record (peer_by Y) { pending = more })
         text_turns is z =
-            let joint : AreJoint (orders_of m.text) = plain_joint (orders_of m.text) (subst (λ (n : Message). IsApart m.flow.link.0 m.text n) is (story.0 (refl, refl)) z) in
+            let joint : AreJoint (orders_of m.text) = plain_joint (orders_of m.text) (subst (λ (n : Message). IsApart m.flow.link.0 m.text n) is (story.0 (plain_at hosts p m.flow.source theirs ours.1, plain_at hosts h m.flow.destination mine ours.0)) z) in
             let calls_may : MayCalls (orders_heard p (places moments) (orders_of m.text) (turn_of (program h moments) p) []) = rw (ready, z) at may in
             rw (ready, z)
             (heard_run number other tells others link steps p (places moments) (own_calls h p moments) front post (peer_by Y) (orders_of m.text) (turn_of (program h moments) p) [] more x y joint ready (room e) calls_may

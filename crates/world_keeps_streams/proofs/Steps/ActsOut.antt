@@ -1,6 +1,6 @@
 -- A message goes out of a host.
 use Rattle.world_keeps_streams.proofs.Common.{◌≡◌, ℕ, ◌==◌, Bool, true, false, not, ◌&&◌, if◌then◌else◌, List, [], ◌∷◌, ◌++◌, Some, refl, ap, sym, subst, ◌∙◌, eqb-true, Host, same_host, HostMessage, same_host-true, Command, Stream, desk_of, PairState, link_for, next_of, pair_after, parcel_gone, text_for, eqb-sym, IsRanged, IsReadBack, offer_read, IsTelling, gone_now, name_of, Joint, NotTaken, Party, Steps, Put, posted, boxes, Message, Other, Out, Send, are, place, when, Pair, pair_moved, pair, stays_ready, NcpState, pair_with, next_in, offered, next_is, next_pair, offer_leaves, message_on, Moment, Crossed, IsNext, IsStory, event_in, events_of, places, program, story_agrees, keeps, AText, AnRrp, AnRst, Sort, offered_pair, sort_of, next_calls, own_calls, parcel_calls}
-use Rattle.reset_law.specs.Network.{all_ours}
+use Rattle.reset_law.specs.Network.{AreOurs, Network}
 use Rattle.interface.specs.declared.crossing.Crossing.TheVariants as crossing
 use Rattle.ncp_control.specs.declared.phase.Phase.TheVariants as phase
 use Rattle.reset_law.specs.Boxes.{Box, Empty, Waiting}
@@ -15,7 +15,7 @@ use Rattle.world_keeps_streams.proofs.Steps.Held.{Acted, Held, HereIn, act_by, a
 use Rattle.world_keeps_streams.proofs.Steps.Joined.{commands_in, post_in}
 use Rattle.world_keeps_streams.proofs.Calls.MayCalls.{MayCalls}
 use Rattle.world_keeps_streams.proofs.Stays.Resets.{leaves_by}
-use Rattle.world_keeps_streams.proofs.Calls.Chain.{ready_both}
+use Rattle.world_keeps_streams.proofs.Calls.Chain.{ready_both, plain_at}
 use Rattle.reset_law.proofs.lemmas.{ready_phase}
 use Rattle.world_keeps_lives.proofs.lemmas.{clash}
 
@@ -46,9 +46,9 @@ module _ (number other : ℕ → ℕ → ℕ → ℕ) (tells : IsTelling number)
     box_y = record { whole = λ s. clash _ c.stays s f; left = λ s t. clash _ b.stays t g };
   }
 
-  module _ (off : (link == 0) ≡ false) (steps : Steps number other tells others link) (hosts : List Host) (h p : Host) (moments : List Moment) (rest : List Command) (b : Party) (x y : Stream)
+  module _ (off : (link == 0) ≡ false) (steps : Steps number other tells others link) (hosts : Network) (h p : Host) (ours : AreOurs hosts h p) (moments : List Moment) (rest : List Command) (b : Party) (x y : Stream)
       (held : Held number other tells others link h p moments (commands_in (boxes h p (events_of moments) 0)) rest (post_in (boxes h p (events_of moments) link)) b x y)
-      (m : HostMessage) (story : IsStory (all_ours hosts) (Crossed (crossing.Out m) ∷ moments)) (run : IsRun (all_ours hosts) (events_of (Crossed (crossing.Out m) ∷ moments))) (ranged : IsRanged (program h moments))
+      (m : HostMessage) (story : IsStory hosts (Crossed (crossing.Out m) ∷ moments)) (run : IsRun hosts (events_of (Crossed (crossing.Out m) ∷ moments))) (ranged : IsRanged (program h moments))
       (alone : are h p m.flow.source m.flow.destination ≡ true → (text : List Bool) → message_on m.flow.link.0 m.text ≡ Other text → stay.stays h p (events_of moments) ≡ false → b.stays ≡ false) where
     abbrev X : ℕ → Box
     X = boxes h p (events_of moments)
@@ -124,8 +124,8 @@ module _ (number other : ℕ → ℕ → ℕ → ℕ) (tells : IsTelling number)
           (commands_in (if 0 == l then Waiting (place (events_of moments)) (message_on l m.text) else X 0)) (post_in (if link == l then Waiting (place (events_of moments)) (message_on l m.text) else X link)) b x y) (sym link_is)
           (subst (λ (t : List Bool). Goes number other tells others link p (parcel_calls p (places moments) n.parcel q (program h moments).listening ++ own_calls h p moments) (gone q)
           (commands_in (if 0 == link_for n.parcel then Waiting (place (events_of moments)) (message_on (link_for n.parcel) t) else X 0)) (post_in (if link == link_for n.parcel then Waiting (place (events_of moments)) (message_on (link_for n.parcel) t) else X link)) b x y) (sym text_is)
-          (parcel_goes number other tells others link off steps p (places moments) (place (events_of moments)) (own_calls h p moments) (program h moments).listening b q x y (X 0) (X link) here (pair h p (events_of moments), story_agrees (all_ours hosts) moments h p (refl, refl) story.1)
-          ready (none e) n.parcel goes_next back (λ z. zero_empty (ap (λ (l : ℕ). 0 == l) link_is ∙ z)) (λ f. ap post_in (box_is_free hosts h p moments run.2 story.1 e link f)) may_parcel)))))) where
+          (parcel_goes number other tells others link off steps p (places moments) (place (events_of moments)) (own_calls h p moments) (program h moments).listening b q x y (X 0) (X link) here (pair h p (events_of moments), story_agrees hosts moments h p ours story.1)
+          ready (none e) n.parcel goes_next back (λ z. zero_empty (ap (λ (l : ℕ). 0 == l) link_is ∙ z)) (λ f. ap post_in (box_is_free hosts h p ours moments run.2 story.1 e link f)) may_parcel)))))) where
             q : PairState
             q = pair_with p (program h moments).peers
 
@@ -153,7 +153,7 @@ module _ (number other : ℕ → ℕ → ℕ → ℕ) (tells : IsTelling number)
             text_is = ap (λ (k : HostMessage). k.text) n.message ∙ ap (λ (k : PairState). text_for k n.parcel) (sym same_pair)
 
             ready : (pair_with p (program h moments).peers).phase ≡ phase.Ready
-            ready = ready_phase (pair_with p (program h moments).peers).phase (sym (ready_both hosts h p moments story.1) ∙ stays_ready (events_of moments) h p e)
+            ready = ready_phase (pair_with p (program h moments).peers).phase (sym (ready_both hosts h p moments ours story.1) ∙ stays_ready (events_of moments) h p e)
 
             goes_next : next_of (pair_with p (program h moments).peers) ≡ Some n.parcel
             goes_next = ap next_of same_pair ∙ next_is n.peer n.parcel (program h moments).peers n.next
@@ -168,7 +168,7 @@ module _ (number other : ℕ → ℕ → ℕ → ℕ) (tells : IsTelling number)
             may_parcel = subst (λ (k : PairState). MayCalls (parcel_calls p (places moments) n.parcel k (program h moments).listening)) (sym same_pair) may_peer
 
     next_here : same_host h m.flow.source ≡ true → IsNext (program h moments) m
-    next_here e = subst (λ (g : Host). IsNext (program g moments) m) (sym (same_host-true h m.flow.source e)) (story.0 refl)
+    next_here e = subst (λ (g : Host). IsNext (program g moments) m) (sym (same_host-true h m.flow.source e)) (story.0 (plain_at hosts h m.flow.source e ours.0))
 
     pub act_out : stay.begins h p (event_in (Crossed (crossing.Out m))) (events_of moments) ≡ false → FindsNone number other h p moments b
         → (keeps h p (event_in (Crossed (crossing.Out m))) (events_of moments) ≡ true → stay.stays h p (events_of moments) ≡ true → MayCalls (if same_host h m.flow.source then next_calls p (places moments) (program h moments).listening (next_in (program h moments).peers) else []))

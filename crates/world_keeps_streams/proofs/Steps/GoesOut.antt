@@ -1,6 +1,6 @@
 -- What a host that doesn't stay leaves in its boxes; and what a host that stays knows of them.
 use Rattle.world_keeps_streams.proofs.Common.{◌≡◌, ◌⊎◌, inl, inr, ℕ, Bool, true, false, List, ◌++◌, refl, ap, sym, subst, ◌∙◌, Host, Command, Stream, is_busy, IsTelling, boxes, stays_ready, pair_with, Moment, IsStory, events_of, program, story_agrees, Free, Joint, Lies, Party, Post, Steps}
-use Rattle.reset_law.specs.Network.{all_ours}
+use Rattle.reset_law.specs.Network.{AreOurs, Network}
 use Rattle.ncp_control.specs.Phases as program_phases
 use Rattle.ncp_control.specs.declared.phase.Phase as host
 use Rattle.ncp_control.specs.declared.phase.Phase.TheVariants as phase
@@ -14,11 +14,11 @@ use Rattle.world_keeps_streams.proofs.Stays.Resets.{box_busy, up_ready}
 -- ---- phases
 
 -- where a link is free by the program nothing is outstanding
-pub box_is_free : (hosts : List Host) (h p : Host) (moments : List Moment) → IsRun (all_ours hosts) (events_of moments) → IsStory (all_ours hosts) moments → stay.stays h p (events_of moments) ≡ true
+pub box_is_free : (hosts : Network) (h p : Host) → AreOurs hosts h p → (moments : List Moment) → IsRun hosts (events_of moments) → IsStory hosts moments → stay.stays h p (events_of moments) ≡ true
     → (l : ℕ) → is_busy (pair_with p (program h moments).peers).busy l ≡ false → boxes h p (events_of moments) l ≡ Empty
-box_is_free hosts h p moments run story s l free =
-    box_busy hosts (events_of moments) run h p (up_ready hosts (events_of moments) run h p (stays_ready (events_of moments) h p s))
-    (pair_with p (program h moments).peers) (story_agrees (all_ours hosts) moments h p (refl, refl) story) l free
+box_is_free hosts h p ours moments run story s l free =
+    box_busy hosts (events_of moments) run h p ours (up_ready hosts (events_of moments) run h p ours (stays_ready (events_of moments) h p s))
+    (pair_with p (program h moments).peers) (story_agrees hosts moments h p ours story) l free
 
 -- ---- boxes of a host that has left
 

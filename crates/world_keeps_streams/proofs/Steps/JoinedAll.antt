@@ -1,5 +1,7 @@
 -- Two programs of a world are beside two streams of each link at all lawful moments.
-use Rattle.world_keeps_streams.proofs.Common.{◌≡◌, ℕ, ◌==◌, false, List, [], ◌∷◌, refl, Host, opening_stream, numbered, numbered_tells, Joint, Steps, all_steps, mirror, opened, HaveAddresses, Moment, event_in, events_of, IsTimeline, crossings_of}
+use Rattle.world_keeps_streams.proofs.Common.{◌≡◌, ℕ, ◌==◌, false, List, [], ◌∷◌, refl, Host, opening_stream, numbered, numbered_tells, Joint, Steps, all_steps, mirror, opened, HaveAddresses, Moment, event_in, events_of, crossings_of}
+use Rattle.reset_law.specs.Network.{AreOurs, Network}
+use Rattle.net_sim.specs.Mixed.{Happened}
 use Rattle.interface.specs.Mailboxes as mail
 use Rattle.reset_law.specs.Stays as stay
 use Rattle.world_keeps_streams.proofs.Steps.Goes as going
@@ -25,12 +27,12 @@ module _ (link : ℕ) (off : (link == 0) ≡ false) where
   start : (a b : Host) → Joint numbered numbered_by_peer numbered_tells turned_tells link opening_stream opening_stream (party a b link [] []) (party b a link [] [])
   start a b = opened numbered numbered_by_peer numbered_tells turned_tells link (party a b link [] []) (party b a link [] []) refl refl refl refl (λ own foreign. refl) (λ own foreign. refl) refl refl
 
-  module _ (hosts : List Host) (addresses : HaveAddresses hosts) (a b : Host) where
+  module _ (hosts : Network) (addresses : HaveAddresses hosts.all) (a b : Host) (ours : AreOurs hosts a b) where
     -- one moment more, in which no stay begins
-    pub goes : (x : Moment) (moments : List Moment) → mail.IsRun hosts (crossings_of (x ∷ moments)) → IsTimeline hosts (x ∷ moments) → (old : Joined a b link moments) → stay.begins a b (event_in x) (events_of moments) ≡ false → Goes a b link x moments old
-    goes x moments run time old none = going.next_goes link off steps back mirrors hosts a b addresses (law_calls hosts addresses) (finds link hosts addresses a b) x moments run time old none
+    pub goes : (x : Moment) (moments : List Moment) → mail.IsRun hosts.all (crossings_of (x ∷ moments)) → Happened hosts (x ∷ moments) → (old : Joined a b link moments) → stay.begins a b (event_in x) (events_of moments) ≡ false → Goes a b link x moments old
+    goes x moments run time old none = going.next_goes link off steps back mirrors hosts a b ours addresses (law_calls hosts addresses) (finds link hosts addresses a b ours) x moments run time old none
 
     -- a lawful list of moments
-    pub joined : (moments : List Moment) → mail.IsRun hosts (crossings_of moments) → IsTimeline hosts moments → Joined a b link moments
+    pub joined : (moments : List Moment) → mail.IsRun hosts.all (crossings_of moments) → Happened hosts moments → Joined a b link moments
     joined moments run time =
-        going.joined link off steps back mirrors hosts a b addresses (law_calls hosts addresses) (finds link hosts addresses a b) (meets link off hosts addresses a b) (start a b) moments run time
+        going.joined link off steps back mirrors hosts a b ours addresses (law_calls hosts addresses) (finds link hosts addresses a b ours) (meets link off hosts addresses a b ours) (start a b) moments run time

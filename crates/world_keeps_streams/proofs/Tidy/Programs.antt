@@ -1,5 +1,8 @@
 -- No end of a host has to close, at any moment: each that is drained has queued its CLS.
-use Rattle.world_keeps_streams.proofs.Common.{◌≡◌, ℕ, ◌&&◌, not, Bool, true, false, if◌then◌else◌, cond, List, [], ◌∷◌, length, Option, Some, None, refl, sym, subst, Host, same_host, Flow, Answer, HostMessage, not_false, same_host-true, is_receive_socket, is_send_socket, is_ready, closed_end, commanded, contacted, interrupt_of, receiver_requested, requested, with_end, with_more_bits, desk_of, listens_on, free_link, is_busy, is_open, sending_end, PairState, Parcel, pair_after, parcel_gone, answered_turn, message_taken, Entry, both, after_turn, turn_of, NcpState, opening_state, owner_of, pair_with, with_pair, AreInOrder, at_owner, closed_socket, on_open, next_in, offered_by, Peer, Request, next_pair, not_first, pair_changed, HaveAddresses, Asked, Crossed, Moment, places, program, Happens, IsTimeline, crossings_of, coupled, owner_found, mail_below}
+use Rattle.world_keeps_streams.proofs.Common.{◌≡◌, ℕ, ◌&&◌, not, Bool, true, false, if◌then◌else◌, cond, List, [], ◌∷◌, length, Option, Some, None, refl, sym, subst, Host, same_host, Flow, Answer, HostMessage, not_false, same_host-true, is_receive_socket, is_send_socket, is_ready, closed_end, commanded, contacted, interrupt_of, receiver_requested, requested, with_end, with_more_bits, desk_of, listens_on, free_link, is_busy, is_open, sending_end, PairState, Parcel, pair_after, parcel_gone, answered_turn, message_taken, Entry, both, after_turn, turn_of, NcpState, opening_state, owner_of, pair_with, with_pair, AreInOrder, at_owner, closed_socket, on_open, next_in, offered_by, Peer, Request, next_pair, not_first, pair_changed, HaveAddresses, Asked, Crossed, Moment, places, program, IsTimeline, crossings_of, coupled, owner_found, mail_below}
+use Rattle.net_sim.specs.Timeline.{Happens}
+use Rattle.reset_law.specs.Network.{all_ours}
+use Rattle.net_sim.proofs.lemmas.AllOurs.{happened}
 use Rattle.interface.specs.Mailboxes as mail
 use Rattle.interface.specs.declared.crossing.Crossing.TheVariants as crossing
 use Rattle.interface.specs.declared.crossing.Inbound.TheVariants as inbound
@@ -114,7 +117,7 @@ all_tidy hosts addresses (x ∷ moments) run time a b = by x time.0 (λ p. all_t
   by (Crossed (crossing.In m)) happens old = tidy_if (same_host a m.flow.destination) (accepted (program a moments) (inbound.Message m) (places moments)).0 (program a moments) (λ e. taken_tidy (program a moments) old m (places moments)) old
   by (Crossed (crossing.Answer kind f)) happens old =
       tidy_if (same_host a f.source) (accepted (program a moments) (inbound.Answer kind f) (places moments)).0 (program a moments)
-      (λ e. answered_tidy (program a moments) old kind f (places moments) (λ i. (idle hosts addresses moments below time.1 a f.destination i).0)) old
+      (λ e. answered_tidy (program a moments) old kind f (places moments) (λ i. (idle (all_ours hosts) addresses moments below (happened hosts moments time.1) a f.destination (refl, refl) i).0)) old
   by (Crossed (crossing.Down h)) happens old = tidy_if (same_host a h) (opening_state a) (program a moments) (λ e b. tt) old
   by (Crossed (crossing.Up h)) happens old = tidy_if (same_host a h) (opening_state a) (program a moments) (λ e b. tt) old
   by (Asked h r) happens old =

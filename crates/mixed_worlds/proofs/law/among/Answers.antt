@@ -2,11 +2,12 @@ use Rattle.mixed_worlds.proofs.Common.{Bool, List, Host, Moment, IsMixed, masked
 use Rattle.mixed_worlds.proofs.Books.{SameBook, same_book}
 use Rattle.mixed_worlds.proofs.Joined.{joins}
 use Rattle.mixed_worlds.proofs.Promised.{promised}
-use Rattle.mixed_worlds.proofs.RealAmong.{arrived_among, fated_among, followed_among, formed_among, over_among}
+use Rattle.mixed_worlds.proofs.RealAmong.{arrived_among, fated_among, formed_among, over_among}
 use Rattle.mixed_worlds.proofs.RealAmong.{safe_among, whole_among, within_among}
 use Rattle.mixed_worlds.proofs.RealTold.{told_real}
 use Rattle.mixed_worlds.proofs.SameContacts.{same_contacts}
 use Rattle.mixed_worlds.proofs.Settled.{settles}
+use Rattle.world_keeps_streams.proofs.lemmas.{contacts_now_are}
 use Rattle.mixed_worlds.proofs.law.among.Goals as goal
 
 pub returns : goal.returns
@@ -45,13 +46,14 @@ returns c =
       over = λ strange hosts moments mixed.
           over_among orders strange hosts moments mixed (promise strange hosts moments mixed);
       contacts = λ strange hosts moments mixed.
-          followed_among orders strange hosts moments mixed (promise strange hosts moments mixed);
+          contacts_now_are (record { all = hosts; strange = strange }) moments
+          (mixed.addresses, mixed.run, mixed.happen);
       within = λ strange hosts moments mixed.
           within_among orders strange hosts moments mixed (promise strange hosts moments mixed);
       told = λ strange hosts moments mixed.
           told_real orders strange hosts moments mixed (promise strange hosts moments mixed).told;
       joined = λ strange hosts moments mixed reports backed.
-          joins orders c.lives-2.ensures strange hosts moments mixed reports backed;
+          joins strange hosts moments mixed reports backed;
       settled = λ strange hosts moments mixed settled.
           settles orders c.masked_logs.ensures strange hosts moments mixed
           (c.lives.ensures.calm hosts (masked_moments strange hosts moments) mixed.addresses

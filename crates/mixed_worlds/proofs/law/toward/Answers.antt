@@ -4,7 +4,7 @@ use Rattle.interface.specs.declared.crossing.Inbound.TheVariants as inbound
 use Rattle.world_keeps_lives.proofs.lemmas.{live_end, safe_life}
 use Rattle.mixed_worlds.proofs.AskedLives.{data_reported, has_asked, plain_owner}
 use Rattle.mixed_worlds.proofs.CarriedLives.{is_carried}
-use Rattle.mixed_worlds.proofs.Ends.{any_message}
+use Rattle.world_keeps_lives.proofs.lemmas.{any_message}
 use Rattle.mixed_worlds.proofs.Handed.{safe_beside}
 use Rattle.mixed_worlds.proofs.OnceLives.{own_once, partner_once}
 use Rattle.mixed_worlds.proofs.RealBooks.{beside_in}
@@ -33,20 +33,19 @@ returns c =
     record {
       ends = any_message;
       sockets = λ strange hosts moments mixed a socket off.
-          (held orders strange hosts a off socket moments mixed).socket;
+          (held strange hosts a off socket moments mixed).socket;
       live = λ strange hosts moments mixed x there off goes.
           live_end (program x.host moments) (mixed_kept strange moments) x there goes
-          (held orders strange hosts x.host off x.socket moments mixed);
+          (held strange hosts x.host off x.socket moments mixed);
       taken = λ strange hosts moments mixed x there off kind.
           (safe_life (program x.host moments) (mixed_kept strange moments) x there
-          (held orders strange hosts x.host off x.socket moments mixed)).1.within kind;
+          (held strange hosts x.host off x.socket moments mixed)).1.within kind;
       bounded = λ strange hosts moments mixed x there off kind.
           (safe_life (program x.host moments) (mixed_kept strange moments) x there
-          (held orders strange hosts x.host off x.socket moments mixed)).1.bounded kind;
+          (held strange hosts x.host off x.socket moments mixed)).1.bounded kind;
       handed = λ strange hosts moments mixed x text there kind.
           (safe_beside (program x.host moments) (mixed_kept strange moments) x text there
-          (held orders strange hosts x.host
-          (plain_owner orders strange hosts moments mixed x (beside_in x text (mixed_kept strange moments).book.lives
+          (held strange hosts x.host (plain_owner orders strange hosts moments mixed x (beside_in x text (mixed_kept strange moments).book.lives
           (mixed_kept strange moments).handed there)) x.socket moments mixed)).front kind;
       owner = λ strange hosts moments mixed x there.
           plain_owner orders strange hosts moments mixed x there;

@@ -5,6 +5,6 @@ use Rattle.world_keeps_connections.proofs.law.lives.Goals as goal
 
 pub returns : goal.returns
 returns c = record {
-  known = λ hosts moments run time origin x there on. life_known origin x.host x.peer x.socket x.foreign hosts moments run time x there (between_itself x) on;
+  known = λ hosts moments run time origin x plain there on. life_known origin x.host x.peer x.socket x.foreign hosts moments run time plain x there (between_itself x) on;
   matches = live_match;
 }

@@ -1,4 +1,4 @@
-use Rattle.world_keeps_lives.proofs.FirstRows.{row_left_out, row_sent, row_twice}
+use Rattle.world_keeps_lives.proofs.Firsts.Rows.{row_left_out, row_sent, row_twice}
 use Rattle.world_keeps_lives.proofs.law.worked_firsts.Goals as goal
 
 pub returns-clause-sent : goal.returns-clause-sent

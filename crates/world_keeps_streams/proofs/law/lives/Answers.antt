@@ -12,7 +12,7 @@ use Rattle.world_keeps_streams.proofs.Books.EndingHanded.{closes_all}
 use Rattle.world_keeps_streams.proofs.Books.Handed.{took_handed}
 use Rattle.world_keeps_streams.proofs.Books.Later.{closes_whole}
 use Rattle.world_keeps_streams.proofs.Books.Firsts.{firsts, formed}
-use Rattle.world_keeps_streams.proofs.Ends.Contacts.{contacts_now_are}
+use Rattle.world_keeps_streams.proofs.Ends.Contacts.{contacts_are}
 use Rattle.world_keeps_streams.proofs.Ends.Fits.{over_now}
 use Rattle.world_keeps_streams.proofs.Ends.Within.{within}
 use Rattle.world_keeps_streams.proofs.law.lives.Goals as goal
@@ -27,7 +27,7 @@ returns c = record {
   whole = λ hosts moments addresses run time. closes_all hosts moments (addresses, run, time);
   arrived = λ hosts moments addresses run time. arrived_book hosts moments (addresses, run, time);
   over = λ hosts moments addresses run time. over_now hosts moments (addresses, run, time);
-  contacts = λ hosts moments addresses run time. contacts_now_are hosts moments (addresses, run, time);
+  contacts = λ hosts moments addresses run time. contacts_are hosts moments (addresses, run, time);
   within = λ hosts moments addresses run time. within hosts moments (addresses, run, time);
   formed = λ hosts moments addresses run time. formed hosts moments (addresses, run, time);
   firsts = λ hosts moments addresses run time. firsts hosts moments (addresses, run, time);

@@ -12,15 +12,16 @@ use Rattle.net_sim.specs.Story.{Follows}
 use Rattle.world_keeps_lives.proofs.Facts.{no}
 use Rattle.world_keeps_lives.proofs.Calms.{Calm, calm_moment}
 use Rattle.world_keeps_lives.proofs.DataTold.{TakesIf, answer_told, asking_told, bytes_told, control_told, message_takes, offer_told}
-use Rattle.world_keeps_lives.proofs.FirstEnds.{Apart, AtEnd, IsGrown, Together, Good, Lawful, Tracked, all_due, answered_before, asked_before, at_end, ends_in, flow_link, is_end, lives_in}
-use Rattle.world_keeps_lives.proofs.FirstLists.{After, From, Pairwise, from_map, life_of}
-use Rattle.world_keeps_lives.proofs.Firsts.{good_calm, good_data}
+use Rattle.world_keeps_lives.proofs.Firsts.Ends.{Apart, AtEnd, IsGrown, Together, Good, Lawful, Tracked, all_due, answered_before, asked_before, at_end, ends_in, flow_link, is_end, lives_in}
+use Rattle.world_keeps_lives.proofs.Firsts.Lists.{After, From, Pairwise, from_map, life_of}
+use Rattle.world_keeps_lives.proofs.Firsts.Steps.{good_calm, good_data}
 use Rattle.world_keeps_lives.proofs.Begun.{flow_two}
 use Rattle.world_keeps_lives.proofs.Grounds.{Going, Tells, goes_of, going_rules}
 use Rattle.world_keeps_lives.proofs.Laws.{live}
 use Rattle.world_keeps_lives.proofs.Linked.{AreAfter, AreApart, Linked, LinkedBook}
 use Rattle.world_keeps_lives.proofs.Walk.Rules.{Each, MayTell, each_in, each_of, found_in}
 use Rattle.world_keeps_lives.proofs.Stamps.{stamped}
+use Rattle.net_sim.proofs.lemmas.AllOurs.{happened}
 
 -- ---- what is on no link of a life
 
@@ -74,7 +75,8 @@ none_arrived : {A : Type 0} (s : ℕ) (a : List Bool) → [] ≡ notice.Arrived 
 none_arrived s a e = absurd (cc)
 
 module _ (hosts : List Host) (given : Together hosts) where
-  story_by : (y : Moment) (ms : List Moment) → Follows (all_ours hosts) y ms → (m : HostMessage) → y ≡ Crossed (crossing.Out m) → IsNext (program m.flow.source ms) m
+  story_by : (y : Moment) (ms : List Moment) → Follows (all_ours hosts) y ms → (m : HostMessage)
+      → y ≡ Crossed (crossing.Out m) → IsNext (program m.flow.source ms) m
   story_by y ms f m e = subst (λ (z : Moment). Follows (all_ours hosts) z ms) e f refl
 
   module _ (ms : List Moment) (l : Lawful hosts ms) (g : Good ms) where
@@ -194,12 +196,13 @@ module _ (hosts : List Host) (given : Together hosts) where
         by : (z : Parcel) → next_in (program m.flow.source ms).peers ≡ Some (n.peer, z) → m ≡ message_for (program m.flow.source ms).own n.peer z → Good (Crossed (crossing.Out m) ∷ ms)
         by parcel.Reset next is = quiet_out parcel.Reset refl next is tt
         by parcel.Reply next is = quiet_out parcel.Reply refl next is tt
-        by (parcel.Commands count) next is = quiet_out (parcel.Commands count) refl next is (goes_of hosts l.0 ms l.1 l.2 a b log m n.peer count (inl (refl, places_same ms)) refl next n.order is)
+        by (parcel.Commands count) next is = quiet_out (parcel.Commands count) refl next is (goes_of (all_ours hosts) l.0 ms l.1 (happened hosts ms l.2) a b (refl, refl) log m n.peer count (inl (refl, places_same ms)) refl next n.order is)
         by (parcel.Bytes e size count) next is = bytes_out e size count next is
 
     -- ---- a message comes in
 
-    module _ (m : HostMessage) (late : Lawful hosts (Crossed (crossing.In m) ∷ ms)) (follows : Follows (all_ours hosts) (Crossed (crossing.In m)) ms) (off : (m.flow.link.0 == 0) ≡ false) where
+    module _ (m : HostMessage) (late : Lawful hosts (Crossed (crossing.In m) ∷ ms))
+        (follows : Follows (all_ours hosts) (Crossed (crossing.In m)) ms) (off : (m.flow.link.0 == 0) ≡ false) where
       -- it arrives where it is on the flow of an open end
       arrived : (p : Linked) → (there : Contains (lives_in ms) p.life) → (t : Tracked ms p) → (goes : p.life.ended ≡ false) → is_open (at_end hosts given ms l p there t goes).end ≡ true → receives p.life ≡ true → flow_of p.life p.link ≡ m.flow
           → notices_by (Crossed (crossing.In m)) ms ≡ notice.Arrived p.life.socket (drop 40 m.text) ∷ []
@@ -258,13 +261,15 @@ module _ (hosts : List Host) (given : Together hosts) where
                   let at : lives_at m.flow.destination t.end.own p.life ≡ true = rw (h, s, goes) refl in
                   no (lives_at m.flow.destination t.end.own p.life) at not_at
 
-    in_good : (m : HostMessage) → Lawful hosts (Crossed (crossing.In m) ∷ ms) → Follows (all_ours hosts) (Crossed (crossing.In m)) ms → Good (Crossed (crossing.In m) ∷ ms)
+    in_good : (m : HostMessage) → Lawful hosts (Crossed (crossing.In m) ∷ ms)
+        → Follows (all_ours hosts) (Crossed (crossing.In m)) ms → Good (Crossed (crossing.In m) ∷ ms)
     in_good m late follows = by (m.flow.link.0 == 0) refl where
       by : (z : Bool) → (m.flow.link.0 == 0) ≡ z → Good (Crossed (crossing.In m) ∷ ms)
       by true here = calm (Crossed (crossing.In m)) late follows m.flow.source (λ c two. subst (λ (d : Crossing). IsControl d) (let same : crossing.In m ≡ c = cc in same) here) (control_told hosts l.0 ms l.1 l.2 m here)
       by false off = taken_good m late follows off (message_takes (program m.flow.destination ms) m (places ms) off)
 
-    crossed_good : (c : Crossing) → Lawful hosts (Crossed c ∷ ms) → Follows (all_ours hosts) (Crossed c) ms → Good (Crossed c ∷ ms)
+    crossed_good : (c : Crossing) → Lawful hosts (Crossed c ∷ ms) → Follows (all_ours hosts) (Crossed c) ms
+        → Good (Crossed c ∷ ms)
     crossed_good (crossing.Out m) late follows = out_good m late (follows refl)
     crossed_good (crossing.In m) late follows = in_good m late follows
     crossed_good (crossing.Answer kind f) late follows =

@@ -1,6 +1,12 @@
 -- Whatever a peer says, of two sockets there is at most one end with it, and what waits of it is what it still has to
 -- say.
-use Rattle.mixed_worlds.proofs.Common.{◌≡◌, ℕ, ◌==◌, ◌&&◌, Bool, true, false, if◌then◌else◌, List, [], ◌∷◌, ◌++◌, Option, Some, None, is_some, refl, ap, sym, subst, ◌∙◌, list_any, Host, same_host, HostMessage, is_ready, Command, ERRONEOUS, Legal, Order, orders_of, NO_SOCKET, Wrong, error, data_taken, DeskState, desk_of, command_queued, settled, swept, has_cls, closed_by_partner, entry_at, is_at, sends_on, PairState, TurnState, if_ready, message_taken, with_desk, command_taken, order_taken, orders_taken, Entry, after_turn, turn_of, NcpState, pair_with, HasSome, spelling, End, Ask, Close, Mark, asked_on_link, asked_with_size, changed, cls_taken_by, desk_taken, faulted, matched, matched_once, rts_taken_by, str_taken_by, Stand, Standing, at, standing, mark_of, marks, put}
+use Rattle.world_keeps_lives.proofs.Common.{◌≡◌, ℕ, ◌==◌, ◌&&◌, Bool, true, false, if◌then◌else◌, List, [], ◌∷◌, ◌++◌, Option, Some, None, is_some, refl, ap, sym, subst, ◌∙◌, list_any, Host, same_host, HostMessage, is_ready, Command, ERRONEOUS, Legal, Order, orders_of, NO_SOCKET, Wrong, error, data_taken, DeskState, desk_of, command_queued, settled, swept, has_cls, closed_by_partner, entry_at, is_at, sends_on, PairState, TurnState, if_ready, message_taken, with_desk, command_taken, order_taken, orders_taken, Entry, after_turn, turn_of, NcpState, pair_with, spelling, End, Mark, asked_on_link, asked_with_size, changed, cls_taken_by, desk_taken, matched_once, rts_taken_by, str_taken_by, Stand, at, marks}
+use Rattle.world_keeps_lives.specs.SomeEnd.{HasSome}
+use Rattle.pairing_law.specs.Marks.{Ask, Close}
+use Rattle.host_pairs.specs.Commands.{faulted, matched}
+use Rattle.host_keeps_pairing.specs.Ends.{Standing, standing}
+use Rattle.host_keeps_pairing.specs.Words.{mark_of}
+use Rattle.host_keeps_pairing.proofs.lemmas.{put}
 use Rattle.host_pairs.specs.Entries.{close_due}
 use Rattle.host_pairs.specs.declared.entry.Closing.{Closing}
 use Rattle.interface.specs.declared.crossing.Inbound.TheVariants as inbound

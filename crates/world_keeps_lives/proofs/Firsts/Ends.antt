@@ -10,7 +10,7 @@ use Rattle.host_pairs.specs.declared.notice.Notice.TheVariants as notice
 use Rattle.promise.specs.Formed.{flow_of}
 use Rattle.world_keeps_lives.proofs.Facts.{no, no_place}
 use Rattle.world_keeps_lives.proofs.Desks.{open_mine}
-use Rattle.world_keeps_lives.proofs.FirstLists.{Pairwise, each_all, life_of}
+use Rattle.world_keeps_lives.proofs.Firsts.Lists.{Pairwise, each_all, life_of}
 use Rattle.world_keeps_lives.proofs.Begun.{alone_on, one_is}
 use Rattle.world_keeps_lives.proofs.Grounds.{Grounded, Nothing, May, crossed_below, grounds}
 use Rattle.world_keeps_lives.proofs.Laws.{live}
@@ -18,6 +18,8 @@ use Rattle.world_keeps_lives.proofs.Linked.{HasRequests, IsFirst, IsSentIn, Link
 use Rattle.world_keeps_lives.proofs.Walk.Rules.{Begins, Each, Goes, Hears, MayTell, Rules, each_in, each_of}
 use Rattle.world_keeps_lives.proofs.Stamps.{Due, open_back}
 use Rattle.world_keeps_lives.proofs.Texts.{IsFull}
+use Rattle.reset_law.specs.Network.{all_ours}
+use Rattle.net_sim.proofs.lemmas.AllOurs.{happened}
 
 abbrev pub Lawful : List Host → List Moment → Type 0
 Lawful hosts ms = HaveAddresses hosts × mail.IsRun hosts (crossings_of ms) × IsTimeline hosts ms
@@ -118,7 +120,7 @@ module _ (x : Life) (link : ℕ) (N : Type 0) where
   }
 
   pub held_may : (y : Moment) (moments : List Moment) → (a b : Host) → ((m : HostMessage) → y ≡ Crossed (crossing.Out m) → IsNext (program m.flow.source moments) m) → x.own_stamp < places moments → x.partner_stamp < places moments → May Held Nothing a b (held_rules b) y moments
-  held_may (Crossed (crossing.Out m)) moments a b story below later = (may, story m refl) where
+  held_may (Crossed (crossing.Out m)) moments a b story below later = (may, λ from. story m refl) where
     may : (g : Peer) (z : Parcel) → a ≡ m.flow.source → b ≡ m.flow.destination → next_in (program a moments).peers ≡ Some (g, z) → AreInOrder (program a moments).peers → m ≡ message_for (program a moments).own g z → MayTell Held Nothing b (held_rules b) (places moments) z (pair_with b (program a moments).peers)
     may g parcel.Reset from to next order is = tt
     may g parcel.Reply from to next order is = tt
@@ -226,7 +228,7 @@ module _ (hosts : List Host) (given : Together hosts) where
     pub owned : (a b : Host) (e : Entry) → Contains (ends_in a b ms) e → is_open e ≡ true → Owner a b ms e
     owned a b e there opened = from (given.owner ms l a b e there mine opened) where
       ground : Grounded a b (crossings_of ms) e
-      ground = each_in (Grounded a b (crossings_of ms)) (ends_in a b ms) e there (grounds hosts l.0 ms l.1 l.2 a b)
+      ground = each_in (Grounded a b (crossings_of ms)) (ends_in a b ms) e there (grounds (all_ours hosts) l.0 ms l.1 (happened hosts ms l.2) a b (refl, refl))
 
       mine : e.mine ≡ true
       mine = open_mine e ground.refusing opened
