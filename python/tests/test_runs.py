@@ -183,9 +183,9 @@ class Insides(unittest.TestCase):
         self.assertEqual(state.distances(1), {2: 1, 3: 2, 4: 3, 5: 2, 6: 1})
         self.assertEqual(state.outstanding(), {})
 
-    def test_script_that_the_program_refuses(self) -> None:
+    def test_script_that_a_program_refuses(self) -> None:
         with self.assertRaises(CannotFollow):
-            state_of(found(), TWO, [Calm(0), Calm(-1)])
+            state_of(Program("/bin/false"), TWO, [Calm(0)])
 
 
 class Explorations(unittest.TestCase):
