@@ -192,13 +192,15 @@ class Judge:
 
 
 def files_of_promise() -> list[str]:
-    """The files of the definitions that judge a log, below `crates`: those to which the clauses lead."""
+    """The files of the definitions that judge a log, below `crates`: those to which the clauses lead, and those that
+    only pass a definition on."""
     judge = Judge()
     reach = Reach(judge.library)
     for file in (BOOK, BOOK_AMONG):
         for _, term, module in judge.clauses(file):
             reach.follow_term(term, module)
-    return [BOOK, BOOK_AMONG, *(f"{it.removeprefix('Rattle.').replace('.', '/')}.antt" for it in reach.modules)]
+    read = [*reach.modules, *(it for it in judge.library.modules if it not in reach.modules)]
+    return [BOOK, BOOK_AMONG, *(f"{it.removeprefix('Rattle.').replace('.', '/')}.antt" for it in read if it.startswith("Rattle."))]
 
 
 def deeply(run: Callable[[], T]) -> T:
