@@ -2,10 +2,24 @@
 
 from __future__ import annotations
 
+import os
+import signal
 import sys
-from importlib import import_module
 
-from dorydate import ending
+# until a command is loaded, an interrupt just ends it (dorydate.ending); none was heard before (tools/python)
+if os.environ.pop("DORYDATE_HELD", "") or signal.getsignal(signal.SIGINT) is not signal.SIG_IGN:
+    signal.signal(signal.SIGINT, signal.SIG_DFL)
+if sys.flags.no_site:
+    import site
+
+    site.main()
+if sys.version_info < (3, 10):
+    sys.exit(f"{' '.join(sys.argv[1:2])}: this needs Python 3.10 or later, and python3 is {sys.version.split()[0]}")
+
+from collections.abc import Callable  # noqa: E402
+from importlib import import_module  # noqa: E402
+
+from dorydate import ending  # noqa: E402
 
 # each command, and the function that runs it
 COMMANDS = {
@@ -39,7 +53,13 @@ def main() -> int:
     name = sys.argv.pop(1)
     module, function = COMMANDS[name].split(":")
     sys.argv[0] = name
-    return ending.run(name, getattr(import_module(module), function))
+
+    def command() -> int | None:
+        """Loads the command and runs it."""
+        run: Callable[[], int | None] = getattr(import_module(module), function)
+        return run()
+
+    return ending.run(name, command)
 
 
 if __name__ == "__main__":

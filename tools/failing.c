@@ -3,8 +3,8 @@
    standard output fails, that one alone. NOTHING=1: that write takes no octet instead. INTERRUPTED=1: that read or write is
    interrupted instead.
    AT_MOST=N: each such read and write moves N octets at most.
-   TOLD=FILE: the file is made where a call fails, and says how many reads had begun before. At each later write a line
-   `again` is put behind that. */
+   TOLD=FILE: the file is made where a call fails, and says how many reads had begun before. At each later read or write a
+   line `again` is put behind that. */
 #define _GNU_SOURCE
 #include <dlfcn.h>
 #include <errno.h>
@@ -126,6 +126,8 @@ ssize_t read(int file, void *octets, size_t size)
         next = (ssize_t(*)(int, void *, size_t))dlsym(RTLD_NEXT, "read");
     if (file != 0)
         return next(file, octets, size);
+    if (failed)
+        tell("again\n", 0);
     return fails("FAIL_READ", &reads) ? failure() : next(file, octets, moved(size));
 }
 

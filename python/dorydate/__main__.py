@@ -6,6 +6,7 @@ import os
 import sys
 from collections.abc import Callable
 from importlib import import_module
+from pathlib import Path
 
 from dorydate import ending
 from dorydate.by_node import ByNode
@@ -16,31 +17,39 @@ from dorydate.where import ROOT, examples_folder, found
 # modules that have a `main` each
 LONGER = {it: f"dorydate.{it}.command" for it in ("conformance", "explain", "explore", "export", "live")}
 LONGER["keeps"] = "dorydate.contract.command"
-USAGE = """usage: dorydate explain [--chart | --page | --audit | --expect ..] < INPUT   says what each line does, and why
+USAGE = """usage: dorydate explain [--chart | --page | --audit | ..] FILE   says what each line does, and why
        dorydate explore ..                     finds a short script that prints what one asks for
-       dorydate export --FORMAT < INPUT        writes a replay for Wireshark, ShiViz or Perfetto
+       dorydate export --FORMAT FILE           writes a replay for Wireshark, ShiViz or Perfetto
        dorydate conformance COMMAND..          has dialogues with a host's program that you wrote
        dorydate keeps LOG [--host H]           says which rule of the protocol a host breaks, by its own log
        dorydate live TOPOLOGY --bind ..        runs a network whose strangers are real hosts, over UDP and TCP
        dorydate examples [NAME]                lists the examples, or prints one
        dorydate page > dorydate.html           writes the workbench, a page for a browser
+       dorydate schema                         prints the JSON Schema of a line of a trace
+       dorydate completion bash | zsh | fish   prints what that shell needs to complete these commands
        dorydate version                        says which program runs here, and what it comes from
 
-`arpasim < INPUT` replays an input, and `arpasim --help` has its options. Try: dorydate examples first-message | dorydate explain"""
+`arpasim FILE` replays an input, and `arpasim --help` has its options.
+Try: dorydate examples first-message | dorydate explain"""
 
 
 class Refused(Exception):
     """Why a command does nothing."""
 
 
+def names_of_examples() -> list[str]:
+    """The names of the examples: files without a point in their names."""
+    folder = examples_folder()
+    return sorted(it.name for it in folder.iterdir() if "." not in it.name and it.is_file()) if folder.is_dir() else []
+
+
 def examples(words: list[str]) -> None:
     """Lists the examples, or prints one."""
-    folder = examples_folder()
-    names = sorted(it.name for it in folder.iterdir() if "." not in it.name) if folder.is_dir() else []
+    names = names_of_examples()
     if not words:
         print(*names, sep="\n")
     elif len(words) == 1 and words[0] in names:
-        sys.stdout.buffer.write((folder / words[0]).read_bytes())
+        sys.stdout.buffer.write((examples_folder() / words[0]).read_bytes())
     else:
         raise Refused(f"there is no example {' '.join(words)}; `dorydate examples` lists all")
 
@@ -64,7 +73,30 @@ def version(words: list[str]) -> None:
             print(f"{key}: {said[key]}")
 
 
-SHORT: dict[str, Callable[[list[str]], None]] = {"examples": examples, "page": page, "version": version}
+def completion(words: list[str]) -> None:
+    """Prints what a shell needs to complete the commands."""
+    from dorydate import completion as made
+
+    if len(words) != 1 or words[0] not in made.SHELLS:
+        raise Refused("usage: dorydate completion bash | zsh | fish")
+    known = made.commands(found().run(b"", "--help").output, [*SHORT], names_of_examples())
+    print(made.script(words[0], known), end="")
+
+
+def schema(words: list[str]) -> None:
+    """Prints the JSON Schema of a line of a trace."""
+    if words:
+        raise Refused("usage: dorydate schema")
+    print(Path(__file__).with_name("trace.schema.json").read_text(encoding="utf-8"), end="")
+
+
+SHORT: dict[str, Callable[[list[str]], None]] = {
+    "completion": completion,
+    "examples": examples,
+    "page": page,
+    "schema": schema,
+    "version": version,
+}
 
 
 def run_short(name: str) -> int:
@@ -93,13 +125,17 @@ def main() -> int:
 
 
 def arpasim() -> int:
-    """The command `arpasim`: the program, in the place of this process."""
+    """The command `arpasim`, in the place of this process: the program over an input that may be named."""
     try:
-        program = found().path
+        program = found()
     except NoProgram as why:
         print(f"arpasim: {why}", file=sys.stderr)
         return 1
-    os.execv(program, ["arpasim", *sys.argv[1:]])
+    examples, words = str(examples_folder()), sys.argv[1:]
+    if isinstance(program, ByNode):
+        env = {**os.environ, "DORYDATE_EXPLAIN": "1", "DORYDATE_EXAMPLES": examples}
+        os.execvpe("node", ["node", str(Path(program.path).with_name("named.mjs")), *words], env)
+    os.execv("/bin/sh", ["sh", str(Path(__file__).with_name("arpasim.sh")), program.path, examples, *words])
 
 
 if __name__ == "__main__":

@@ -8,7 +8,7 @@ from typing import Union
 
 from dorydate import sentences
 from dorydate.printed import flow_of, refusal
-from dorydate.script import Event, Flow, Text
+from dorydate.script import BadLine, Event, Flow, Text
 
 Octets = Union[bytes, str, Text]
 
@@ -122,8 +122,11 @@ class Deed:
 
 
 def text_of(octets: Octets) -> Text:
+    """A text of octets, or of the characters of ASCII."""
     if isinstance(octets, Text):
         return octets
+    if not isinstance(octets, (bytes, str)) or isinstance(octets, str) and not octets.isascii():
+        raise BadLine(f"{octets!r} is no text: octets (bytes), a string of ASCII, or a Text")
     return Text.of(octets if isinstance(octets, bytes) else octets.encode("ascii"))
 
 

@@ -56,6 +56,8 @@ def run(name: str, main: Callable[[], int | None]) -> int:
         print(f"{name}: {' and '.join(closed)} {'are' if len(closed) > 1 else 'is'} closed", file=sys.stderr)
         return 1
     try:
+        if signal.getsignal(signal.SIGINT) is signal.SIG_DFL:  # as commands begin, since loading them takes a while
+            signal.signal(signal.SIGINT, signal.default_int_handler)
         if isinstance(sys.stdout, io.TextIOWrapper):
             sys.stdout.reconfigure(errors="backslashreplace")
         status = main() or 0
@@ -68,6 +70,7 @@ def run(name: str, main: Callable[[], int | None]) -> int:
     except (MemoryError, RecursionError) as fault:
         print(f"{name}: {'memory ran out' if isinstance(fault, MemoryError) else 'something in the input is nested too deeply'}", file=sys.stderr)
     except KeyboardInterrupt:
+        signal.signal(signal.SIGINT, signal.SIG_IGN)
         print(f"{name}: stopped", file=sys.stderr)
     quiet_output()
     return 1

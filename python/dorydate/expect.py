@@ -15,7 +15,6 @@ from dorydate.program import NoProgram, Program, TookTooLong
 from dorydate.deeds import Stopped
 from dorydate.replay import Replay
 from dorydate.script import BadLine, Entry, Script
-from dorydate.where import here
 
 
 @dataclass(frozen=True)
@@ -49,9 +48,6 @@ def expected(script: Script, program: Program | None = None) -> Script:
 
 def command(paths: Sequence[str]) -> int:
     """`./explain --expect FILE..`: 0 if every event printed what is expected of it, 1 otherwise, with the first difference of each file."""
-    if not paths or any(it.startswith("-") for it in paths):
-        print(here("usage: ./explain --expect FILE.."), file=sys.stderr)
-        return 1
     return max(map(judged, paths))
 
 

@@ -166,6 +166,8 @@ class Network:
         imps = tuple(Imp(number, counts[name], name) for number, name in enumerate(names, 1))
         number = {name: at for at, name in enumerate(names, 1)}
         network = Network(imps, tuple(Line(number[a], number[b]) for a, b in pairs), raw, carrier)
+        if foreign is None or isinstance(foreign, str):
+            raise BadNetwork(f"{foreign!r} is no list of the hosts that are strangers")
         strangers = [(it.host, network.imp(it.imp)) for it in map(network.host, foreign)]
         named = {imp: tuple(number for number, of in strangers if of == imp) for imp in imps}
         return replace(network, imps=tuple(replace(imp, foreign=named[imp]) for imp in imps))

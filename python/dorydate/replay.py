@@ -101,15 +101,17 @@ class Replay:
 
     def _try(self, event: Event, why: str = "") -> Step:
         """What an event would print."""
-        self._has_to_fit(event)
+        self._has_to_fit(event, why)
         texts = self._printed([*(it.event for it in self.steps), event])
         before = sum(len(it.printed) for it in self.steps)
         return step_of(event, texts[before:], why)
 
-    def _has_to_fit(self, event: Event) -> None:
+    def _has_to_fit(self, event: Event, why: str = "") -> None:
         """Raises `BadLine` for what is no event, and `Stopped` for one that networks of this kind don't have."""
         if not isinstance(event, Event):
             raise BadLine(f"{event!r} is no event; `read_event` reads one from a line of a script")
+        if not isinstance(why, str):
+            raise BadLine(f"{why!r} is no comment, which is a string")
         if event.word not in events.words_in(self.network):
             raise Stopped(events.not_here(event.word, self.network))
 
@@ -135,7 +137,7 @@ class Replay:
         >>> net.steps
         (Step(event=Calm(rounds=2), printed=(), texts=(), why=''),)
         """
-        if not 0 <= count <= len(self.steps):
+        if not isinstance(count, int) or not 0 <= count <= len(self.steps):
             raise Stopped(f"{len(self.steps)} events have happened, so {count} can't be taken back")
         self.steps = self.steps[: len(self.steps) - count]
 

@@ -6,13 +6,15 @@ import shutil
 import unittest
 
 from dorydate.definitions.deciding import Decider
-from dorydate.definitions.files import Definition, read_file
-from dorydate.definitions.library import Library
+from dorydate.definitions.files import Definition, Structure, read_file
+from dorydate.definitions.library import Library, Module
 from dorydate.definitions.promise import BOOK, Judge, deeply
-from workshop.second import agda
+from workshop.second import agda, laws
 from workshop.second.mutants import changes, page, spread
+from workshop.second.proofs import ProofWriter
 from workshop.second.rows import Row, computed, rows_of, sources
 
+FORMED = "Rattle.promise.specs.Formed"
 WRONG = "abbrev pub f : ℕ → ℕ\nf zero = 0\nf (suc n) = f (suc n)\n"
 
 
@@ -50,10 +52,11 @@ class OfRows(unittest.TestCase):
 
     def test_a_wrong_definition_fails(self) -> None:
         rows = self.rows()
-        own = self.library.module("Rattle.promise.specs.Formed").own
+        own = self.library.module(FORMED).own
         texts_of = own["texts_of"]
         assert isinstance(texts_of, Definition)
-        own["texts_of"] = next(it.item for it in changes(("", ""), texts_of) if "then" in it.what)
+        all_ = changes(self.library, (FORMED, "texts_of"), texts_of)
+        own["texts_of"] = next(it.item for it in all_ if "then" in it.what)
         self.assertIn("fails", deeply(lambda: {computed(Decider(self.library), it) for it in rows}))
 
 
@@ -64,13 +67,88 @@ class OfChanges(unittest.TestCase):
             for it in read_file("abbrev pub f : ℕ → ℕ\nf n = if nat_lt n 2 then n + 1 else 0\n")[0]
             if isinstance(it, Definition)
         ]
-        found = [change.what for change in changes(("", "f"), it)]
+        library = Library(sources())
+        library.modules["of a test"] = Module("of a test", ())
+        found = [change.what for change in changes(library, ("of a test", "f"), it)]
         self.assertEqual(
             found,
             [f"clause 1: {what}" for what in ("then ↔ else", "nat_lt → nat_le", "2 → 3", "+ → -", "1 → 2", "0 → 1")],
         )
 
     def test_not_too_many(self) -> None:
-        every = [it for key, item in page().items() for it in spread([*changes(key, item.item)], 3)]
+        library = Library(sources())
+        every = [it for key, item in page().items() for it in spread([*changes(library, key, item.item)], 3)]
         self.assertGreater(len(every), 148)
         self.assertEqual(spread(every, 5)[0], every[0])
+
+    def test_to_names_that_are_there(self) -> None:
+        (it,) = [it for it in read_file("pub record R (own : ℕ) : Type 0 where\n  pub foreign : own ≡ 1\n")[0]]
+        assert isinstance(it, Structure)
+        library = Library(sources())
+        library.modules["of a test"] = Module("of a test", ())
+        found = [change.what for change in changes(library, ("of a test", "R"), it)]
+        self.assertEqual(found, ["foreign: ≡ → ≢", "foreign: 1 → 2"])
+
+
+class OfLaws(unittest.TestCase):
+    FILE = """
+use Rattle.std.proofs.Common.{◌≡◌, ◌⊎◌, inl, inr, Bool, true, false, refl, ap, sym, ◌∙◌, arith}
+
+pub data Light : Type 0 where
+  Red : Light
+  Green : Light
+  Amber : (blinks : Bool) → Light
+
+abbrev pub goes : Light → Bool
+goes Green = true
+goes other = false
+
+pub goes_once : (l : Light) → (l ≡ Green) ⊎ (goes l ≡ false)
+goes_once Green = inl refl
+goes_once other = inr refl
+
+pub less : (a b c : ℕ) → a ≤ b → b + c ≤ 7 → a ≤ 7
+less a b c l m = omega (arith, l, m)
+
+pub never : (l : Light) → l ≡ Green → goes l ≡ false → ⊥
+never l e f = let both : true ≡ false = sym (ap goes e) ∙ f in absurd (cc)
+"""
+
+    def written(self, text: str) -> str:
+        library = Library(sources())
+        name = "Rattle.a_test.proofs.Lights"
+        library.modules[name] = Module(name, *read_file(text))
+        writer = ProofWriter(library)
+        writer.owners = [(name, "Light")]
+        lines = laws.items(writer, library.module(name).items, name)
+        head = [laws.HEAD, "module Lights where", *map(laws.public, ("Base", "Words", "Lemmas")), laws.TACTICS]
+        return "\n".join([*head, *lines])
+
+    def said(self, text: str) -> str:
+        if not shutil.which("agda"):
+            self.skipTest("agda is not installed")
+        library = Library(sources())
+        return laws.checked(laws.Laws("a_test", {"Words": laws.words(library), "Lights": self.written(text)})).said
+
+    def test_a_clause_of_several_forms_is_written_for_each(self) -> None:
+        lines = [it for it in self.written(self.FILE).split("\n") if it.startswith("goes-once-of-a-test-Lights ")]
+        self.assertEqual(len(lines), 4)  # its type, and a clause for each light
+
+    def test_lemmas_are_proved(self) -> None:
+        self.assertEqual(self.said(self.FILE), "")
+
+    def test_wrong_ones_are_refused(self) -> None:
+        no_light, other_light = ("goes l ≡ false → ⊥", "goes l ≡ true → ⊥"), ("(l ≡ Green) ⊎", "(l ≡ Red) ⊎")
+        for right, wrong in (("a ≤ 7", "b < c"), no_light, other_light):
+            with self.subTest(wrong):
+                self.assertIn(right, self.FILE)
+                self.assertNotEqual(self.said(self.FILE.replace(right, wrong)), "")
+
+    def test_nothing_is_taken_on_trust(self) -> None:
+        found = laws.written(Library(sources()), "stream_law")
+        hand = "".join(laws.file_of(it).read_text(encoding="utf-8") for it in laws.BY_HAND)
+        for text in (*found.modules.values(), hand):
+            self.assertIn("{-# OPTIONS --safe #-}", text)
+            for word in ("postulate", "TERMINATING", "primTrustMe", "trustMe"):
+                self.assertNotIn(word, text)
+        self.assertGreater(found.lemmas, 150)

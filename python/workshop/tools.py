@@ -41,8 +41,10 @@ TOOLS = (
     Tool("a C compiler", "gcc libc6-dev", ("cc", "clang")),
     Tool("wasm2c", "wabt", ("wasm2c",)),
     Tool("man", "man-db", ("man",)),
+    Tool("Agda", "agda-bin", ("agda",)),
     Tool("venv", "python3-venv", modules=("ensurepip",)),
     Tool("setuptools", "python3-setuptools python3-wheel", modules=("setuptools", "wheel")),
+    Tool("jsonschema", "python3-jsonschema", modules=("jsonschema",)),
     Tool("markdown", "python3-markdown", modules=("markdown",)),
     Tool("Jupyter", "python3-nbclient python3-ipykernel", modules=("nbclient", "ipykernel")),
 )
@@ -83,7 +85,9 @@ def installed(tools: Iterable[Tool]) -> str:
         return "only root may install packages" if os.geteuid() else "there is no apt-get"
     env = {**os.environ, "DEBIAN_FRONTEND": "noninteractive"}
     subprocess.run(["apt-get", "update", "-qq"], capture_output=True, env=env, check=False)
-    for tool in tools:
+    lacking = [*tools]
+    for number, tool in enumerate(lacking, 1):
+        print(f"check tools: {number} of {len(lacking)}: {tool.name} ({tool.packages})", flush=True)
         words = ["apt-get", "install", "-y", "-qq", "--no-install-recommends", *tool.packages.split()]
         subprocess.run(words, capture_output=True, env=env, check=False)
     return ""

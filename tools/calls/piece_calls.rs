@@ -68,13 +68,16 @@ fn add(alloc: Global, slots: &mut Reassembly, packet: Packet, answer: &mut Strin
     if came == foretold { Some(()) } else { answer.push_str(" (foretold otherwise)").ok() }
 }
 
+/// How many messages are looked at; fewer are held.
+const MOST_LOOKED_AT: usize = 16;
+
 /// The messages that are held.
 fn tell_held(alloc: Global, slots: &Reassembly, answer: &mut String) -> Option<()> {
     let mut held: BTreeMap<Flow, Number> = BTreeMap::new(alloc);
-    let mut count = 0;
-    while let Some(message) = slots.held(count) {
-        held.insert(message.flow, message.number).ok()?;
-        count += 1;
+    for at in 0..MOST_LOOKED_AT {
+        if let Some(message) = slots.held(at) {
+            held.insert(message.flow, message.number).ok()?;
+        }
     }
     write!(answer, "{}", slots.count()).ok()?;
     for (flow, number) in held.iter() {

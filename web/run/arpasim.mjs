@@ -1,15 +1,16 @@
 #!/usr/bin/env node
 /**
  * The program `arpasim` by Node, from the module in the page of a release; with the one word `--many` for many inputs
- * (many.js).
+ * (many.js). named.mjs is the same over an input that may be named.
  */
 
-const OLDEST = 18; // the first Node that was tried
-const version = Number(process.versions.node.split(".")[0]);
-if (version < OLDEST) {
-    const others = `Node ${OLDEST} or later runs this program, and so does a browser that opens dorydate.html`;
-    process.stderr.write(`arpasim: Node ${process.versions.node} is too old: ${others}\n`);
-    process.exitCode = 1;
+import { isTooOld } from "./oldest.js";
+
+const words = process.argv.slice(2);
+if (isTooOld()) {
+    // it is said
+} else if (words.length === 1 && words[0] === "--many") {
+    import("./many.js");
 } else {
-    import(process.argv.length === 3 && process.argv[2] === "--many" ? "./many.js" : "./once.js");
+    import("./once.js").then((it) => (process.exitCode = it.runOnce(words, 0).status));
 }

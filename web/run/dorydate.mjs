@@ -5,7 +5,7 @@ import { readFileSync, readdirSync } from "node:fs";
 
 const USAGE = `usage: npx dorydate examples [NAME]      lists the examples, or prints one
        npx dorydate page > FILE          writes the workbench, a page for a browser
-       npx dorydate run [OPTION..] < INPUT   runs arpasim on an input
+       npx dorydate run [OPTION..] [FILE]    runs arpasim on a file, or on standard input
 
 Try: npx dorydate examples first-message | npx dorydate run
 `;
@@ -31,6 +31,6 @@ else if (name === "page" && words.length === 0) {
     process.stdout.write(readFileSync(new URL("dorydate.html", HERE), "utf8"));
 } else if (name === "run") {
     process.argv.splice(2, 1);
-    await import("./arpasim.mjs");
+    await import("./named.mjs");
 } else if (name === "--help") process.stdout.write(USAGE);
 else refuse(USAGE);

@@ -1,4 +1,4 @@
-/** Runs the released module once under Node, over the words, the input and the output of this process. */
+/** Runs the released module once under Node, over words, an input that is open, and the output of this process. */
 
 import { readSync, writeSync } from "node:fs";
 
@@ -26,11 +26,18 @@ function tried(call) {
     }
 }
 
-/** @type {import("./program.js").Reads} */
-function read(most) {
-    const octets = new Uint8Array(Math.min(most, 1 << 16));
-    const count = tried(() => readSync(0, octets, 0, octets.length, null));
-    return count < 0 ? null : octets.subarray(0, count);
+/**
+ * Reads an input that is open.
+ *
+ * @param {number} descriptor
+ * @returns {import("./program.js").Reads}
+ */
+function readerOf(descriptor) {
+    return (most) => {
+        const octets = new Uint8Array(Math.min(most, 1 << 16));
+        const count = tried(() => readSync(descriptor, octets, 0, octets.length, null));
+        return count < 0 ? null : octets.subarray(0, count);
+    };
 }
 
 /**
@@ -49,10 +56,24 @@ function write(descriptor, octets) {
     return true;
 }
 
-try {
-    process.exitCode = runModule(releasedModule(), process.argv.slice(2), read, write);
-} catch (why) {
-    if (!(why instanceof Refused)) throw why;
-    process.stderr.write(`arpasim: ${why.message}\n`);
-    process.exitCode = 1;
+/**
+ * Runs the program. Its status, and what it said on standard error.
+ *
+ * @param {string[]} words
+ * @param {number} input its descriptor
+ * @returns {{status: number, said: string}}
+ */
+export function runOnce(words, input) {
+    let said = "";
+    try {
+        const status = runModule(releasedModule(), words, readerOf(input), (descriptor, octets) => {
+            if (descriptor === 2) said += new TextDecoder().decode(octets);
+            return write(descriptor, octets);
+        });
+        return { status, said };
+    } catch (why) {
+        if (!(why instanceof Refused)) throw why;
+        process.stderr.write(`arpasim: ${why.message}\n`);
+        return { status: 1, said: why.message };
+    }
 }

@@ -67,6 +67,12 @@ declare module "node:fs" {
     export function mkdirSync(path: string): void;
     export function rmSync(path: string, options: { recursive: boolean; force: boolean }): void;
     export function existsSync(path: string | URL): boolean;
+    export function openSync(path: string, flags: string): number;
+    export function statSync(path: string): { isFile(): boolean; isDirectory(): boolean };
+}
+
+declare module "node:url" {
+    export function fileURLToPath(address: URL): string;
 }
 
 declare module "node:crypto" {

@@ -127,7 +127,8 @@ function unknownEvent(word, raw) {
     if (raw && word in OF_PROGRAMS) return filled(FAULTS["of programs"], { word });
     const events = Object.keys(raw ? RAW : WORLD);
     const meant = nearest(word.toLowerCase(), events);
-    const help = meant ? filled(FAULTS.meant, { meant }) : filled(FAULTS.events, { events: events.join(", ") });
+    const near = meant ? filled(FAULTS.meant, { meant }) : filled(FAULTS.events, { events: events.join(", ") });
+    const help = byRules(TABLE["rules of users"], word.toLowerCase(), raw) ?? near;
     return `${filled(FAULTS.unknown, { word: word.slice(0, 40) })} ${help}`;
 }
 

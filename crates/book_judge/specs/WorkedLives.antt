@@ -12,6 +12,7 @@ use Rattle.promise.specs.Safe.{control_flow}
 use Rattle.promise.specs.declared.life.Amount.{Amount}
 use Rattle.promise.specs.declared.life.Life.{Life}
 use Rattle.world_keeps_lives.specs.WorkedFormed.{close_taken, gave, sent_log, took}
+use Rattle.book_judge.specs.Toward.{IsToward, UntowardAt}
 
 -- eight bits come in for its host after that has stopped
 abbrev pub stopped_log : List Crossing
@@ -87,3 +88,16 @@ gave_these bits = record gave { bits = bits }
 -- this host runs a program, and this one doesn't
 abbrev pub AreApart : (Host → Bool) → Host → Host → Type 0
 AreApart strange own peer = (strange own ≡ false) × (strange peer ≡ true)
+
+-- where these were handed over at such a host it may have sent these bits to such a peer, or may not
+abbrev pub MaySend : List Bool → List Bool → Type 0
+MaySend text bits = (strange : Host → Bool) → AreApart strange gave.host gave.peer → IsToward strange (gave_these bits) text
+
+abbrev pub MayNotSend : List Bool → List Bool → Type 0
+MayNotSend text bits =
+    (strange : Host → Bool) → AreApart strange gave.host gave.peer → IsToward strange (gave_these bits) text → ⊥
+
+-- of two lives the second is named where it is a stranger's, and the first is between hosts with programs
+abbrev pub SecondIsNamed : Life → Life → Type 0
+SecondIsNamed x y = (strange : Host → Bool) → strange x.host ≡ false → strange x.peer ≡ false → strange y.host ≡ true
+    → UntowardAt strange (x ∷ y ∷ []) ([] ∷ [] ∷ []) 1

@@ -14,9 +14,11 @@ ghost use Rattle.net_sim.specs.declared.auditing.findings.Finding.TheVariants as
 ghost use Rattle.net_sim.specs.Findings.{ShowsLife};
 ghost use Rattle.net_sim.specs.Worked.{eight, four};
 ghost use Rattle.net_sim.specs.WorkedMoments.{rts, str};
-ghost use Rattle.book_judge.specs.WorkedLives.{again_log, down_log, late_answer, reset_log, stopped_log, third_down_log, third_log};
+ghost use Rattle.book_judge.specs.WorkedLives.{again_log, down_log, late_answer, reset_log, stopped_log};
+ghost use Rattle.book_judge.specs.WorkedLives.{third_down_log, third_log};
 ghost use Rattle.book_judge.specs.WorkedLives.{took_after, took_again, took_from_third, took_nothing, unasked};
-ghost use Rattle.book_judge.specs.WorkedLives.{AreApart, gave_these, took_two};
+ghost use Rattle.book_judge.specs.WorkedLives.{AreApart, MayNotSend, MaySend, SecondIsNamed, gave_these, took_two};
+ghost use Rattle.std.specs.List.{list_any};
 ghost use Rattle.promise.specs.Ends.{CanBeLeft, Closed, Dropped, Going, Over, Stopped};
 ghost use Rattle.promise.specs.Fates.{ClosesWhole};
 ghost use Rattle.promise.specs.Formed.{FormedBook};
@@ -107,6 +109,12 @@ pub fn worked_fates()
     ensures called_first { suits (Over (Closed true) 3) fate.Reset ≡ true }
     ensures not_called { suits (Over (Closed false) 3) fate.Reset ≡ false }
 
+    // nothing else suits one that is over
+    ensures only_reset { list_any (suits (Over Dropped 3)) (fate.Closing ∷ fate.Ended ∷ fate.Stopped ∷ []) ≡ false }
+    ensures only_stopped { list_any (suits (Over Stopped 3)) (fate.Closing ∷ fate.Closed ∷ fate.Ended ∷ []) ≡ false }
+    ensures by_peer { list_any (suits (Over (Closed false) 3)) (fate.Open ∷ fate.Closing ∷ fate.Stopped ∷ []) ≡ false }
+    ensures by_own { list_any (suits (Over (Closed true) 3)) (fate.Closing ∷ fate.Stopped ∷ []) ≡ false }
+
     // of a life that hasn't begun nothing is said; one whose host stopped between its requests no fate suits
     ensures nothing { (x : Life) (f : Fate) → AreSuited [] (x ∷ []) (f ∷ []) }
     ensures early { (f : Fate) → AreSuited (crossing.In str ∷ crossing.Down late_answer.host ∷ crossing.Out rts ∷ []) (late_answer ∷ []) (f ∷ []) → ⊥ }
@@ -133,6 +141,9 @@ pub fn worked_contacts()
 
     // a life that hasn't begun continues with none
     ensures unasked { AreSuited sent_log (took ∷ unasked ∷ []) (fate.Reset ∷ fate.Open ∷ []) }
+
+    // and no contact has reset it, whatever its fate
+    ensures unbegun { AreSuited sent_log (unasked ∷ took ∷ []) (fate.Reset ∷ fate.Open ∷ []) }
 
     // where their host stops, a contact before that has reset both, and none with another peer
     ensures both_down { AreSuited down_log (took ∷ took_nothing ∷ []) (fate.Reset ∷ fate.Reset ∷ []) }
@@ -182,6 +193,11 @@ pub fn worked_toward()
     ensures handed { (strange : Host → Bool) (text : List Bool) → AreApart strange gave.host gave.peer → AreToward strange (gave_these text ∷ []) (text ∷ []) }
     ensures other { (strange : Host → Bool) → AreApart strange gave.host gave.peer → AreToward strange (gave_these (true ∷ []) ∷ []) ((false ∷ []) ∷ []) → ⊥ }
 
-    // what is named is the first that isn't so, and not one after it
+    // less than was handed over, and more
+    ensures less { MaySend (true ∷ false ∷ []) (true ∷ []) }
+    ensures more { MayNotSend (true ∷ []) (true ∷ false ∷ []) }
+
+    // what is named is the first that isn't so, also the second of two, and not one after it
+    ensures second { (x y : Life) → SecondIsNamed x y }
     ensures later { (strange : Host → Bool) (x y : Life) (text more : List Bool) → strange x.host ≡ true → UntowardAt strange (x ∷ y ∷ []) (text ∷ more ∷ []) 1 → ⊥ }
 {}

@@ -17,7 +17,7 @@ use Rattle.world_keeps_connections.proofs.lemmas.{world_joined}
 use Rattle.world_keeps_lives.proofs.lemmas.{world_drained, world_handed, world_taken, world_told}
 use Rattle.world_keeps_pairing.proofs.lemmas.{world_alone, world_partners}
 use Rattle.world_keeps_streams.specs.Within.{CountNothingLater}
-use Rattle.world_keeps_streams.proofs.lemmas.{world_agrees, world_answered, world_arrives, world_calms, world_came, world_closes, world_comes, world_firsts, world_formed, world_handed_over, world_rests, world_sent, world_settles, world_source}
+use Rattle.world_keeps_streams.proofs.lemmas.{world_agrees, world_answered, world_arrives, world_calms, world_came, world_closes, world_comes, world_firsts, world_formed, world_handed_over, world_rests, world_sent, world_settles, world_source, world_was_sent}
 
 -- what is left of a run without its newest crossings is one
 older_run : (hosts : List Host) (more log : List Crossing) → IsRun hosts (more ++ log) → IsRun hosts log
@@ -64,6 +64,7 @@ exact seen w lawful = record {
   drained = world_drained seen (seen w.carrier).hosts w lawful;
   handed = world_handed_over seen (seen w.carrier).hosts w lawful;
   firsts = world_firsts seen (seen w.carrier).hosts w lawful;
+  was_sent = world_was_sent seen (seen w.carrier).hosts w lawful;
 }
 
 -- so it is where a call promises each of the book that it gives

@@ -13,12 +13,14 @@ use Rattle.world_keeps_streams.specs.Arrivals.{AllArrive, AllCome}
 use Rattle.world_keeps_streams.specs.Came.{AllCame}
 use Rattle.world_keeps_streams.specs.Closes.{AllClose, AllHanded}
 use Rattle.world_keeps_streams.specs.Rests.{AllAgree, AllCalm, AllRest}
+use Rattle.world_keeps_streams.specs.Sent.{EachWasSent}
 use Rattle.world_keeps_streams.specs.Settled.{EachAgrees, HasSettled}
 use Rattle.world_keeps_streams.specs.Within.{CountNothingLater}
 
 -- a world is lawful; in its moments data arrive, and RFNM of data means that they did; lives agree where their ends
 -- close and where they rest; all that was ever sent had come in when a CLS was taken, and what was handed over was sent
--- where a sender closes first; and each message that went out is one of a sending life
+-- where a sender closes first; each message that went out is one of a sending life, and the k-th that a receiving one
+-- counts is the k-th of its partner, whatever their bits
 pub record IsExact {C : Type 0} (seen : C → Seen) (w : WorldState C) : Type 0 where
   pub lawful : IsLawful seen (seen w.carrier).hosts w
   pub arrives : AllArrive lawful.whole.moments
@@ -33,6 +35,7 @@ pub record IsExact {C : Type 0} (seen : C → Seen) (w : WorldState C) : Type 0 
   pub drained : AllDrained lawful.whole.moments
   pub handed : AllHanded lawful.whole.moments
   pub firsts : FirstBook w.kept.book.crossings w.kept.book.lives
+  pub was_sent : EachWasSent w.kept.book.crossings w.kept.book.lives
 
 -- the book of a world keeps the promise, and the world is exact: what `book_of` says of it, a field for each clause
 pub record KeepsPromise {C : Type 0} (seen : C → Seen) (w : WorldState C) : Type 0 where

@@ -5,7 +5,7 @@ use Rattle.mixed_worlds.proofs.Common.{[], ◌∷◌, ◌++◌, take, drop, leng
 use Rattle.mixed_worlds.proofs.Common.{arith, map, Contains, drop-append_seam, Host, Flow, Answer, Crossing}
 use Rattle.mixed_worlds.proofs.Common.{HostMessage, or_false, header_bits, is_receive_socket, is_send_socket, Command}
 use Rattle.mixed_worlds.proofs.Common.{Legal, Order, orders_of, is_ending, PairState, Parcel, Entry, Notice}
-use Rattle.mixed_worlds.proofs.Common.{CrossedAt, data_by, HasCrossed, coming, going, control_flow, accepted, pair_with}
+use Rattle.mixed_worlds.proofs.Common.{CrossedAt, data_by, HasCrossed, going, control_flow, accepted, pair_with}
 use Rattle.mixed_worlds.proofs.Common.{AreInOrder, message_for, next_in, offered, next_pair, pair_range, offer_read}
 use Rattle.mixed_worlds.proofs.Common.{Asked, Crossed, Moment, places, program, crossings_of, host_in, notices_by}
 use Rattle.mixed_worlds.proofs.Common.{places_same, Begins, Each, Ends, Goes, Hears, IsOther, MayTell, Quiet, Rules}
@@ -21,7 +21,7 @@ use Rattle.interface.specs.declared.crossing.Inbound.TheVariants as inbound
 use Rattle.ncp_control.specs.declared.command.Command.TheVariants as command
 use Rattle.host_pairs.specs.Parcels as parcel
 use Rattle.host_pairs.specs.declared.notice.Notice.TheVariants as notice
-use Rattle.promise.specs.Formed.{request}
+use Rattle.promise.specs.Formed.{request, coming}
 use Rattle.mixed_worlds.proofs.EndMoments.{Moved, control_is, moved_ends, own_out}
 use Rattle.mixed_worlds.proofs.Sockets.{fit}
 

@@ -1,5 +1,7 @@
 -- The bits of each life of a network with strangers are those of messages on one link, in their order.
-use Rattle.mixed_worlds.proofs.Common.{◌≡◌, inl, inr, ℕ, ◌*◌, ◌<◌, ◌==◌, ◌&&◌, not, Bool, true, false, if◌then◌else◌, List, [], ◌∷◌, ◌++◌, drop, length, take, Option, Some, None, refl, ap, sym, subst, ◌∙◌, eq-eqb, Contains, drop-append_seam, Host, same_host, Flow, Command, Crossing, HostMessage, same_host-true, data_bits, header_bits, is_receive_socket, is_send_socket, data_of, is_mine_on, is_open, receives_on, is_receiving, PairState, Parcel, next_of, may_send_on, Entry, Notice, both, what_goes, pair_range, data_by, flow_of, HasCrossed, going, receives, sends, Life, pair_with, message_for, next_in, next_is, next_pair, all_told, carried, changed_when, lives_at, where_it, Asked, Crossed, Moment, places, program, crossings_of, host_in, kept_by, notices_by, places_same, HasOpenEnd, Each, IsOther, MayTell, Rules, each_weaker, found_in, message_keeps, offer_keeps, open_mine, request_told, each_in, each_of, IsMixed, Orders, Says, older, ordered, crossed_only, mixed_kept, AreOf, IsCarried, IsNamed, NamesItself, find_passes, even_odd}
+use Rattle.mixed_worlds.proofs.Common.{◌≡◌, inl, inr, ℕ, ◌*◌, ◌<◌, ◌==◌, ◌&&◌, not, Bool, true, false, if◌then◌else◌, List, [], ◌∷◌, ◌++◌, drop, length, take, Option, Some, None, refl, ap, sym, subst, ◌∙◌, eq-eqb, Contains, drop-append_seam, Host, same_host, Flow, Command, Crossing, HostMessage, same_host-true, data_bits, header_bits, is_receive_socket, is_send_socket, data_of, is_mine_on, is_open, receives_on, is_receiving, PairState, Parcel, next_of, may_send_on, Entry, Notice, both, pair_range, data_by, flow_of, HasCrossed, going, receives, sends, Life, pair_with, message_for, next_in, next_pair, all_told, carried, changed_when, lives_at, where_it, Asked, Crossed, Moment, places, program, crossings_of, host_in, kept_by, notices_by, places_same, HasOpenEnd, Each, IsOther, MayTell, Rules, each_weaker, message_keeps, offer_keeps, request_told, each_in, each_of, IsMixed, Orders, Says, older, ordered, crossed_only, mixed_kept, AreOf, IsCarried, IsNamed, NamesItself, find_passes, even_odd}
+use Rattle.sockets.proofs.lemmas.{next_is}
+use Rattle.host_pairs.proofs.lemmas.{what_goes}
 use Rattle.std.proofs.lemmas.Bool.{eqb-true}
 use Rattle.interface.specs.declared.crossing.Crossing.TheVariants as crossing
 use Rattle.host_pairs.specs.Allowed.{MayGo}
@@ -9,7 +11,7 @@ use Rattle.host_pairs.specs.Parcels.{link_of}
 use Rattle.host_pairs.specs.declared.notice.Notice.TheVariants as notice
 use Rattle.host_keeps_streams.proofs.lemmas.Senders as senders
 use Rattle.promise.specs.Formed.{AreData}
-use Rattle.world_keeps_lives.proofs.lemmas.{answer_keeps}
+use Rattle.world_keeps_lives.proofs.lemmas.{answer_keeps, found_in, open_mine}
 use Rattle.world_keeps_lives.proofs.lemmas.{live_end}
 use Rattle.mixed_worlds.specs.Toward.{HasData}
 use Rattle.mixed_worlds.proofs.Asked.{Linked, Placed, linked_still, placed, rts_is}

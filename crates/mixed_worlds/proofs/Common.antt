@@ -5,8 +5,7 @@ pub use Rattle.host_keeps_pairing.specs.Words.{mark_of, marks}
 pub use Rattle.host_keeps_ranges.proofs.lemmas.{offer_read, pair_range}
 pub use Rattle.host_keeps_ranges.specs.Ranges.{IsReadBack}
 pub use Rattle.host_keeps_streams.proofs.lemmas.{find_passes}
-pub use Rattle.host_pairs.proofs.lemmas.{both, what_goes}
-pub use Rattle.host_pairs.specs.About.{AreAbout, IsAbout}
+pub use Rattle.host_pairs.proofs.lemmas.{both}
 pub use Rattle.host_pairs.specs.Commands.{Ending, Open, Unconnected, asked_on_link, changed, desk_taken, entry_joined, matched}
 pub use Rattle.host_pairs.specs.Control.{ERRONEOUS, Legal, Order, orders_of}
 pub use Rattle.host_pairs.specs.Data.{arrived, arrived_if, data_found, data_of, data_taken, is_acceptable, text_faulted}
@@ -20,20 +19,16 @@ pub use Rattle.host_pairs.specs.declared.listener.Listener.{Listener}
 pub use Rattle.host_pairs.specs.declared.notice.Notice.{Notice}
 pub use Rattle.interface.proofs.lemmas.{or_false, safe_messages, same_host-refl, same_host-true}
 pub use Rattle.interface.specs.Host.{Host, same_host}
-pub use Rattle.interface.specs.Mailboxes.{IsRun, is_up, same_flow}
+pub use Rattle.interface.specs.Mailboxes.{same_flow}
 pub use Rattle.interface.specs.declared.address.Flow.{Flow}
 pub use Rattle.interface.specs.declared.crossing.Answer.{Answer}
 pub use Rattle.interface.specs.declared.crossing.Crossing.{Crossing}
 pub use Rattle.interface.specs.declared.message.HostMessage.{HostMessage}
-pub use Rattle.masked_worlds.proofs.lemmas.{Orders, Says, if_is, masked_crossings, masked_program, older, ordered, other_host, says}
-pub use Rattle.masked_worlds.specs.Among.{is_of_stranger, without_strangers}
-pub use Rattle.masked_worlds.specs.Mixed.{IsMixed, closed, masked_crossing, masked_moments, stopped}
-pub use Rattle.masked_worlds.specs.Strangers.{masked_as, masked_log, strange_end, stranger_in, turn}
-pub use Rattle.masked_worlds.specs.Worked.{listener_taken}
-pub use Rattle.mixed_worlds.specs.Book.{beside_among, contacts_among, crossed_only, is_among, lives_among, mixed_kept}
+pub use Rattle.mixed_worlds.proofs.Moments.{Orders, Says, older, ordered}
+pub use Rattle.mixed_worlds.specs.Mixed.{IsMixed}
+pub use Rattle.mixed_worlds.specs.Worked.{listener_taken}
+pub use Rattle.mixed_worlds.specs.Book.{beside_among, contacts_among, crossed_only, is_among, lives_among, mixed_kept, without_strangers}
 pub use Rattle.world_keeps_lives.specs.SomeEnd.{HasSome}
-pub use Rattle.mixed_worlds.specs.Promised.{Promises}
-pub use Rattle.mixed_worlds.specs.Told.{ToldAmong, told_among}
 pub use Rattle.mixed_worlds.specs.Toward.{AreOf, HasAsked, IsCarried, IsNamed, NamesItself, ReportsData}
 pub use Rattle.mixed_worlds.specs.Worked.{sending_life}
 pub use Rattle.ncp_control.specs.DataHeader.{data_bits, header_bits, header_of}
@@ -42,23 +37,20 @@ pub use Rattle.ncp_control.specs.Phases.{is_ready}
 pub use Rattle.ncp_control.specs.declared.command.Command.{Command}
 pub use Rattle.ncp_control.specs.declared.data_header.DataHeader.{DataHeader}
 pub use Rattle.net_sim.proofs.lemmas.{places_same, same_host-sym}
-pub use Rattle.net_sim.specs.Book.{Kept, all_told, asked, book_told, carried, changed_when, crossed, fates_where, handed_to, life_ended, lives_asked, lives_at, lives_between, lives_crossed, lives_on, lives_told, lives_with, new_life, returned, where_it}
+pub use Rattle.net_sim.specs.Book.{Kept, all_told, book_told, carried, changed_when, life_ended, lives_asked, lives_at, lives_between, lives_crossed, lives_on, lives_told, lives_with, new_life, returned, where_it}
 pub use Rattle.net_sim.specs.Story.{Asked, Crossed, Moment, places, program}
 pub use Rattle.net_sim.specs.Timeline.{crossings_of}
 pub use Rattle.net_sim.specs.Told.{host_in, kept_by, kept_in, notices_by}
 pub use Rattle.pairing_law.specs.Ends.{End}
 pub use Rattle.pairing_law.specs.Marks.{Ask, Close, Mark}
 pub use Rattle.promise.specs.Fates.{ClosesWhole, IsBeside}
-pub use Rattle.promise.specs.Formed.{CrossedAt, FormedBook, HasCrossed, coming, data_by, flow_of, going, own_named, partner_named}
-pub use Rattle.promise.specs.Notices.{data_told}
-pub use Rattle.promise.specs.Safe.{AreTwo, Match, Name, SafeBook, control_flow, partner_request, receives, sends}
-pub use Rattle.promise.specs.declared.book.Told.{Told}
+pub use Rattle.promise.specs.Formed.{CrossedAt, HasCrossed, data_by, flow_of, going}
+pub use Rattle.promise.specs.Safe.{AreTwo, Match, Name, control_flow, receives, sends}
 pub use Rattle.promise.specs.declared.life.Fate.{Fate}
 pub use Rattle.promise.specs.declared.life.Life.{Life}
-pub use Rattle.sockets.proofs.lemmas.{answer_leaves, message_about, message_leaves, next_is, next_pair}
+pub use Rattle.sockets.proofs.lemmas.{answer_leaves, message_leaves, next_pair}
 pub use Rattle.sockets.specs.Accepting.{accepted, after_turn, turn_of}
-pub use Rattle.sockets.specs.Others.{peer_of}
-pub use Rattle.sockets.specs.Pairs.{NcpState, opening_state, owner_of, pair_with}
+pub use Rattle.sockets.specs.Pairs.{NcpState, opening_state, pair_with}
 pub use Rattle.sockets.specs.Peers.{AreInOrder}
 pub use Rattle.sockets.specs.Requests.{served}
 pub use Rattle.sockets.specs.Sending.{message_for, next_in, offered, offered_by}
@@ -70,7 +62,7 @@ pub use Rattle.std.proofs.Math.Seq.{drop-append_seam}
 pub use Rattle.std.proofs.lemmas.List.{append-nil, append_assoc}
 pub use Rattle.std.proofs.lemmas.List.Elements.{All-append, All-cons, All-contains, All-filter, All-head, All-map, All-nil, All-tail, All-weaker}
 pub use Rattle.std.specs.List.{Contains, list_any}
-pub use Rattle.std.specs.Prelude.{IsSome, flat_map}
-pub use Rattle.world_keeps_lives.proofs.lemmas.{Begins, Each, Ends, Goes, Hears, Holds, IsOther, MayTell, Quiet, Rules, each_in, each_of, each_weaker, found_in, message_keeps, offer_keeps, open_mine, request_told}
-pub use Rattle.world_keeps_lives.specs.Lives.{EachOn, HasOpenEnd, IsFreeSocket, IsLifeOf, IsOwned, at_socket, mine_on}
+pub use Rattle.std.specs.Prelude.{flat_map}
+pub use Rattle.world_keeps_lives.proofs.lemmas.{Begins, Each, Ends, Goes, Hears, Holds, IsOther, MayTell, Quiet, Rules, each_in, each_of, each_weaker, message_keeps, offer_keeps, request_told}
+pub use Rattle.world_keeps_lives.specs.Lives.{HasOpenEnd, IsFreeSocket, IsOwned, mine_on}
 pub use Rattle.world_keeps_pairing.proofs.lemmas.{even_odd, send_odd}

@@ -1,12 +1,13 @@
 -- What holds of each end that a host's program has with a peer holds after the next moment, whatever that peer sends.
 use Rattle.mixed_worlds.proofs.Common.{◌≡◌, ◌==◌, ℕ, Bool, true, false, if◌then◌else◌, List, ◌∷◌, map, take, Some}
+use Rattle.mixed_worlds.proofs.Moments.{says}
 use Rattle.mixed_worlds.proofs.Common.{refl, ap, sym, subst, ◌∙◌, Host, same_host, Flow, HostMessage, same_host-true, Command}
 use Rattle.mixed_worlds.proofs.Common.{Legal, orders_of, PairState, Parcel, Entry, Notice, control_flow, accepted}
 use Rattle.mixed_worlds.proofs.Common.{NcpState, opening_state, pair_with, served, message_for, next_in, offered}
 use Rattle.mixed_worlds.proofs.Common.{answer_leaves, message_leaves, next_pair, pair_range, offer_read}
 use Rattle.mixed_worlds.proofs.Common.{Asked, Crossed, Moment, places, program, Begins, Each, Ends, Goes, Hears}
 use Rattle.mixed_worlds.proofs.Common.{Quiet, Rules, message_keeps, IsMixed, Orders, Says, older}
-use Rattle.mixed_worlds.proofs.Common.{ordered, says, IsReadBack}
+use Rattle.mixed_worlds.proofs.Common.{ordered, IsReadBack}
 use Rattle.sockets.proofs.lemmas.{offer_leaves}
 use Rattle.std.proofs.lemmas.Bool.{eqb-true}
 use Rattle.interface.specs.declared.crossing.Crossing.TheVariants as crossing

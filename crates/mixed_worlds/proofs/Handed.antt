@@ -1,7 +1,7 @@
 -- What each life of a host that runs the program sent is a prefix of what was handed over in it, whatever its peer
 -- sends.
-use Rattle.mixed_worlds.proofs.Common.{◌≡◌, ◌⊎◌, inl, inr, ℕ, Bool, true, List, [], ◌∷◌, refl, ap, sym, subst, ◌∙◌, eq-eqb, Host, IsBeside, Life, NcpState, Kept, EachOn, IsFreeSocket, IsLifeOf, IsOwned, at_socket, Holds, same_host-refl}
-use Rattle.world_keeps_lives.specs.Lives.{IsSafe, NoneOf}
+use Rattle.mixed_worlds.proofs.Common.{◌≡◌, ◌⊎◌, inl, inr, ℕ, Bool, true, List, [], ◌∷◌, refl, ap, sym, subst, ◌∙◌, eq-eqb, Host, IsBeside, Life, NcpState, Kept, IsFreeSocket, IsOwned, Holds, same_host-refl, Contains, arith, suc}
+use Rattle.world_keeps_lives.specs.Lives.{IsSafe, NoneOf, EachOn, IsLifeOf, at_socket}
 
 -- a life of a socket, and what is beside it
 beside_safe : (a : Host) (k : ℕ) (P : Life → List Bool → Type 0) (lives : List Life) (handed : List (List Bool))
@@ -25,3 +25,11 @@ safe_beside s κ x t i h = by h.socket where
   by (inl free) = beside_safe x.host x.socket NoneOf κ.book.lives κ.handed free.lives x t i (here x)
   by (inr owned) = beside_safe x.host x.socket (IsLifeOf owned.peer owned.end) κ.book.lives κ.handed owned.lives x t i
       (here x)
+
+pub beside_in : {A : Type 0} (x : Life) (a : A) (lives : List Life) (others : List A) → IsBeside x a lives others
+    → Contains lives x
+beside_in x a [] others i = absurd i
+beside_in x a (y ∷ lives) [] i = absurd i
+beside_in x a (y ∷ lives) (b ∷ others) (inl (e, f)) = (0, omega arith, sym e)
+beside_in x a (y ∷ lives) (b ∷ others) (inr i) =
+    let rest : Contains lives x = beside_in x a lives others i in (suc rest.0, omega (arith, rest.1), rest.2)

@@ -1,17 +1,10 @@
+pub mod Moments
 pub mod Common
-pub mod Promised
 pub mod Sockets
-pub mod Apart
-pub mod Among
 pub mod SameBooks
-pub mod Books
-pub mod RealLogs
-pub mod RealFormed
-pub mod RealBooks
+pub mod Contacts
+pub mod Ours
 pub mod Settled
-pub mod SameContacts
-pub mod RealEnds
-pub mod RealAmong
 pub mod Joined
 pub mod EndMoments
 pub mod Rooms
@@ -30,6 +23,3 @@ pub mod Once
 pub mod OnceGone
 pub mod OnceLives
 pub mod Worlds
-pub mod SameTold
-pub mod RealTold
-pub mod RealArrived

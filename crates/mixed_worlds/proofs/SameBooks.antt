@@ -1,7 +1,7 @@
--- Two books that have the same among hosts with programs: the one of a network with strangers, and the one of the
--- masked moments.
-use Rattle.mixed_worlds.proofs.Common.{◌≡◌, ◌⊎◌, inl, inr, ℕ, ◌==◌, ◌&&◌, not, Bool, true, false, List, [], ◌∷◌, ◌++◌, length, Some, refl, ap, sym, subst, ◌∙◌, eq-eqb, if◌then◌else◌, Host, same_host, Crossing, AreAbout, IsAbout, Notice, both, Fate, Life, Request, Kept, all_told, asked, book_told, carried, crossed, fates_where, handed_to, life_ended, lives_at, lives_between, lives_on, lives_with, new_life, returned, where_it, same_host-sym, stranger_in, turn, if_is, other_host, EachOn, at_socket, Each, beside_among, is_among, lives_among}
-use Rattle.net_sim.specs.Book.{granted}
+-- The book of a network, in which strangers report nothing, has the same lives among hosts with programs as what is kept
+-- where each host reports what its program would.
+use Rattle.mixed_worlds.proofs.Common.{◌≡◌, ◌⊎◌, inl, inr, ℕ, ◌==◌, ◌&&◌, not, Bool, true, false, List, [], ◌∷◌, ◌++◌, length, Some, refl, ap, sym, subst, ◌∙◌, eq-eqb, if◌then◌else◌, Host, same_host, Crossing, Notice, both, Fate, Life, Request, Kept, all_told, book_told, carried, life_ended, lives_at, lives_between, lives_on, lives_with, new_life, returned, where_it, same_host-sym, Each, beside_among, is_among, lives_among, Asked, Crossed, Moment, host_in, kept_by, kept_in, notices_by, mixed_kept, crossed_only, same_host-true}
+use Rattle.net_sim.specs.Book.{fates_where, granted, handed_to, opening_kept, asked, crossed}
 use Rattle.interface.specs.declared.crossing.Crossing.TheVariants as crossing
 use Rattle.host_pairs.specs.declared.notice.Notice.TheVariants as notice
 use Rattle.host_pairs.proofs.lemmas.{not_is}
@@ -9,10 +9,9 @@ use Rattle.promise.specs.declared.life.Fate.TheVariants as fate
 use Rattle.sockets.specs.declared.request.Request.TheVariants as request
 use Rattle.net_sim.specs.Book.{closing}
 use Rattle.net_sim.specs.Book.{over_by_cls}
-use Rattle.mixed_worlds.proofs.Among.{NoneOf, among_more, among_other, among_where, beside_fates, beside_handed}
-use Rattle.mixed_worlds.proofs.Among.{beside_more, beside_other, beside_where, fates_length, fates_none}
-use Rattle.mixed_worlds.proofs.Among.{handed_length, handed_none, one_longer, where_length, where_none}
-use Rattle.mixed_worlds.proofs.Apart.{IsApart}
+use Rattle.world_keeps_lives.proofs.lemmas.Among.{NoneOf, among_more, among_other, among_where, beside_fates, beside_handed}
+use Rattle.world_keeps_lives.proofs.lemmas.Among.{beside_more, beside_other, beside_where, fates_length, fates_none}
+use Rattle.world_keeps_lives.proofs.lemmas.Among.{handed_length, handed_none, one_longer, where_length, where_none}
 
 -- a notice that opens no life with a stranger
 abbrev pub OpensAmong : (Host → Bool) → Notice → Type 0
@@ -20,10 +19,10 @@ OpensAmong strange (notice.Opened socket peer foreign own partner) = strange pee
 OpensAmong strange n = Unit {0}
 
 module _ (strange : Host → Bool) where
-  pub record SameBook (κ masked : Kept) : Type 0 where
-    pub lives : lives_among strange κ.book.lives ≡ masked.book.lives
-    pub handed : beside_among strange κ.book.lives κ.handed ≡ masked.handed
-    pub fates : beside_among strange κ.book.lives κ.fates ≡ masked.fates
+  pub record SameBook (κ among : Kept) : Type 0 where
+    pub lives : lives_among strange κ.book.lives ≡ among.book.lives
+    pub handed : beside_among strange κ.book.lives κ.handed ≡ among.handed
+    pub fates : beside_among strange κ.book.lives κ.fates ≡ among.fates
     pub handed_each : length κ.handed ≡ length κ.book.lives
     pub fate_each : length κ.fates ≡ length κ.book.lives
 
@@ -43,8 +42,14 @@ module _ (strange : Host → Bool) where
     by true is rest = (never x is, rest)
     by false off rest = rest
 
-  pub stranger_off : (h g : Host) (rest : Bool) → strange h ≡ true → strange g ≡ false → (same_host h g && rest) ≡ false
-  stranger_off h g rest on off = ap (λ (b : Bool). b && rest) (same_host-sym h g ∙ other_host strange g h off on)
+  pub other_host : (h g : Host) → strange h ≡ false → strange g ≡ true → same_host h g ≡ false
+  other_host h g off on = by (same_host h g) refl where
+    by : (b : Bool) → same_host h g ≡ b → b ≡ false
+    by true e = absurd (let clash : true ≡ false = sym on ∙ subst (λ (x : Host). strange x ≡ false) (same_host-true h g e) off in cc)
+    by false e = refl
+
+  stranger_off : (h g : Host) (rest : Bool) → strange h ≡ true → strange g ≡ false → (same_host h g && rest) ≡ false
+  stranger_off h g rest on off = ap (λ (b : Bool). b && rest) (same_host-sym h g ∙ other_host g h off on)
 
   -- what is done to lives of which none is among hosts with programs
   aside_where : (test : Life → Bool) (change : Life → Life) (lives : List Life)
@@ -62,8 +67,8 @@ module _ (strange : Host → Bool) where
 
   -- ---- crossings
 
-  pub crossed_both : (c : Crossing) (κ masked : Kept) → SameBook κ masked → SameBook (crossed c κ) (crossed c masked)
-  crossed_both (crossing.Down h) κ masked same = record {
+  pub crossed_both : (c : Crossing) (κ among : Kept) → SameBook κ among → SameBook (crossed c κ) (crossed c among)
+  crossed_both (crossing.Down h) κ among same = record {
     lives = among_where strange (lives_on h) life_ended κ.book.lives (λ x. (refl, refl))
         ∙ ap (where_it (lives_on h) life_ended) same.lives;
     handed = beside_where strange (lives_on h) life_ended κ.book.lives κ.handed (λ x. (refl, refl)) ∙ same.handed;
@@ -73,33 +78,33 @@ module _ (strange : Host → Bool) where
         ∙ ap
         (λ (xs : List Life). fates_where (lives_on h) (λ f. fate.Stopped) xs
         (beside_among strange κ.book.lives κ.fates)) same.lives
-        ∙ ap (fates_where (lives_on h) (λ f. fate.Stopped) masked.book.lives) same.fates;
+        ∙ ap (fates_where (lives_on h) (λ f. fate.Stopped) among.book.lives) same.fates;
     handed_each = same.handed_each ∙ sym (where_length (lives_on h) life_ended κ.book.lives);
     fate_each = fates_length (lives_on h) (λ f. fate.Stopped) κ.book.lives κ.fates ∙ same.fate_each
         ∙ sym (where_length (lives_on h) life_ended κ.book.lives);
   }
-  crossed_both (crossing.Up h) κ masked same = record {
+  crossed_both (crossing.Up h) κ among same = record {
     lives = same.lives;
     handed = same.handed;
     fates = same.fates;
     handed_each = same.handed_each;
     fate_each = same.fate_each;
   }
-  crossed_both (crossing.Out m) κ masked same = record {
+  crossed_both (crossing.Out m) κ among same = record {
     lives = same.lives;
     handed = same.handed;
     fates = same.fates;
     handed_each = same.handed_each;
     fate_each = same.fate_each;
   }
-  crossed_both (crossing.In m) κ masked same = record {
+  crossed_both (crossing.In m) κ among same = record {
     lives = same.lives;
     handed = same.handed;
     fates = same.fates;
     handed_each = same.handed_each;
     fate_each = same.fate_each;
   }
-  crossed_both (crossing.Answer kind f) κ masked same = record {
+  crossed_both (crossing.Answer kind f) κ among same = record {
     lives = same.lives;
     handed = same.handed;
     fates = same.fates;
@@ -108,9 +113,9 @@ module _ (strange : Host → Bool) where
   }
 
   -- a crossing of a stranger changes none of them
-  pub crossed_aside : (c : Crossing) (g : Host) (κ masked : Kept) → stranger_in strange c ≡ Some g → SameBook κ masked
-      → SameBook (crossed c κ) masked
-  crossed_aside (crossing.Down h) g κ masked is same = record {
+  pub crossed_aside : (c : Crossing) (κ among : Kept) → strange (host_in (Crossed c)) ≡ true → SameBook κ among
+      → SameBook (crossed c κ) among
+  crossed_aside (crossing.Down h) κ among on same = record {
     lives = aside_where (lives_on h) life_ended κ.book.lives (λ x. (refl, refl)) none ∙ same.lives;
     handed = beside_where strange (lives_on h) life_ended κ.book.lives κ.handed (λ x. (refl, refl)) ∙ same.handed;
     fates = beside_where strange (lives_on h) life_ended κ.book.lives
@@ -121,52 +126,29 @@ module _ (strange : Host → Bool) where
         ∙ sym (where_length (lives_on h) life_ended κ.book.lives);
   } where
     none : NoneOf (lives_on h) (lives_among strange κ.book.lives)
-    none = none_among (lives_on h) κ.book.lives
-        (λ x among. stranger_off h x.host (not x.ended) (if_is strange h g is).0 (among_parts x among).0)
-  crossed_aside (crossing.Up h) g κ masked is same = record {
+    none = none_among (lives_on h) κ.book.lives (λ x is. stranger_off h x.host (not x.ended) on (among_parts x is).0)
+  crossed_aside (crossing.Up h) κ among on same = record {
     lives = same.lives;
     handed = same.handed;
     fates = same.fates;
     handed_each = same.handed_each;
     fate_each = same.fate_each;
   }
-  crossed_aside (crossing.Out m) g κ masked is same = record {
+  crossed_aside (crossing.Out m) κ among on same = record {
     lives = same.lives;
     handed = same.handed;
     fates = same.fates;
     handed_each = same.handed_each;
     fate_each = same.fate_each;
   }
-  crossed_aside (crossing.In m) g κ masked is same = record {
+  crossed_aside (crossing.In m) κ among on same = record {
     lives = same.lives;
     handed = same.handed;
     fates = same.fates;
     handed_each = same.handed_each;
     fate_each = same.fate_each;
   }
-  crossed_aside (crossing.Answer kind f) g κ masked is same = record {
-    lives = same.lives;
-    handed = same.handed;
-    fates = same.fates;
-    handed_each = same.handed_each;
-    fate_each = same.fate_each;
-  }
-
-  -- nor does its stop or start in the masked moments
-  pub turned_aside : (b : Bool) (g : Host) (κ masked : Kept) → strange g ≡ true → SameBook κ masked
-      → SameBook κ (crossed (turn b g) masked)
-  turned_aside true g κ masked on same = record {
-    lives = same.lives ∙ sym (where_none (lives_on g) life_ended masked.book.lives none);
-    handed = same.handed;
-    fates = same.fates ∙ sym (fates_none (lives_on g) (λ f. fate.Stopped) masked.book.lives masked.fates none);
-    handed_each = same.handed_each;
-    fate_each = same.fate_each;
-  } where
-    none : NoneOf (lives_on g) masked.book.lives
-    none = subst (NoneOf (lives_on g)) same.lives
-        (none_among (lives_on g) κ.book.lives
-        (λ x among. stranger_off g x.host (not x.ended) on (among_parts x among).0))
-  turned_aside false g κ masked on same = record {
+  crossed_aside (crossing.Answer kind f) κ among on same = record {
     lives = same.lives;
     handed = same.handed;
     fates = same.fates;
@@ -181,35 +163,35 @@ module _ (strange : Host → Bool) where
   new_among h socket peer foreign own partner off other = rw (off, other) refl
 
   -- lives that change by a notice, in both books
-  both_where : (test : Life → Bool) (change : Life → Life) (κ masked : Kept)
-      → ((x : Life) → ((change x).host ≡ x.host) × ((change x).peer ≡ x.peer)) → SameBook κ masked
-      → lives_among strange (where_it test change κ.book.lives) ≡ where_it test change masked.book.lives
-  both_where test change κ masked leaves same = among_where strange test change κ.book.lives leaves
+  both_where : (test : Life → Bool) (change : Life → Life) (κ among : Kept)
+      → ((x : Life) → ((change x).host ≡ x.host) × ((change x).peer ≡ x.peer)) → SameBook κ among
+      → lives_among strange (where_it test change κ.book.lives) ≡ where_it test change among.book.lives
+  both_where test change κ among leaves same = among_where strange test change κ.book.lives leaves
       ∙ ap (where_it test change) same.lives
 
-  both_fates : (test : Life → Bool) (change : Life → Life) (goes : Fate → Fate) (κ masked : Kept)
-      → ((x : Life) → ((change x).host ≡ x.host) × ((change x).peer ≡ x.peer)) → SameBook κ masked
+  both_fates : (test : Life → Bool) (change : Life → Life) (goes : Fate → Fate) (κ among : Kept)
+      → ((x : Life) → ((change x).host ≡ x.host) × ((change x).peer ≡ x.peer)) → SameBook κ among
       → beside_among strange (where_it test change κ.book.lives) (fates_where test goes κ.book.lives κ.fates) ≡
-      fates_where test goes masked.book.lives masked.fates
-  both_fates test change goes κ masked leaves same =
+      fates_where test goes among.book.lives among.fates
+  both_fates test change goes κ among leaves same =
       beside_where strange test change κ.book.lives (fates_where test goes κ.book.lives κ.fates) leaves
       ∙ beside_fates strange test goes κ.book.lives κ.fates
       ∙ ap (λ (xs : List Life). fates_where test goes xs (beside_among strange κ.book.lives κ.fates)) same.lives
-      ∙ ap (fates_where test goes masked.book.lives) same.fates
+      ∙ ap (fates_where test goes among.book.lives) same.fates
 
-  told_where : (h : Host) (n : Notice) (test : Life → Bool) (change : Life → Life) (κ masked : Kept)
-      → ((x : Life) → ((change x).host ≡ x.host) × ((change x).peer ≡ x.peer)) → SameBook κ masked
+  told_where : (h : Host) (n : Notice) (test : Life → Bool) (change : Life → Life) (κ among : Kept)
+      → ((x : Life) → ((change x).host ≡ x.host) × ((change x).peer ≡ x.peer)) → SameBook κ among
       → SameBook (record κ { book = record κ.book { lives = where_it test change κ.book.lives } })
-      (record masked { book = record masked.book { lives = where_it test change masked.book.lives } })
-  told_where h n test change κ masked leaves same = record {
-    lives = both_where test change κ masked leaves same;
+      (record among { book = record among.book { lives = where_it test change among.book.lives } })
+  told_where h n test change κ among leaves same = record {
+    lives = both_where test change κ among leaves same;
     handed = beside_where strange test change κ.book.lives κ.handed leaves ∙ same.handed;
     fates = beside_where strange test change κ.book.lives κ.fates leaves ∙ same.fates;
     handed_each = same.handed_each ∙ sym (where_length test change κ.book.lives);
     fate_each = same.fate_each ∙ sym (where_length test change κ.book.lives);
   }
 
-  told_fates : (test : Life → Bool) (goes : Fate → Fate) (κ masked : Kept) → SameBook κ masked
+  told_fates : (test : Life → Bool) (goes : Fate → Fate) (κ among : Kept) → SameBook κ among
       →
       SameBook
       (record κ {
@@ -217,25 +199,25 @@ module _ (strange : Host → Bool) where
         fates = fates_where test
             goes κ.book.lives κ.fates;
       })
-      (record masked {
-        book = record masked.book { lives = where_it test life_ended masked.book.lives };
+      (record among {
+        book = record among.book { lives = where_it test life_ended among.book.lives };
         fates = fates_where test
-            goes masked.book.lives masked.fates;
+            goes among.book.lives among.fates;
       })
-  told_fates test goes κ masked same = record {
-    lives = both_where test life_ended κ masked (λ x. (refl, refl)) same;
+  told_fates test goes κ among same = record {
+    lives = both_where test life_ended κ among (λ x. (refl, refl)) same;
     handed = beside_where strange test life_ended κ.book.lives κ.handed (λ x. (refl, refl)) ∙ same.handed;
-    fates = both_fates test life_ended goes κ masked (λ x. (refl, refl)) same;
+    fates = both_fates test life_ended goes κ among (λ x. (refl, refl)) same;
     handed_each = same.handed_each ∙ sym (where_length test life_ended κ.book.lives);
     fate_each = fates_length test goes κ.book.lives κ.fates ∙ same.fate_each
         ∙ sym (where_length test life_ended κ.book.lives);
   }
 
   -- only lives, what was handed over and fates matter
-  as_kept : (κ k masked m : Kept) → SameBook κ masked → k.book.lives ≡ κ.book.lives → k.handed ≡ κ.handed
-      → k.fates ≡ κ.fates → m.book.lives ≡ masked.book.lives → m.handed ≡ masked.handed → m.fates ≡ masked.fates
+  as_kept : (κ k among m : Kept) → SameBook κ among → k.book.lives ≡ κ.book.lives → k.handed ≡ κ.handed
+      → k.fates ≡ κ.fates → m.book.lives ≡ among.book.lives → m.handed ≡ among.handed → m.fates ≡ among.fates
       → SameBook k m
-  as_kept κ k masked m same l h f ml mh mf = record {
+  as_kept κ k among m same l h f ml mh mf = record {
     lives = ap (lives_among strange) l ∙ same.lives ∙ sym ml;
     handed = ap (λ (xs : List Life). beside_among strange xs k.handed) l ∙ ap (beside_among strange κ.book.lives) h
         ∙ same.handed ∙ sym mh;
@@ -246,9 +228,9 @@ module _ (strange : Host → Bool) where
     fate_each = ap (λ (xs : List Fate). length xs) f ∙ same.fate_each ∙ ap (λ (xs : List Life). length xs) (sym l);
   }
 
-  pub told_both : (h : Host) (n : Notice) (κ masked : Kept) → strange h ≡ false → OpensAmong strange n
-      → SameBook κ masked → SameBook (book_told h n κ) (book_told h n masked)
-  told_both h (notice.Opened socket peer foreign own partner) κ masked off opens same =
+  pub told_both : (h : Host) (n : Notice) (κ among : Kept) → strange h ≡ false → OpensAmong strange n
+      → SameBook κ among → SameBook (book_told h n κ) (book_told h n among)
+  told_both h (notice.Opened socket peer foreign own partner) κ among off opens same =
       let x : Life = new_life h socket peer foreign own partner in
       let is : is_among strange (new_life h socket peer foreign own partner) ≡ true = new_among h socket peer foreign
       own partner off opens in
@@ -263,55 +245,37 @@ module _ (strange : Host → Bool) where
         fate_each = one_longer κ.book.lives κ.fates (new_life h socket peer foreign own partner) fate.Open
             same.fate_each;
       }
-  told_both h (notice.Ended socket peer foreign) κ masked off opens same = as_kept _ _ _ _
-      (told_fates (lives_between h socket peer foreign) over_by_cls κ masked same) refl refl refl refl refl refl
-  told_both h (notice.PairReset peer) κ masked off opens same = as_kept _ _ _ _
-      (told_fates (lives_with h peer) (λ f. fate.Reset) κ masked same) refl refl refl refl refl refl
-  told_both h (notice.Sent socket bits) κ masked off opens same = as_kept _ _ _ _
-      (told_where h (notice.Sent socket bits) (lives_at h socket) (carried bits) κ masked (λ x. (refl, refl)) same)
+  told_both h (notice.Ended socket peer foreign) κ among off opens same = as_kept _ _ _ _
+      (told_fates (lives_between h socket peer foreign) over_by_cls κ among same) refl refl refl refl refl refl
+  told_both h (notice.PairReset peer) κ among off opens same = as_kept _ _ _ _
+      (told_fates (lives_with h peer) (λ f. fate.Reset) κ among same) refl refl refl refl refl refl
+  told_both h (notice.Sent socket bits) κ among off opens same = as_kept _ _ _ _
+      (told_where h (notice.Sent socket bits) (lives_at h socket) (carried bits) κ among (λ x. (refl, refl)) same)
       refl refl refl refl refl refl
-  told_both h (notice.Arrived socket bits) κ masked off opens same = as_kept _ _ _ _
-      (told_where h (notice.Arrived socket bits) (lives_at h socket) (carried bits) κ masked (λ x. (refl, refl)) same)
+  told_both h (notice.Arrived socket bits) κ among off opens same = as_kept _ _ _ _
+      (told_where h (notice.Arrived socket bits) (lives_at h socket) (carried bits) κ among (λ x. (refl, refl)) same)
       refl refl refl refl refl refl
-  told_both h (notice.Returned socket messages bits) κ masked off opens same =
+  told_both h (notice.Returned socket messages bits) κ among off opens same =
       as_kept _ _ _ _
-      (told_where h (notice.Returned socket messages bits) (lives_at h socket) (returned messages bits) κ masked
+      (told_where h (notice.Returned socket messages bits) (lives_at h socket) (returned messages bits) κ among
       (λ x. (refl, refl)) same) refl refl refl refl refl refl
-  told_both h (notice.Ready peer) κ masked off opens same = as_kept κ _ masked _ same refl refl refl refl refl refl
-  told_both h (notice.ContactFailed peer) κ masked off opens same = as_kept κ _ masked _ same refl refl refl refl refl
+  told_both h (notice.Ready peer) κ among off opens same = as_kept κ _ among _ same refl refl refl refl refl refl
+  told_both h (notice.ContactFailed peer) κ among off opens same = as_kept κ _ among _ same refl refl refl refl refl
       refl
-  told_both h (notice.Interrupt socket) κ masked off opens same = as_kept κ _ masked _ same refl refl refl refl refl
+  told_both h (notice.Interrupt socket) κ among off opens same = as_kept κ _ among _ same refl refl refl refl refl
       refl
-  told_both h (notice.Echoed peer octet) κ masked off opens same = as_kept κ _ masked _ same refl refl refl refl refl
+  told_both h (notice.Echoed peer octet) κ among off opens same = as_kept κ _ among _ same refl refl refl refl refl
       refl
-  told_both h (notice.RemoteError peer code detail) κ masked off opens same = as_kept κ _ masked _ same refl refl refl
+  told_both h (notice.RemoteError peer code detail) κ among off opens same = as_kept κ _ among _ same refl refl refl
       refl refl refl
 
-  pub all_both : (h : Host) (ns : List Notice) (κ masked : Kept) → strange h ≡ false → Each (OpensAmong strange) ns
-      → SameBook κ masked → SameBook (all_told h ns κ) (all_told h ns masked)
-  all_both h [] κ masked off opens same = same
-  all_both h (n ∷ ns) κ masked off opens same = all_both h ns (book_told h n κ) (book_told h n masked) off opens.1
-      (told_both h n κ masked off opens.0 same)
+  -- ---- notices that change none of them
 
-  -- ---- notices about a stranger
-
-  -- of each socket either nothing is reported that would change its life, or no life among hosts with programs
-  -- continues there
-  abbrev pub Spares : Host → List Notice → List Life → Type 0
-  Spares h ns lives = (k : ℕ) → Each (IsApart k) ns ⊎ NoneOf (lives_at h k) lives
-
-  named : (h : Host) (n : Notice) (ns : List Notice) (socket : ℕ) (lives : List Life)
-      → (IsApart socket n → (socket == socket) ≡ false) → Spares h (n ∷ ns) lives → NoneOf (lives_at h socket) lives
-  named h n ns socket lives is spares = by (spares socket) where
-    by : Each (IsApart socket) (n ∷ ns) ⊎ NoneOf (lives_at h socket) lives → NoneOf (lives_at h socket) lives
-    by (inl apart) = absurd (let clash : true ≡ false = sym (eq-eqb socket socket refl) ∙ is apart.0 in cc)
-    by (inr none) = none
-
-  aside_lives : (test : Life → Bool) (change : Life → Life) (κ k masked : Kept)
-      → ((x : Life) → ((change x).host ≡ x.host) × ((change x).peer ≡ x.peer)) → NoneOf test masked.book.lives
-      → SameBook κ masked
-      → k.book.lives ≡ where_it test change κ.book.lives → k.handed ≡ κ.handed → k.fates ≡ κ.fates → SameBook k masked
-  aside_lives test change κ k masked leaves none same l h f =
+  aside_lives : (test : Life → Bool) (change : Life → Life) (κ k among : Kept)
+      → ((x : Life) → ((change x).host ≡ x.host) × ((change x).peer ≡ x.peer)) → NoneOf test among.book.lives
+      → SameBook κ among
+      → k.book.lives ≡ where_it test change κ.book.lives → k.handed ≡ κ.handed → k.fates ≡ κ.fates → SameBook k among
+  aside_lives test change κ k among leaves none same l h f =
       let here : NoneOf test (lives_among strange κ.book.lives) = subst (NoneOf test) (sym same.lives) none in
       record {
         lives = ap (lives_among strange) l ∙ aside_where test change κ.book.lives leaves here ∙ same.lives;
@@ -327,11 +291,11 @@ module _ (strange : Host → Bool) where
             ∙ sym (where_length test change κ.book.lives) ∙ ap (λ (xs : List Life). length xs) (sym l);
       }
 
-  aside_ended : (test : Life → Bool) (goes : Fate → Fate) (κ k masked : Kept)
-      → NoneOf test (lives_among strange κ.book.lives) → SameBook κ masked
+  aside_ended : (test : Life → Bool) (goes : Fate → Fate) (κ k among : Kept)
+      → NoneOf test (lives_among strange κ.book.lives) → SameBook κ among
       → k.book.lives ≡ where_it test life_ended κ.book.lives → k.handed ≡ κ.handed
-      → k.fates ≡ fates_where test goes κ.book.lives κ.fates → SameBook k masked
-  aside_ended test goes κ k masked none same l h f = record {
+      → k.fates ≡ fates_where test goes κ.book.lives κ.fates → SameBook k among
+  aside_ended test goes κ k among none same l h f = record {
     lives = ap (lives_among strange) l ∙ aside_where test life_ended κ.book.lives (λ x. (refl, refl)) none ∙ same.lives;
     handed = ap (λ (xs : List Life). beside_among strange xs k.handed) l
         ∙ beside_where strange test life_ended κ.book.lives k.handed (λ x. (refl, refl))
@@ -346,120 +310,90 @@ module _ (strange : Host → Bool) where
         ∙ sym (where_length test life_ended κ.book.lives) ∙ ap (λ (xs : List Life). length xs) (sym l);
   }
 
-  pub told_aside : (h g : Host) (n : Notice) (ns : List Notice) (κ masked : Kept) → strange g ≡ true → IsAbout g n
-      → Spares h (n ∷ ns) masked.book.lives → SameBook κ masked → SameBook (book_told h n κ) masked
-  told_aside h g (notice.Opened socket peer foreign own partner) ns κ masked on about spares same =
-      let other : strange peer ≡ true = subst (λ (x : Host). strange x ≡ true) (sym about) on in
-      let off : is_among strange (new_life h socket peer foreign own partner) ≡ false = outside (strange h)
-      (strange peer) other in
-      record {
-        lives = among_other strange κ.book.lives (new_life h socket peer foreign own partner) off ∙ same.lives;
-        handed = beside_other strange κ.book.lives κ.handed (new_life h socket peer foreign own partner) []
-            same.handed_each off ∙ same.handed;
-        fates = beside_other strange κ.book.lives κ.fates (new_life h socket peer foreign own partner) fate.Open
-            same.fate_each off ∙ same.fates;
-        handed_each = one_longer κ.book.lives κ.handed (new_life h socket peer foreign own partner) [] same.handed_each;
-        fate_each = one_longer κ.book.lives κ.fates (new_life h socket peer foreign own partner) fate.Open
-            same.fate_each;
-      } where
-        outside : (a b : Bool) → b ≡ true → (not a && not b) ≡ false
-        outside true b e = refl
-        outside false true e = refl
-        outside false false e = absurd (cc)
-  told_aside h g (notice.Ended socket peer foreign) ns κ masked on about spares same =
-      aside_ended (lives_between h socket peer foreign) over_by_cls κ _ masked
-      (none_among (lives_between h socket peer foreign) κ.book.lives
-      (λ x among. off x
-      (same_host-sym peer x.peer
-      ∙ other_host strange x.peer peer (among_parts x among).1
-      (subst (λ (y : Host). strange y ≡ true) (sym about) on)))) same refl refl refl where
-        off : (x : Life) → same_host peer x.peer ≡ false → lives_between h socket peer foreign x ≡ false
-        off x apart = by (lives_at h socket x) where
-          by : (b : Bool) → (b && same_host peer x.peer && x.foreign == foreign) ≡ false
-          by true = rw apart refl
-          by false = refl
-  told_aside h g (notice.PairReset peer) ns κ masked on about spares same =
-      aside_ended (lives_with h peer) (λ f. fate.Reset) κ _ masked
-      (none_among (lives_with h peer) κ.book.lives
-      (λ x among. off x
-      (same_host-sym peer x.peer
-      ∙ other_host strange x.peer peer (among_parts x among).1
-      (subst (λ (y : Host). strange y ≡ true) (sym about) on)))) same refl refl refl where
-        off : (x : Life) → same_host peer x.peer ≡ false → lives_with h peer x ≡ false
-        off x apart = by (same_host h x.host) where
-          by : (b : Bool) → (b && same_host peer x.peer && not x.ended) ≡ false
-          by true = rw apart refl
-          by false = refl
-  told_aside h g (notice.Sent socket bits) ns κ masked on about spares same =
-      aside_lives (lives_at h socket) (carried bits) κ _ masked (λ x. (refl, refl))
-      (named h (notice.Sent socket bits) ns socket masked.book.lives (λ e. e) spares) same refl refl refl
-  told_aside h g (notice.Arrived socket bits) ns κ masked on about spares same =
-      aside_lives (lives_at h socket) (carried bits) κ _ masked (λ x. (refl, refl))
-      (named h (notice.Arrived socket bits) ns socket masked.book.lives (λ e. e) spares) same refl refl refl
-  told_aside h g (notice.Returned socket messages bits) ns κ masked on about spares same =
-      aside_lives (lives_at h socket) (returned messages bits) κ _ masked (λ x. (refl, refl))
-      (named h (notice.Returned socket messages bits) ns socket masked.book.lives (λ e. e) spares) same refl refl refl
-  told_aside h g (notice.Ready peer) ns κ masked on about spares same = as_kept κ _ masked masked same refl refl refl
-      refl refl refl
-  told_aside h g (notice.ContactFailed peer) ns κ masked on about spares same = as_kept κ _ masked masked same refl
-      refl refl refl refl refl
-  told_aside h g (notice.Interrupt socket) ns κ masked on about spares same = as_kept κ _ masked masked same refl refl
-      refl refl refl refl
-  told_aside h g (notice.Echoed peer octet) ns κ masked on about spares same = as_kept κ _ masked masked same refl
-      refl refl refl refl refl
-  told_aside h g (notice.RemoteError peer code detail) ns κ masked on about spares same = as_kept κ _ masked masked
-      same refl refl refl refl refl refl
+  none_of : (h : Host) → strange h ≡ true → (test : Life → Bool)
+      → ((x : Life) → same_host h x.host ≡ false → test x ≡ false)
+      → (lives : List Life) → NoneOf test (lives_among strange lives)
+  none_of h on test off lives = none_among test lives (λ x is. off x (same_host-sym h x.host ∙ other_host x.host h (among_parts x is).0 on))
 
-  later : (h : Host) (n : Notice) (ns : List Notice) (lives : List Life) → Spares h (n ∷ ns) lives → Spares h ns lives
-  later h n ns lives spares k = by (spares k) where
-    by : Each (IsApart k) (n ∷ ns) ⊎ NoneOf (lives_at h k) lives → Each (IsApart k) ns ⊎ NoneOf (lives_at h k) lives
-    by (inl apart) = inl apart.1
-    by (inr none) = inr none
+  at_none : (h : Host) (socket : ℕ) (κ among : Kept) → strange h ≡ true → SameBook κ among
+      → NoneOf (lives_at h socket) among.book.lives
+  at_none h socket κ among on same = subst (NoneOf (lives_at h socket)) same.lives (none_of h on (lives_at h socket) (λ x off. rw off refl) κ.book.lives)
 
-  pub all_aside : (h g : Host) (ns : List Notice) (κ masked : Kept) → strange g ≡ true → AreAbout g ns
-      → Spares h ns masked.book.lives → SameBook κ masked → SameBook (all_told h ns κ) masked
-  all_aside h g [] κ masked on about spares same = same
-  all_aside h g (n ∷ ns) κ masked on about spares same =
-      all_aside h g ns (book_told h n κ) masked on about.1 (later h n ns masked.book.lives spares)
-      (told_aside h g n ns κ masked on about.0 spares same)
+  -- an opening with a stranger, or of a stranger
+  opened_aside : (h : Host) (socket : ℕ) (peer : Host) (foreign own partner : ℕ) (κ among : Kept)
+      → is_among strange (new_life h socket peer foreign own partner) ≡ false → SameBook κ among
+      → SameBook (book_told h (notice.Opened socket peer foreign own partner) κ) among
+  opened_aside h socket peer foreign own partner κ among off same = record {
+    lives = among_other strange κ.book.lives (new_life h socket peer foreign own partner) off ∙ same.lives;
+    handed = beside_other strange κ.book.lives κ.handed (new_life h socket peer foreign own partner) [] same.handed_each off ∙ same.handed;
+    fates = beside_other strange κ.book.lives κ.fates (new_life h socket peer foreign own partner) fate.Open same.fate_each off ∙ same.fates;
+    handed_each = one_longer κ.book.lives κ.handed (new_life h socket peer foreign own partner) [] same.handed_each;
+    fate_each = one_longer κ.book.lives κ.fates (new_life h socket peer foreign own partner) fate.Open same.fate_each;
+  }
+
+  -- what a stranger's user would be notified of
+  told_aside : (h : Host) (n : Notice) (κ among : Kept) → strange h ≡ true → SameBook κ among
+      → SameBook (book_told h n κ) among
+  told_aside h (notice.Opened socket peer foreign own partner) κ among on same =
+      opened_aside h socket peer foreign own partner κ among (ap (λ (b : Bool). not b && not (strange peer)) on) same
+  told_aside h (notice.Ended socket peer foreign) κ among on same =
+      aside_ended (lives_between h socket peer foreign) over_by_cls κ _ among (none_of h on (lives_between h socket peer foreign) (λ x off. rw off refl) κ.book.lives) same refl refl refl
+  told_aside h (notice.PairReset peer) κ among on same =
+      aside_ended (lives_with h peer) (λ f. fate.Reset) κ _ among (none_of h on (lives_with h peer) (λ x off. rw off refl) κ.book.lives) same refl refl refl
+  told_aside h (notice.Sent socket bits) κ among on same =
+      aside_lives (lives_at h socket) (carried bits) κ _ among (λ x. (refl, refl)) (at_none h socket κ among on same) same refl refl refl
+  told_aside h (notice.Arrived socket bits) κ among on same =
+      aside_lives (lives_at h socket) (carried bits) κ _ among (λ x. (refl, refl)) (at_none h socket κ among on same) same refl refl refl
+  told_aside h (notice.Returned socket messages bits) κ among on same =
+      aside_lives (lives_at h socket) (returned messages bits) κ _ among (λ x. (refl, refl)) (at_none h socket κ among on same) same refl refl refl
+  told_aside h (notice.Ready peer) κ among on same = as_kept κ _ among among same refl refl refl refl refl refl
+  told_aside h (notice.ContactFailed peer) κ among on same = as_kept κ _ among among same refl refl refl refl refl refl
+  told_aside h (notice.Interrupt socket) κ among on same = as_kept κ _ among among same refl refl refl refl refl refl
+  told_aside h (notice.Echoed peer octet) κ among on same = as_kept κ _ among among same refl refl refl refl refl refl
+  told_aside h (notice.RemoteError peer code detail) κ among on same = as_kept κ _ among among same refl refl refl refl refl refl
+
+  all_aside : (h : Host) (ns : List Notice) (κ among : Kept) → strange h ≡ true → SameBook κ among
+      → SameBook (all_told h ns κ) among
+  all_aside h [] κ among on same = same
+  all_aside h (n ∷ ns) κ among on same = all_aside h ns (book_told h n κ) among on (told_aside h n κ among on same)
 
   -- ---- requests
 
-  pub asked_both : (h : Host) (r : Request) (κ masked : Kept) → SameBook κ masked
-      → SameBook (asked h r κ) (asked h r masked)
-  asked_both h (request.Grant socket messages bits) κ masked same =
+  pub asked_both : (h : Host) (r : Request) (κ among : Kept) → SameBook κ among
+      → SameBook (asked h r κ) (asked h r among)
+  asked_both h (request.Grant socket messages bits) κ among same =
       as_kept _ _ _ _
-      (told_where h (notice.Interrupt socket) (lives_at h socket) (granted messages bits) κ masked (λ x. (refl, refl))
+      (told_where h (notice.Interrupt socket) (lives_at h socket) (granted messages bits) κ among (λ x. (refl, refl))
       same) refl refl refl refl refl refl
-  asked_both h (request.Send socket bits) κ masked same = record {
+  asked_both h (request.Send socket bits) κ among same = record {
     lives = same.lives;
     handed = beside_handed strange (lives_at h socket) bits κ.book.lives κ.handed
         ∙ ap (λ (xs : List Life). handed_to (lives_at h socket) bits xs (beside_among strange κ.book.lives κ.handed))
-        same.lives ∙ ap (handed_to (lives_at h socket) bits masked.book.lives) same.handed;
+        same.lives ∙ ap (handed_to (lives_at h socket) bits among.book.lives) same.handed;
     fates = same.fates;
     handed_each = handed_length (lives_at h socket) bits κ.book.lives κ.handed ∙ same.handed_each;
     fate_each = same.fate_each;
   }
-  asked_both h (request.Close socket) κ masked same = record {
+  asked_both h (request.Close socket) κ among same = record {
     lives = same.lives;
     handed = same.handed;
     fates = beside_fates strange (lives_at h socket) closing κ.book.lives κ.fates
         ∙ ap
         (λ (xs : List Life). fates_where (lives_at h socket) closing xs (beside_among strange κ.book.lives κ.fates))
-        same.lives ∙ ap (fates_where (lives_at h socket) closing masked.book.lives) same.fates;
+        same.lives ∙ ap (fates_where (lives_at h socket) closing among.book.lives) same.fates;
     handed_each = same.handed_each;
     fate_each = fates_length (lives_at h socket) closing κ.book.lives κ.fates ∙ same.fate_each;
   }
-  asked_both h (request.Contact peer) κ masked same = as_kept κ _ masked _ same refl refl refl refl refl refl
-  asked_both h (request.Listen socket size) κ masked same = as_kept κ _ masked _ same refl refl refl refl refl refl
-  asked_both h (request.OpenSend peer own foreign size) κ masked same = as_kept κ _ masked _ same refl refl refl refl
+  asked_both h (request.Contact peer) κ among same = as_kept κ _ among _ same refl refl refl refl refl refl
+  asked_both h (request.Listen socket size) κ among same = as_kept κ _ among _ same refl refl refl refl refl refl
+  asked_both h (request.OpenSend peer own foreign size) κ among same = as_kept κ _ among _ same refl refl refl refl
       refl refl
-  asked_both h (request.OpenReceive peer own foreign) κ masked same = as_kept κ _ masked _ same refl refl refl refl
+  asked_both h (request.OpenReceive peer own foreign) κ among same = as_kept κ _ among _ same refl refl refl refl
       refl refl
-  asked_both h (request.AskBack socket messages bits) κ masked same = as_kept κ _ masked _ same refl refl refl refl
+  asked_both h (request.AskBack socket messages bits) κ among same = as_kept κ _ among _ same refl refl refl refl
       refl refl
-  asked_both h (request.Interrupt socket) κ masked same = as_kept κ _ masked _ same refl refl refl refl refl refl
-  asked_both h (request.Echo peer octet) κ masked same = as_kept κ _ masked _ same refl refl refl refl refl refl
+  asked_both h (request.Interrupt socket) κ among same = as_kept κ _ among _ same refl refl refl refl refl refl
+  asked_both h (request.Echo peer octet) κ among same = as_kept κ _ among _ same refl refl refl refl refl refl
 
   -- the socket of a request that changes a life, what was handed over in it or its fate
   abbrev pub AsksOf : Request → ℕ → Type 0
@@ -468,12 +402,12 @@ module _ (strange : Host → Bool) where
   AsksOf (request.Close socket) k = socket ≡ k
   AsksOf r k = ⊥
 
-  pub asked_aside : (h : Host) (r : Request) (κ masked : Kept)
-      → ((k : ℕ) → AsksOf r k → NoneOf (lives_at h k) masked.book.lives) → SameBook κ masked
-      → SameBook (asked h r κ) masked
-  asked_aside h (request.Grant socket messages bits) κ masked none same = aside_lives (lives_at h socket)
-      (granted messages bits) κ _ masked (λ x. (refl, refl)) (none socket refl) same refl refl refl
-  asked_aside h (request.Send socket bits) κ masked none same =
+  pub asked_aside : (h : Host) (r : Request) (κ among : Kept)
+      → ((k : ℕ) → AsksOf r k → NoneOf (lives_at h k) among.book.lives) → SameBook κ among
+      → SameBook (asked h r κ) among
+  asked_aside h (request.Grant socket messages bits) κ among none same = aside_lives (lives_at h socket)
+      (granted messages bits) κ _ among (λ x. (refl, refl)) (none socket refl) same refl refl refl
+  asked_aside h (request.Send socket bits) κ among none same =
       let here : NoneOf (lives_at h socket) (lives_among strange κ.book.lives) = subst (NoneOf (lives_at h socket))
       (sym same.lives) (none socket refl) in
       record {
@@ -485,7 +419,7 @@ module _ (strange : Host → Bool) where
         handed_each = handed_length (lives_at h socket) bits κ.book.lives κ.handed ∙ same.handed_each;
         fate_each = same.fate_each;
       }
-  asked_aside h (request.Close socket) κ masked none same =
+  asked_aside h (request.Close socket) κ among none same =
       let here : NoneOf (lives_at h socket) (lives_among strange κ.book.lives) = subst (NoneOf (lives_at h socket))
       (sym same.lives) (none socket refl) in
       record {
@@ -495,47 +429,101 @@ module _ (strange : Host → Bool) where
         handed_each = same.handed_each;
         fate_each = fates_length (lives_at h socket) closing κ.book.lives κ.fates ∙ same.fate_each;
       }
-  asked_aside h (request.Contact peer) κ masked none same = as_kept κ _ masked masked same refl refl refl refl refl refl
-  asked_aside h (request.Listen socket size) κ masked none same = as_kept κ _ masked masked same refl refl refl refl
+  asked_aside h (request.Contact peer) κ among none same = as_kept κ _ among among same refl refl refl refl refl refl
+  asked_aside h (request.Listen socket size) κ among none same = as_kept κ _ among among same refl refl refl refl
       refl refl
-  asked_aside h (request.OpenSend peer own foreign size) κ masked none same = as_kept κ _ masked masked same refl refl
+  asked_aside h (request.OpenSend peer own foreign size) κ among none same = as_kept κ _ among among same refl refl
       refl refl refl refl
-  asked_aside h (request.OpenReceive peer own foreign) κ masked none same = as_kept κ _ masked masked same refl refl
+  asked_aside h (request.OpenReceive peer own foreign) κ among none same = as_kept κ _ among among same refl refl
       refl refl refl refl
-  asked_aside h (request.AskBack socket messages bits) κ masked none same = as_kept κ _ masked masked same refl refl
+  asked_aside h (request.AskBack socket messages bits) κ among none same = as_kept κ _ among among same refl refl
       refl refl refl refl
-  asked_aside h (request.Interrupt socket) κ masked none same = as_kept κ _ masked masked same refl refl refl refl
+  asked_aside h (request.Interrupt socket) κ among none same = as_kept κ _ among among same refl refl refl refl
       refl refl
-  asked_aside h (request.Echo peer octet) κ masked none same = as_kept κ _ masked masked same refl refl refl refl refl
+  asked_aside h (request.Echo peer octet) κ among none same = as_kept κ _ among among same refl refl refl refl refl
       refl
 
-  -- a listening socket is closed in the masked moments
-  pub closed_aside : (h : Host) (k : ℕ) (κ masked : Kept) → NoneOf (lives_at h k) masked.book.lives
-      → SameBook κ masked → SameBook κ (asked h (request.Close k) masked)
-  closed_aside h k κ masked none same = record {
-    lives = same.lives;
-    handed = same.handed;
-    fates = same.fates ∙ sym (fates_none (lives_at h k) closing masked.book.lives masked.fates none);
-    handed_each = same.handed_each;
-    fate_each = same.fate_each;
-  }
+  -- ---- two books
 
-  -- ---- no life among hosts with programs continues on a socket
+  -- they have the same lives, with what was handed over in these and their fates
+  pub record Alike (k κ : Kept) : Type 0 where
+    pub among : Kept
+    pub one : SameBook k among
+    pub other : SameBook κ among
 
-  pub none_going : (a : Host) (k : ℕ) (P : Life → List Bool → Type 0) (lives : List Life) (handed : List (List Bool))
-      → ((x : Life) (t : List Bool) → is_among strange x ≡ true → P x t → ⊥) → EachOn a k P lives handed
-      → NoneOf (lives_at a k) (lives_among strange lives)
-  none_going a k P [] handed never each = tt
-  none_going a k P (x ∷ lives) [] never each = absurd each
-  none_going a k P (x ∷ lives) (t ∷ handed) never each = by (is_among strange x) refl
-      (none_going a k P lives handed never each.1) where
-        off : is_among strange x ≡ true → (b : Bool) → lives_at a k x ≡ b → b ≡ false
-        off is false e = refl
-        off is true e =
-            let p : (at_socket a k x ≡ true) × (not x.ended ≡ true) = both (at_socket a k x) (not x.ended) e in
-            absurd (never x t is ((each.0 p.0).1 (not_is x.ended p.1)))
+  told_so : (h : Host) (n : Notice) (k κ : Kept) → strange h ≡ false → OpensAmong strange n → Alike k κ
+      → Alike (book_told h n k) (book_told h n κ)
+  told_so h n k κ off opens a = record { among = book_told h n a.among; one = told_both h n k a.among off opens a.one; other = told_both h n κ a.among off opens a.other }
 
-        by : (b : Bool) → is_among strange x ≡ b → NoneOf (lives_at a k) (lives_among strange lives)
-            → NoneOf (lives_at a k) (if b then x ∷ lives_among strange lives else lives_among strange lives)
-        by true is rest = (off is (lives_at a k x) refl, rest)
-        by false apart rest = rest
+  told_alike : (h : Host) (n : Notice) (k κ : Kept) → strange h ≡ false → Alike k κ
+      → Alike (book_told h n k) (book_told h n κ)
+  told_alike h (notice.Opened socket peer foreign own partner) k κ off a = by (strange peer) refl where
+    n : Notice
+    n = notice.Opened socket peer foreign own partner
+
+    outside : (b : Bool) → (not b && false) ≡ false
+    outside true = refl
+    outside false = refl
+
+    by : (b : Bool) → strange peer ≡ b
+        → Alike (book_told h (notice.Opened socket peer foreign own partner) k) (book_told h (notice.Opened socket peer foreign own partner) κ)
+    by false plain = record { among = book_told h n a.among; one = told_both h n k a.among off plain a.one; other = told_both h n κ a.among off plain a.other }
+    by true on =
+        let away : is_among strange (new_life h socket peer foreign own partner) ≡ false = ap (λ (b : Bool). not (strange h) && not b) on ∙ outside (strange h) in
+        record { among = a.among; one = opened_aside h socket peer foreign own partner k a.among away a.one; other = opened_aside h socket peer foreign own partner κ a.among away a.other }
+  told_alike h (notice.Ended socket peer foreign) k κ off a = told_so h (notice.Ended socket peer foreign) k κ off tt a
+  told_alike h (notice.PairReset peer) k κ off a = told_so h (notice.PairReset peer) k κ off tt a
+  told_alike h (notice.Sent socket bits) k κ off a = told_so h (notice.Sent socket bits) k κ off tt a
+  told_alike h (notice.Arrived socket bits) k κ off a = told_so h (notice.Arrived socket bits) k κ off tt a
+  told_alike h (notice.Returned socket messages bits) k κ off a = told_so h (notice.Returned socket messages bits) k κ off tt a
+  told_alike h (notice.Ready peer) k κ off a = told_so h (notice.Ready peer) k κ off tt a
+  told_alike h (notice.ContactFailed peer) k κ off a = told_so h (notice.ContactFailed peer) k κ off tt a
+  told_alike h (notice.Interrupt socket) k κ off a = told_so h (notice.Interrupt socket) k κ off tt a
+  told_alike h (notice.Echoed peer octet) k κ off a = told_so h (notice.Echoed peer octet) k κ off tt a
+  told_alike h (notice.RemoteError peer code detail) k κ off a = told_so h (notice.RemoteError peer code detail) k κ off tt a
+
+  all_alike : (h : Host) (ns : List Notice) (k κ : Kept) → strange h ≡ false → Alike k κ
+      → Alike (all_told h ns k) (all_told h ns κ)
+  all_alike h [] k κ off a = a
+  all_alike h (n ∷ ns) k κ off a = all_alike h ns (book_told h n k) (book_told h n κ) off (told_alike h n k κ off a)
+
+  by_alike : (y : Moment) (k κ : Kept) → Alike k κ → Alike (kept_by y k) (kept_by y κ)
+  by_alike (Crossed c) k κ a = record { among = crossed c a.among; one = crossed_both c k a.among a.one; other = crossed_both c κ a.among a.other }
+  by_alike (Asked h r) k κ a = record { among = asked h r a.among; one = asked_both h r k a.among a.one; other = asked_both h r κ a.among a.other }
+
+  by_aside : (y : Moment) (κ among : Kept) → strange (host_in y) ≡ true → SameBook κ among
+      → SameBook (kept_by y κ) among
+  by_aside (Crossed c) κ among on same = crossed_aside c κ among on same
+  by_aside (Asked h r) κ among on same = asked_aside h r κ among (λ k asks. at_none h k κ among on same) same
+
+  only_aside : (y : Moment) (κ among : Kept) → strange (host_in y) ≡ true → SameBook κ among
+      → SameBook (crossed_only y κ) among
+  only_aside (Crossed c) κ among on same = crossed_aside c κ among on same
+  only_aside (Asked h r) κ among on same = same
+
+  -- what each host would report, and the book of a network, in which strangers report nothing
+  alike : (ms : List Moment) → Alike (kept_in ms) (mixed_kept strange ms)
+  alike [] = record { among = opening_kept; one = none_yet; other = none_yet } where
+    none_yet : SameBook opening_kept opening_kept
+    none_yet = record { lives = refl; handed = refl; fates = refl; handed_each = refl; fate_each = refl }
+  alike (y ∷ ms) = by (strange (host_in y)) refl (alike ms) where
+    by : (b : Bool) → strange (host_in y) ≡ b → Alike (kept_in ms) (mixed_kept strange ms)
+        → Alike (kept_in (y ∷ ms)) (if b then crossed_only y (mixed_kept strange ms) else all_told (host_in y) (notices_by y ms) (kept_by y (mixed_kept strange ms)))
+    by true on a = record {
+      among = a.among;
+      one = all_aside (host_in y) (notices_by y ms) (kept_by y (kept_in ms)) a.among on (by_aside y (kept_in ms) a.among on a.one);
+      other = only_aside y (mixed_kept strange ms) a.among on a.other;
+    }
+    by false off a = all_alike (host_in y) (notices_by y ms) (kept_by y (kept_in ms)) (kept_by y (mixed_kept strange ms)) off (by_alike y (kept_in ms) (mixed_kept strange ms) a)
+
+  pub same_lives : (ms : List Moment)
+      → lives_among strange (kept_in ms).book.lives ≡ lives_among strange (mixed_kept strange ms).book.lives
+  same_lives ms = (alike ms).one.lives ∙ sym (alike ms).other.lives
+
+  pub same_handed : (ms : List Moment)
+      → beside_among strange (kept_in ms).book.lives (kept_in ms).handed ≡ beside_among strange (mixed_kept strange ms).book.lives (mixed_kept strange ms).handed
+  same_handed ms = (alike ms).one.handed ∙ sym (alike ms).other.handed
+
+  pub same_fates : (ms : List Moment)
+      → beside_among strange (kept_in ms).book.lives (kept_in ms).fates ≡ beside_among strange (mixed_kept strange ms).book.lives (mixed_kept strange ms).fates
+  same_fates ms = (alike ms).one.fates ∙ sym (alike ms).other.fates

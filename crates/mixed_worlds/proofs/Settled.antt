@@ -1,81 +1,67 @@
 -- Where nothing is left to be done among hosts with programs, all their lives agree.
-use Rattle.mixed_worlds.proofs.Common.{◌≡◌, Bool, true, false, List, [], ◌∷◌, None, refl, ap, sym, subst, ◌∙◌, Contains, All-contains, Host, Life, NcpState, opening_state, pair_with, Moment, program, crossings_of, kept_in, without_strangers, IsMixed, masked_moments, Orders, masked_crossings, masked_program, HasOpenEnd, mine_on, is_among, lives_among, mixed_kept}
-use Rattle.world_keeps_streams.specs.Rests.{AllCalm}
-use Rattle.std.proofs.lemmas.List.Elements.{filter_passes}
+use Rattle.mixed_worlds.proofs.Common.{◌≡◌, ℕ, Bool, true, false, if◌then◌else◌, not, find, List, [], ◌∷◌, Option, None, refl, ap, sym, subst, ◌∙◌, Contains, Host, same_host, same_host-true, Life, Match, NcpState, opening_state, pair_with, Moment, program, crossings_of, without_strangers, IsMixed, HasOpenEnd, mine_on, next_of, kept_in, lives_among, mixed_kept, Peer}
+use Rattle.std.specs.Prelude.{filter}
 use Rattle.interface.specs.Mailboxes as mail
 use Rattle.sockets.specs.Sending.{next_out}
-use Rattle.masked_worlds.specs.Laws.{MaskedLogs}
-use Rattle.world_keeps_streams.specs.Rests.{NoneOut}
-use Rattle.world_keeps_streams.specs.Settled.{EachAgrees}
-use Rattle.mixed_worlds.specs.Laws.{HaveSettled}
-use Rattle.mixed_worlds.proofs.Books.{same_book}
-use Rattle.mixed_worlds.proofs.SameBooks.{among_parts}
+use Rattle.reset_law.specs.Network.{AreOurs, Network}
+use Rattle.world_keeps_pairing.proofs.lemmas.{in_book}
+use Rattle.world_keeps_streams.proofs.lemmas.{done, silent_next}
+use Rattle.mixed_worlds.specs.Laws.{AgreeAmong, HaveSettled}
+use Rattle.mixed_worlds.proofs.SameBooks.{other_host, same_lives}
 use Rattle.mixed_worlds.proofs.Sockets.{idle}
 
--- a life of the masked moments is between hosts with programs
-pub plain_life : (orders : Orders) (strange : Host → Bool) (hosts : List Host) (moments : List Moment)
-    → IsMixed strange hosts moments → (x : Life)
-    → Contains (kept_in (masked_moments strange hosts moments)).book.lives x
-    → (strange x.host ≡ false) × (strange x.peer ≡ false)
-plain_life orders strange hosts moments mixed x there =
-    let among : Contains (lives_among strange (mixed_kept strange moments).book.lives) x = subst
-    (λ (lives : List Life). Contains lives x) (sym (same_book orders strange hosts moments mixed).lives) there in
-    among_parts strange x
-    (All-contains (λ (y : Life). is_among strange y ≡ true)
-    (lives_among strange (mixed_kept strange moments).book.lives) x
-    (filter_passes (is_among strange) (mixed_kept strange moments).book.lives) among)
+-- a host has with another that runs the program what it has without the strangers
+pair_among : (strange : Host → Bool) (h : Host) (ps : List Peer) → strange h ≡ false
+    → pair_with h (filter (λ p. not (strange p.host)) ps) ≡ pair_with h ps
+pair_among strange h [] off = refl
+pair_among strange h (q ∷ qs) off = by (strange q.host) refl (same_host h q.host) refl (pair_among strange h qs off) where
+  by : (b : Bool) → strange q.host ≡ b → (c : Bool) → same_host h q.host ≡ c
+      → pair_with h (filter (λ p. not (strange p.host)) qs) ≡ pair_with h qs
+      → pair_with h (filter (λ p. not (strange p.host)) (q ∷ qs)) ≡ pair_with h (q ∷ qs)
+  by true e true f rest = absurd (let clash : true ≡ false = sym f ∙ other_host strange h q.host off e in cc)
+  by true e false f rest = rw (e, f) rest
+  by false e true f rest = rw (e, f) refl
+  by false e false f rest = rw (e, f) rest
 
-module _ (orders : Orders) (logs : MaskedLogs) (strange : Host → Bool) (hosts : List Host)
-    (moments : List Moment) (mixed : IsMixed strange hosts moments) where
+module _ (strange : Host → Bool) (hosts : List Host) (moments : List Moment) (mixed : IsMixed strange hosts moments)
+    (settled : HaveSettled strange hosts moments) where
+  abbrev all : Network
+  all = record { all = hosts; strange = strange }
+
   -- the host of an open end is up
-  up_of : (x : Life) → strange x.host ≡ false
-      → HasOpenEnd (program x.host (masked_moments strange hosts moments)) x
+  up_of : (x : Life) → strange x.host ≡ false → HasOpenEnd (program x.host moments) x
       → mail.is_up hosts x.host (crossings_of moments) ≡ true
   up_of x off o = by (mail.is_up hosts x.host (crossings_of moments)) refl where
     by : (b : Bool) → mail.is_up hosts x.host (crossings_of moments) ≡ b → b ≡ true
     by true e = refl
     by false e =
-        let none : program x.host (masked_moments strange hosts moments) ≡ opening_state x.host =
-        masked_program orders strange hosts x.host moments off mixed
-        ∙ ap (without_strangers strange) (idle strange hosts x.host off moments mixed e) in
         absurd (let clash : [] ≡ o.end ∷ [] = sym
-        (ap (λ (s : NcpState). mine_on x.socket (pair_with x.peer s.peers).entries) none) ∙ o.one in cc)
+        (ap (λ (s : NcpState). mine_on x.socket (pair_with x.peer s.peers).entries) (idle strange hosts x.host off moments mixed e)) ∙ o.one in cc)
 
-  none_out : (a b : Host) → strange a ≡ false → strange b ≡ false
-      → mail.is_up hosts a (crossings_of moments) ≡ true → mail.is_up hosts b (crossings_of moments) ≡ true
-      → HaveSettled strange hosts moments → NoneOut a b (crossings_of (masked_moments strange hosts moments))
-  none_out a b here there up other settled link =
-      ap (mail.box_of (record { source = a; destination = b; link = record { 0 = link } }))
-      (masked_crossings orders strange hosts moments)
-      ∙ logs.boxes strange hosts (record { source = a; destination = b; link = record { 0 = link } })
-      (crossings_of moments) here there
-      ∙ settled.answered (record { source = a; destination = b; link = record { 0 = link } }) here there up other
+  -- it has nothing to say to another that runs the program
+  silent_to : (h p : Host) → strange h ≡ false → strange p ≡ false → mail.is_up hosts h (crossings_of moments) ≡ true
+      → next_of (pair_with p (program h moments).peers) ≡ None
+  silent_to h p off other up =
+      ap next_of (sym (pair_among strange p (program h moments).peers other))
+      ∙ silent_next (without_strangers strange (program h moments)) p (settled.silent h off up)
 
-  mute : (h : Host) → strange h ≡ false → mail.is_up hosts h (crossings_of moments) ≡ true
-      → HaveSettled strange hosts moments → next_out (program h (masked_moments strange hosts moments)) ≡ None
-  mute h off up settled = ap next_out (masked_program orders strange hosts h moments off mixed)
-      ∙ settled.silent h off up
-
-  pub settles : AllCalm (masked_moments strange hosts moments) → HaveSettled strange hosts moments
-      → EachAgrees (masked_moments strange hosts moments)
-  settles calm settled x s here there matches goes sender_goes end giver =
-      let plain : strange x.host ≡ false = (plain_life orders strange hosts moments mixed x here).0 in
-      let other : strange s.host ≡ false = (plain_life orders strange hosts moments mixed s there).0 in
-      let up : mail.is_up hosts x.host (crossings_of moments) ≡ true = up_of x plain end in
-      let sender_up : mail.is_up hosts s.host (crossings_of moments) ≡ true = up_of s other giver in
-      calm [] (masked_moments strange hosts moments) refl x s
+  pub settles : AgreeAmong strange moments
+  settles x s here there m goes sender_goes end giver =
+      let i : Contains (kept_in moments).book.lives x × AreOurs all x.host x.peer = in_book all (kept_in moments).book.lives x (subst (λ (xs : List Life). Contains xs x) (sym (same_lives strange moments)) here) in
+      let j : Contains (kept_in moments).book.lives s × AreOurs all s.host s.peer = in_book all (kept_in moments).book.lives s (subst (λ (xs : List Life). Contains xs s) (sym (same_lives strange moments)) there) in
+      let up : mail.is_up hosts x.host (crossings_of moments) ≡ true = up_of x i.1.0 end in
+      let sender_up : mail.is_up hosts s.host (crossings_of moments) ≡ true = up_of s j.1.0 giver in
+      done all moments (mixed.addresses, mixed.run, mixed.happen) x s i.1
       (record {
-        there = here;
-        sender_there = there;
-        matches = matches;
+        there = i.0;
+        sender_there = j.0;
+        matches = m;
         goes = goes;
         sender_goes = sender_goes;
         end = end;
         giver = giver;
-        idle = record {
-          there = none_out x.host s.host plain other up sender_up settled;
-          back = none_out s.host x.host other plain sender_up up settled;
-          mute = mute x.host plain up settled;
-          mute_back = mute s.host other sender_up settled;
-        };
+        out = λ link. settled.answered (record { source = x.host; destination = s.host; link = record { 0 = link } }) i.1.0 j.1.0 up sender_up;
+        back = λ link. settled.answered (record { source = s.host; destination = x.host; link = record { 0 = link } }) j.1.0 i.1.0 sender_up up;
+        next = silent_to x.host s.host i.1.0 j.1.0 up;
+        next_back = silent_to s.host x.host j.1.0 i.1.0 sender_up;
       })

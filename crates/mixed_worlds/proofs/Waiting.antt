@@ -6,7 +6,7 @@ use Rattle.mixed_worlds.proofs.Common.{is_receive_socket, is_send_socket, is_rea
 use Rattle.mixed_worlds.proofs.Common.{listens_on, is_mine_on, changed_first, entry_at, free_link, is_at, is_receiving}
 use Rattle.mixed_worlds.proofs.Common.{receiving_end, sending_end, PairState, Parcel, asked_at, bits_gone, cls_sent}
 use Rattle.mixed_worlds.proofs.Common.{command_gone, commands_gone, may_send_on, pair_after, parcel_gone, Entry}
-use Rattle.mixed_worlds.proofs.Common.{NcpState, pair_with, owner_of, next_in, offered_by, Peer, Request, HasSome}
+use Rattle.mixed_worlds.proofs.Common.{NcpState, pair_with, next_in, offered_by, Peer, Request, HasSome}
 use Rattle.mixed_worlds.proofs.Common.{All-append, All-cons, All-filter, All-head, All-map, All-nil, All-tail}
 use Rattle.mixed_worlds.proofs.Common.{All-weaker, Ask, Mark, changed, Listener, mark_of, marks, accepted}
 use Rattle.mixed_worlds.proofs.Common.{answer_leaves, next_pair, AreInOrder}
@@ -21,7 +21,7 @@ use Rattle.host_pairs.specs.Entries.{called_off}
 use Rattle.host_pairs.specs.Parcels as parcel
 use Rattle.host_pairs.specs.Parcels.{link_of}
 use Rattle.host_keeps_pairing.proofs.lemmas.{peer_here}
-use Rattle.sockets.specs.Pairs.{with_pair}
+use Rattle.sockets.specs.Pairs.{with_pair, owner_of}
 use Rattle.sockets.specs.Requests.{at_owner, closed_socket, is_taken, is_used, refusal, served}
 use Rattle.sockets.specs.declared.request.Request.TheVariants as request
 use Rattle.sockets.proofs.lemmas.{not_first, others_stay}

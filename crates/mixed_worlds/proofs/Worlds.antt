@@ -1,12 +1,15 @@
 -- The book of a world with strangers.
-use Rattle.mixed_worlds.proofs.Common.{◌≡◌, Bool, true, false, List, length, subst, sym, Contains, Host, Crossing, safe_messages, ClosesWhole, IsBeside, SafeBook, receives, sends, Life, IsMixed, Kept, Moment, crossings_of, beside_among, contacts_among, lives_among, mixed_kept, IsRun, FormedBook, ToldAmong, HasAsked, IsCarried}
+use Rattle.mixed_worlds.proofs.Common.{◌≡◌, Bool, true, false, List, length, subst, sym, Contains, Host, Crossing, safe_messages, ClosesWhole, IsBeside, receives, sends, Life, IsMixed, Kept, Moment, crossings_of, beside_among, contacts_among, lives_among, mixed_kept, HasAsked, IsCarried}
+use Rattle.promise.specs.Formed.{FormedBook}
+use Rattle.interface.specs.Mailboxes.{IsRun}
+use Rattle.mixed_worlds.specs.Told.{ToldAmong}
 use Rattle.promise.specs.Connections.{JoinedBook}
 use Rattle.net_sim.specs.Reports.{IsBacked}
 use Rattle.interface.proofs.lemmas.{run_below}
 use Rattle.interface.specs.Calls.{Seen}
 use Rattle.promise.specs.Ends.{AreContacts, AreLeft}
 use Rattle.promise.specs.Fates.{AreFated}
-use Rattle.promise.specs.Safe.{IsGranted, IsPrefix}
+use Rattle.promise.specs.Safe.{IsGranted, IsPrefix, SafeBook}
 use Rattle.promise.specs.declared.book.Called.{Called}
 use Rattle.net_sim.specs.MixedWorlds.{IsLawfulAmong}
 use Rattle.std.proofs.Common.{All}

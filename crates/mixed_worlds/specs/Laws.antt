@@ -21,7 +21,7 @@ use Rattle.promise.specs.Connections.{JoinedBook}
 use Rattle.promise.specs.Ends.{AreContacts, AreLeft}
 use Rattle.promise.specs.Fates.{AreFated, ClosesWhole, IsBeside}
 use Rattle.promise.specs.Formed.{FormedBook}
-use Rattle.promise.specs.Safe.{IsGranted, IsPrefix, SafeBook, receives, sends}
+use Rattle.promise.specs.Safe.{IsGranted, IsPrefix, Match, SafeBook, receives, sends}
 use Rattle.promise.specs.declared.book.Called.{Called}
 use Rattle.promise.specs.declared.life.Fate.{Fate}
 use Rattle.promise.specs.declared.life.Life.{Life}
@@ -29,29 +29,17 @@ use Rattle.net_sim.specs.MixedWorlds.{IsLawfulAmong}
 use Rattle.net_sim.specs.Reports.{IsBacked}
 use Rattle.net_sim.specs.Story.{Crossed, Moment, program}
 use Rattle.net_sim.specs.Timeline.{contacts_of, crossings_of}
-use Rattle.net_sim.specs.Told.{host_in, kept_in, notices_by}
+use Rattle.net_sim.specs.Told.{host_in, notices_by}
 use Rattle.net_sim.specs.World.{WorldState}
-use Rattle.masked_worlds.specs.Among.{without_strangers}
-use Rattle.masked_worlds.specs.Mixed.{IsMixed, masked_moments}
 use Rattle.world_keeps_lives.specs.Lives.{HasOpenEnd, IsBounded, IsFreeSocket, IsOwned}
-use Rattle.world_keeps_streams.specs.Settled.{EachAgrees}
+use Rattle.world_keeps_streams.specs.Rests.{Agree, AreOpen}
 use Rattle.world_keeps_streams.specs.Within.{CountNothingLater}
 use Rattle.mixed_worlds.specs.Arrived.{ArrivedAmong}
-use Rattle.mixed_worlds.specs.Book.{beside_among, book_among, contacts_among, lives_among, mixed_kept}
+use Rattle.mixed_worlds.specs.Book.{beside_among, book_among, contacts_among, lives_among, mixed_kept, without_strangers}
 use Rattle.world_keeps_lives.specs.SomeEnd.{HasSome}
-use Rattle.mixed_worlds.specs.Promised.{Promises}
+use Rattle.mixed_worlds.specs.Mixed.{IsMixed}
 use Rattle.mixed_worlds.specs.Told.{ToldAmong}
 use Rattle.mixed_worlds.specs.Toward.{AreOnce, HasAsked, IsCarried, ReportsData}
-
--- what the real book has among hosts with programs is the book of the masked moments
-pub record HasAmong (strange : Host → Bool) (hosts : List Host) (moments : List Moment) : Type 0 where
-  pub lives : lives_among strange (mixed_kept strange moments).book.lives ≡
-      (kept_in (masked_moments strange hosts moments)).book.lives
-  pub handed : beside_among strange (mixed_kept strange moments).book.lives (mixed_kept strange moments).handed ≡
-      (kept_in (masked_moments strange hosts moments)).handed
-  pub fates : beside_among strange (mixed_kept strange moments).book.lives (mixed_kept strange moments).fates ≡
-      (kept_in (masked_moments strange hosts moments)).fates
-  pub contacts : contacts_among strange (contacts_of moments) ≡ contacts_of (masked_moments strange hosts moments)
 
 -- of the hosts with programs none that is up has anything to say to another, and each message between two that are up
 -- was answered. What a stranger still has to take or to answer doesn't matter
@@ -62,19 +50,21 @@ pub record HaveSettled (strange : Host → Bool) (hosts : List Host) (moments : 
       → is_up hosts f.source (crossings_of moments) ≡ true → is_up hosts f.destination (crossings_of moments) ≡ true
       → box_of f (crossings_of moments) ≡ Empty
 
+-- then of each two of their lives that match and aren't over the receiving one has all that the sending one sent; their
+-- ends agree, and are open
+abbrev pub AgreeAmong : (Host → Bool) → List Moment → Type 0
+AgreeAmong strange moments =
+    (receiver sender : Life) → Contains (lives_among strange (mixed_kept strange moments).book.lives) receiver →
+    Contains (lives_among strange (mixed_kept strange moments).book.lives) sender →
+    Match (crossings_of moments) receiver sender → receiver.ended ≡ false → sender.ended ≡ false →
+    (end : HasOpenEnd (program receiver.host moments) receiver) →
+    (giver : HasOpenEnd (program sender.host moments) sender) →
+    (receiver.bits ≡ sender.bits) × (receiver.messages ≡ sender.messages) × Agree receiver end.end giver.end ×
+    AreOpen end.end giver.end
+
 -- Hosts with programs among each other, whatever strangers send and take.
 pub record Among : Type 0 where
-  -- of the masked moments holds what is promised of hosts with programs, and every clause of endings
-  pub promise :
-      (strange : Host → Bool) (hosts : List Host) (moments : List Moment) → IsMixed strange hosts moments →
-      Promises hosts (masked_moments strange hosts moments)
-  -- the lives among these hosts, with what was handed over in them and their fates, are those of the masked moments,
-  -- and so are the contacts
-  pub lives :
-      (strange : Host → Bool) (hosts : List Host) (moments : List Moment) → IsMixed strange hosts moments →
-      HasAmong strange hosts moments
-  -- so the book itself is formed and safe among these hosts, over all that really crossed, and an orderly close loses
-  -- nothing
+  -- the book is formed and safe among these hosts, over all that crossed, and an orderly close loses nothing
   pub formed :
       (strange : Host → Bool) (hosts : List Host) (moments : List Moment) → IsMixed strange hosts moments →
       FormedBook (crossings_of moments) (lives_among strange (mixed_kept strange moments).book.lives)
@@ -123,7 +113,7 @@ pub record Among : Type 0 where
       JoinedBook (book_among strange moments reports)
   pub settled :
       (strange : Host → Bool) (hosts : List Host) (moments : List Moment) → IsMixed strange hosts moments →
-      HaveSettled strange hosts moments → EachAgrees (masked_moments strange hosts moments)
+      HaveSettled strange hosts moments → AgreeAmong strange moments
 
 -- All but what RFNM says is of any lives as where there are no strangers, and RFNM says the same without them.
 pub record AsArrived : Type 0 where

@@ -1,7 +1,7 @@
-pub mod Promised
 pub mod Book
 pub mod Arrived
 pub mod Laws
+pub mod Mixed
 pub mod Worked
 pub mod Toward
 pub mod Told

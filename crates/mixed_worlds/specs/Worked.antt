@@ -1,6 +1,6 @@
 -- Small networks with a stranger, `third`: words for worked examples.
-use Rattle.std.specs.Prelude.{ℕ, false, List, [], ◌∷◌, ◌++◌}
-use Rattle.interface.specs.Host.{Host}
+use Rattle.std.specs.Prelude.{ℕ, Bool, false, List, [], ◌∷◌, ◌++◌}
+use Rattle.interface.specs.Host.{Host, same_host}
 use Rattle.host_pairs.specs.declared.notice.Notice.TheVariants as notice
 use Rattle.interface.specs.declared.crossing.Answer.TheVariants as answer
 use Rattle.interface.specs.declared.crossing.Crossing.{Crossing}
@@ -15,9 +15,31 @@ use Rattle.sockets.specs.Worked.{ALL, RTS, STR, control, first, message, on_link
 use Rattle.sockets.specs.declared.request.Request.TheVariants as request
 use Rattle.net_sim.specs.Book.{carried, granted, new_life}
 use Rattle.net_sim.specs.Story.{Asked, Crossed, Moment}
+use Rattle.net_sim.specs.Timeline.{crossings_of}
 use Rattle.net_sim.specs.Worked.{eight}
-use Rattle.net_sim.specs.WorkedResets.{call, rst}
-use Rattle.masked_worlds.specs.Worked.{listener_taken, stranger_ready}
+use Rattle.net_sim.specs.WorkedResets.{call, rrp, rst}
+use Rattle.net_sim.specs.WorkedMoments.{answered_moment}
+
+abbrev pub is_third : Host → Bool
+is_third h = same_host third h
+
+abbrev pub three : List Host
+three = first ∷ second ∷ third ∷ []
+
+-- the stranger resets its pair with the second host
+abbrev pub stranger_ready : List Moment
+stranger_ready =
+    answered_moment second third ∷ Crossed (crossing.In (rrp second third)) ∷ Crossed
+    (crossing.Out (rrp second third)) ∷ answered_moment third second
+    ∷ Crossed (crossing.In (rst third second)) ∷ Crossed (crossing.Out (rst third second)) ∷ []
+
+-- and asks for the socket at which the second listens for anybody
+abbrev pub stranger_asks : HostMessage
+stranger_asks = control third second (RTS 16 33 2)
+
+abbrev pub listener_taken : List Moment
+listener_taken = Crossed (crossing.In stranger_asks) ∷ Crossed (crossing.Out stranger_asks) ∷ Asked second
+    (request.Listen 33 8) ∷ stranger_ready
 
 -- the second host answers the stranger that took its listening socket, and so the end is open there
 abbrev pub stranger_opened : List Moment
@@ -123,3 +145,11 @@ called_stranger = call second 0 third ∷ []
 
 abbrev pub all_called : List Called
 all_called = call third 0 first ∷ call first 0 second ∷ call second 0 third ∷ []
+
+-- the second host sends eight bits to the stranger, which has granted nothing
+abbrev pub sent_ungranted : List Crossing
+sent_ungranted = crossing.Out (message second third 2 (0 ∷ 8 ∷ 0 ∷ 1 ∷ 0 ∷ 255 ∷ [])) ∷ crossings_of stranger_opened
+
+-- octets like those of data on link 0
+abbrev pub control_bits : HostMessage
+control_bits = message third second 0 (0 ∷ 8 ∷ 0 ∷ 1 ∷ 0 ∷ 255 ∷ [])

@@ -8,14 +8,14 @@ ghost use Rattle.sockets.specs.Sending.{next_out};
 ghost use Rattle.sockets.specs.Worked.{STR, control, first, on_link, second, third};
 ghost use Rattle.interface.specs.declared.crossing.Answer.TheVariants as answer;
 ghost use Rattle.interface.specs.declared.crossing.Crossing.TheVariants as crossing;
-ghost use Rattle.net_sim.specs.Book.{new_life};
+ghost use Rattle.net_sim.specs.Book.{carried, new_life};
 ghost use Rattle.net_sim.specs.Story.{Crossed, program};
 ghost use Rattle.net_sim.specs.Timeline.{crossings_of};
 ghost use Rattle.net_sim.specs.Told.{kept_in};
 ghost use Rattle.net_sim.specs.Worked.{eight};
 ghost use Rattle.net_sim.specs.WorkedResets.{rrp, rst};
-ghost use Rattle.masked_worlds.specs.Mixed.{AreMixed};
-ghost use Rattle.masked_worlds.specs.Worked.{is_third, listener_taken, three};
+ghost use Rattle.mixed_worlds.specs.Mixed.{AreMixed};
+ghost use Rattle.mixed_worlds.specs.Worked.{is_third, listener_taken, three};
 ghost use Rattle.promise.specs.Formed.{IsFormed};
 ghost use Rattle.mixed_worlds.specs.Arrived.{ArrivedAmong};
 ghost use Rattle.mixed_worlds.specs.Book.{beside_among, contacts_among, lives_among, mixed_kept};
@@ -24,27 +24,21 @@ ghost use Rattle.mixed_worlds.specs.Toward.{ReportsData, granted_to};
 ghost use Rattle.mixed_worlds.specs.Told.{ToldAmong, told_among};
 ghost use Rattle.mixed_worlds.specs.Worked.{both_in, contacts, eight_bits, eight_taken, eight_told, granting_life};
 ghost use Rattle.mixed_worlds.specs.Worked.{amount, asking_life, granted_beside, one_as_data, one_more};
-ghost use Rattle.mixed_worlds.specs.Worked.{odd_life, odd_size, sending_life};
+ghost use Rattle.mixed_worlds.specs.Worked.{control_bits, odd_life, odd_size, sending_life, sent_ungranted};
 ghost use Rattle.mixed_worlds.specs.Worked.{all_called, begun, called_second, called_stranger};
 ghost use Rattle.mixed_worlds.specs.Worked.{plain_bits, plain_life, receiving_life};
 ghost use Rattle.mixed_worlds.specs.Worked.{stranger_contacted, stranger_granted, stranger_opened};
 ghost use Rattle.mixed_worlds.specs.Laws.{Among, AsArrived, HaveSettled, Toward, Worlds};
 
 use interface::Carrier;
-use masked_worlds::law::{masked, masked_logs};
 use net_sim::law::orders;
-use world_keeps_lives::law::programs;
 use world_keeps_streams::law as streams;
 
 /// Hosts with programs among each other, whatever strangers send and take.
 pub fn among()
     ensures { Among }
 {
-    masked_logs();
-    masked();
-    orders();
-    programs();
-    streams::lives();
+    streams::among();
 }
 
 /// A host with a program, toward strangers and all others.
@@ -116,6 +110,29 @@ pub fn worked_links()
     // no other link, and nothing that goes out names one
     ensures other { IsNamed (crossings_of stranger_opened) sending_life 3 → ⊥ }
     ensures turned { IsNamed (crossings_of stranger_opened) (new_life second 33 third 16 7 8) 2 → ⊥ }
+{}
+
+/// What isn't kept toward a stranger: each part of the two definitions refuses a life that has all others.
+pub fn worked_refusals()
+    // only one of both requests crossed at its stamp
+    ensures own { HasAsked (crossings_of odd_size) (new_life second 16 third 33 9 7) → ⊥ }
+    ensures partner { HasAsked (crossings_of odd_size) (new_life second 16 third 33 8 6) → ⊥ }
+
+    // data that crossed after only one of them
+    ensures before_own { AreOf true (on_link first second 2) 1 0 both_in 1 eight → ⊥ }
+    ensures before_partner { AreOf true (on_link first second 2) 0 1 both_in 1 eight → ⊥ }
+
+    // a message that didn't cross, though so much was granted; one that did, though nothing was; and a sender whose
+    // peer named no link in the message at its partner stamp
+    ensures messages { IsCarried granted_beside (carried eight asking_life) → ⊥ }
+    ensures within { IsCarried sent_ungranted (carried eight sending_life) → ⊥ }
+    ensures named { IsCarried (crossings_of stranger_opened) (new_life second 33 third 16 8 8) → ⊥ }
+
+    // a receiver that named none itself at its own stamp
+    ensures itself { IsCarried (crossings_of odd_size) (record odd_life { own_stamp = 9 }) → ⊥ }
+
+    // a message on link 0 brings no data, whatever it has
+    ensures control { ReportsData (Crossed (crossing.In control_bits)) (notice.Arrived 16 eight) → ⊥ }
 {}
 
 /// What a life that sends may send: as much as its peer's ALLs name on its link, from the partner's request on.

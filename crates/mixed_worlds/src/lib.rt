@@ -1,9 +1,7 @@
 //! What a book promises of hosts that run the program, in a network in which other hosts run anything.
 //!
-//! [`masked_worlds`] shows that the hosts with programs have among themselves a timeline of such hosts only. So all
-//! that is promised of such hosts holds there ([`law::among`], `promise`), and the lives among them in the real book
-//! are the lives of that timeline (`lives`). The real book is safe among them, over all that crossed (`safe`). Toward
-//! a stranger less is promised, whatever that sends ([`law::toward`]): of each socket there is one end with one peer;
+//! Each law of two hosts that run the program holds of these whatever others send and take, since no host can speak for
+//! another. So the lives among them are safe, over all that crossed ([`law::among`], `safe`). Toward a stranger less is promised, whatever that sends ([`law::toward`]): of each socket there is one end with one peer;
 //! the requests of a life crossed, and its bits are those of messages on one link; and no host takes more than it
 //! granted, or sends more than the ALLs of its peer name. That anything arrives nobody promises.
 //!

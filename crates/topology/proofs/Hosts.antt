@@ -1,15 +1,19 @@
 -- The hosts of a topology are those that its IMPs have.
-use Rattle.std.proofs.Common.{◌≡◌, ◌≢◌, ℕ, zero, suc, ◌<◌, ◌≤◌, ◌+◌, ◌*◌, ◌-◌, ◌/◌, ◌%◌, ◌==◌, ◌&&◌, ◌||◌, nat_lt, nat_le, Bool, true, false, List, [], ◌∷◌, ◌++◌, length, refl, sym, ◌∙◌, subst, arith, lit<, inl, inr, ◌⊎◌, eqb-true, Result, Ok, Err, IfErr}
+use Rattle.std.proofs.Common.{◌≡◌, ◌≢◌, ℕ, zero, suc, ◌<◌, ◌≤◌, ◌+◌, ◌*◌, ◌-◌, ◌/◌, ◌%◌, ◌==◌, ◌&&◌, ◌||◌, nat_lt}
+use Rattle.std.proofs.Common.{nat_le, Bool, true, false, List, [], ◌∷◌, ◌++◌, length, filter, ap, refl, sym, ◌∙◌, subst}
+use Rattle.std.proofs.Common.{arith, lit<, inl, inr, ◌⊎◌, eqb-true, Result, Ok, Err, IfErr}
 use Rattle.std.proofs.Math.Nat.{div-add-mod}
 use Rattle.std.proofs.lemmas.Nat.{mod_below}
 use Rattle.std.proofs.lemmas.Bool.{false≢true, and_parts, or_right, or_cases, or_left}
 use Rattle.std.proofs.lemmas.Bool.Decides.{nat_tests}
+use Rattle.std.proofs.lemmas.List.Elements.{filter-append}
 use Rattle.std.proofs.lemmas.List.Folds.{list_any-append}
 use Rattle.std.specs.List.{list_all}
 use Rattle.interface.specs.Host.{Host, is_host, most_imps, same_host}
 use Rattle.interface.proofs.lemmas.{both_ways, same_host-refl, same_host-true}
 use Rattle.topology.specs.declared.network.ImpHosts.{ImpHosts}
-use Rattle.topology.specs.Topology.{TopologyFields, IsTopology, has_host, host_if, hosts_below, hosts_of, is_imp, most_hosts}
+use Rattle.topology.specs.Topology.{TopologyFields, IsTopology, has_host, host_if, hosts_below, hosts_of, is_imp}
+use Rattle.topology.specs.Topology.{most_hosts}
 
 abbrev pub place_of : ℕ → Host
 place_of n = record { imp = n / 4 + 1; host = n % 4 }
@@ -108,24 +112,45 @@ nonempty_front : (xs ys : List Host) → xs ≢ [] → xs ++ ys ≢ []
 nonempty_front [] ys some e = some refl
 nonempty_front (x ∷ xs) ys some e = cc
 
-nonempty_back : (xs : List Host) (test : Bool) (g : Host) → test ≡ true → xs ++ host_if test g ≢ []
-nonempty_back [] true g t e = cc
-nonempty_back (x ∷ xs) test g t e = cc
-nonempty_back [] false g t e = false≢true t
+-- a host that is there and passes a test is picked
+picked_back : (p : Host → Bool) (xs : List Host) (test : Bool) (g : Host) → test ≡ true → p g ≡ true
+    → xs ++ filter p (host_if test g) ≢ []
+picked_back p [] true g t is = λ none.
+    let one : filter p (g ∷ []) ≡ g ∷ [] = rw is refl in
+    let two : g ∷ [] ≡ [] = sym one ∙ none in cc
+picked_back p (x ∷ xs) test g t is = λ none. cc
+picked_back p [] false g t is = λ none. false≢true t
 
-more : (imps : List ImpHosts) (n k : ℕ) → hosts_below imps n ≢ [] → hosts_below imps (n + k) ≢ []
+pub picked_next : (p : Host → Bool) (imps : List ImpHosts) (n : ℕ) → filter p (hosts_below imps (suc n))
+    ≡ filter p (hosts_below imps n) ++ filter p (host_if (has_host imps (n / 4 + 1) (n % 4)) (place_of n))
 unfolding hosts_below
-more imps n zero some = subst (λ m. hosts_below imps m ≢ []) (let e : n ≡ n + 0 = omega arith in e) some
-more imps n (suc k) some =
-    subst (λ m. hosts_below imps m ≢ []) (let e : suc (n + k) ≡ n + suc k = omega arith in e)
-    (nonempty_front (hosts_below imps (n + k)) (host_if (has_host imps ((n + k) / 4 + 1) ((n + k) % 4)) (place_of (n + k))) (more imps n k some))
+picked_next p imps n =
+    filter-append p (hosts_below imps n) (host_if (has_host imps (n / 4 + 1) (n % 4)) (place_of n))
 
--- where a host is put in its place there is a host
-pub some_host : (imps : List ImpHosts) (n : ℕ) → n < most_imps * most_hosts → has_host imps (n / 4 + 1) (n % 4) ≡ true → hosts_below imps (most_imps * most_hosts) ≢ []
-unfolding hosts_below
-some_host imps n low has =
-    subst (λ m. hosts_below imps m ≢ []) (let e : suc n + (most_imps * most_hosts - suc n) ≡ most_imps * most_hosts = omega arith in e)
-    (more imps (suc n) (most_imps * most_hosts - suc n) (nonempty_back (hosts_below imps n) (has_host imps (n / 4 + 1) (n % 4)) (place_of n) has))
+more : (p : Host → Bool) (imps : List ImpHosts) (n k : ℕ) → filter p (hosts_below imps n) ≢ []
+    → filter p (hosts_below imps (n + k)) ≢ []
+more p imps n zero some =
+    subst (λ m. filter p (hosts_below imps m) ≢ []) (let e : n ≡ n + 0 = omega arith in e) some
+more p imps n (suc k) some =
+    subst (λ m. filter p (hosts_below imps m) ≢ []) (let e : suc (n + k) ≡ n + suc k = omega arith in e)
+    (λ none. nonempty_front (filter p (hosts_below imps (n + k)))
+    (filter p (host_if (has_host imps ((n + k) / 4 + 1) ((n + k) % 4)) (place_of (n + k))))
+    (more p imps n k some) (sym (picked_next p imps (n + k)) ∙ none))
+
+-- where a host is put in its place, of those that pass a test, there is such a host
+pub some_picked : (p : Host → Bool) (imps : List ImpHosts) (n : ℕ) → n < most_imps * most_hosts
+    → has_host imps (n / 4 + 1) (n % 4) ≡ true → p (place_of n) ≡ true
+    → filter p (hosts_below imps (most_imps * most_hosts)) ≢ []
+some_picked p imps n low has is =
+    subst (λ m. filter p (hosts_below imps m) ≢ [])
+    (let e : suc n + (most_imps * most_hosts - suc n) ≡ most_imps * most_hosts = omega arith in e)
+    (more p imps (suc n) (most_imps * most_hosts - suc n)
+    (λ none. picked_back p (filter p (hosts_below imps n)) (has_host imps (n / 4 + 1) (n % 4)) (place_of n) has is
+    (sym (picked_next p imps n) ∙ none)))
+
+pub some_host : (imps : List ImpHosts) (n : ℕ) → n < most_imps * most_hosts
+    → has_host imps (n / 4 + 1) (n % 4) ≡ true → hosts_below imps (most_imps * most_hosts) ≢ []
+some_host imps n low has = λ none. some_picked (λ h. true) imps n low has refl (ap (filter (λ h. true)) none)
 
 pub if_err : {T E P : Type 0} (r : Result T E) → P → IfErr r (λ e. P)
 if_err (Ok x) p = tt

@@ -1,10 +1,15 @@
--- Strangers are hosts of the network.
-use Rattle.std.proofs.Common.{◌≡◌, Bool, true, List, [], ◌∷◌, filter, subst, sym}
+-- Strangers are hosts of the network, and there are some where one is named.
+use Rattle.std.proofs.Common.{◌≡◌, ◌≢◌, Bool, false, true, IsSome, List, [], ◌∷◌, Some, arith, filter, length, nat_le}
+use Rattle.std.proofs.Common.{refl, subst, sym}
 use Rattle.std.proofs.lemmas.Bool.{or_left, or_right}
 use Rattle.std.proofs.lemmas.List.Elements.{All-cons, All-filter, All-nil, All-weaker}
+use Rattle.std.proofs.lemmas.Bool.Decides.{nat_tests}
 use Rattle.std.specs.List.{All}
+use Rattle.toml.specs.Data.{Items}
 use Rattle.interface.specs.Host.{Host, is_host, same_host}
 use Rattle.interface.proofs.lemmas.{same_host-refl}
+use Rattle.topology.specs.Mixed.{all_foreign, is_foreign, mixed_by}
+use Rattle.topology.specs.Topology.{TopologyFields, hosts_of}
 
 each_there : (hosts : List Host) → All (λ h. is_host hosts h ≡ true) hosts
 each_there [] = All-nil (λ h. is_host [] h ≡ true)
@@ -23,3 +28,15 @@ pub named_there : (p : Host → Bool) (hosts all named : List Host) → named �
 named_there p hosts all named picked is =
     subst (λ (hs : List Host). All (λ h. is_host hs h ≡ true) named) is
     (subst (All (λ h. is_host hosts h ≡ true)) (sym picked) (filter_there p hosts))
+
+nonempty_long : (hosts : List Host) → hosts ≢ [] → nat_le 1 (length hosts) ≡ true
+nonempty_long [] some = absurd (some refl)
+nonempty_long (h ∷ hosts) some = grind (arith, nat_tests)
+
+-- so a topology is described where IMPs name strangers, and rightly, and there are host programs
+pub names_some : (imps : Items) (network : TopologyFields) → all_foreign imps ≡ true → network.raw ≡ false
+    → filter (is_foreign imps) (hosts_of network) ≢ [] → IsSome (mixed_by imps (Some network))
+names_some imps network right programs some =
+    let long : nat_le 1 (length (filter (is_foreign imps) (hosts_of network))) ≡ true =
+    nonempty_long (filter (is_foreign imps) (hosts_of network)) some in
+    rw (right, programs, long) refl

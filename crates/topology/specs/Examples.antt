@@ -1,8 +1,8 @@
 -- Small documents, for the worked rows. A table's members are in the order of their keys.
-use Rattle.std.specs.Prelude.{ℕ, List, [], ◌∷◌, Option, codes, pos, false, true}
+use Rattle.std.specs.Prelude.{ℕ, List, [], ◌∷◌, Option, codes, option_map, pos, false, true}
 use Rattle.interface.specs.Host.{Host}
 use Rattle.toml.specs.Data.{Data, Items, no_items, item, no_members, member, integer, array, table, string, boolean}
-use Rattle.topology.specs.Mixed.{MixedFields}
+use Rattle.topology.specs.Mixed.{MixedFields, mixed_of}
 use Rattle.topology.specs.Topology.{TopologyFields, topology_of}
 use Rattle.topology.specs.declared.network.CarrierKind.TheVariants as kind
 use Rattle.topology.specs.declared.network.ImpHosts.{ImpHosts}
@@ -48,15 +48,28 @@ line a b = record { a = a; b = b }
 abbrev pub five_lines : List LineEnds
 five_lines = line 1 2 ∷ line 3 1 ∷ line 1 4 ∷ line 1 5 ∷ line 6 1 ∷ []
 
--- an IMP that names some of its hosts as strangers, and the only one of a document
+-- an IMP with this at its key `foreign`, IMPs some of whose hosts it names as strangers, and the only one of a document
+abbrev pub foreign_table : ℕ → ℕ → Data → Data
+foreign_table id hosts foreign =
+    table (member (codes "foreign") foreign
+    (member (codes "hosts") (integer (pos hosts)) (member (codes "id") (integer (pos id)) no_members)))
+
 abbrev pub items_of : List ℕ → Items
 items_of [] = no_items
 items_of (n ∷ numbers) = item (integer (pos n)) (items_of numbers)
 
+abbrev pub naming_table : ℕ → ℕ → List ℕ → Data
+naming_table id hosts numbers = foreign_table id hosts (array (items_of numbers))
+
 abbrev pub naming : ℕ → ℕ → List ℕ → Items
-naming id hosts numbers =
-    item (table (member (codes "foreign") (array (items_of numbers))
-    (member (codes "hosts") (integer (pos hosts)) (member (codes "id") (integer (pos id)) no_members)))) no_items
+naming id hosts numbers = item (naming_table id hosts numbers) no_items
+
+-- a document of these two IMPs, and the strangers that one describes
+abbrev pub two : Data → Data → Data
+two imp other = document (item imp (item other no_items)) no_items
+
+abbrev pub strangers_in : Data → Option (List Host)
+strangers_in d = option_map (λ (m : MixedFields). m.strangers) (mixed_of d)
 
 -- what documents with strangers describe: these hosts of an IMP, and a subnet of IMP 2, of whose two hosts the second is one
 abbrev pub strangers_of : ℕ → List ℕ → List Host

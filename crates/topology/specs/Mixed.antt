@@ -1,12 +1,15 @@
 -- Topologies some of whose hosts are strangers, that run no program, and the documents that describe them.
-use Rattle.std.specs.Prelude.{◌≡◌, ℕ, ◌+◌, ◌==◌, ◌&&◌, ◌||◌, nat_le, nat_lt, not, Bool, true, false, List, filter}
+use Rattle.std.specs.Prelude.{◌≡◌, ℕ, ◌+◌, ◌*◌, ◌/◌, ◌%◌, ◌==◌, ◌&&◌, ◌||◌, nat_le, nat_lt, not, Bool, true, false}
+use Rattle.std.specs.Prelude.{List, filter}
 use Rattle.std.specs.Prelude.{length, Option, Some, None, option_and_then, if◌then◌else◌, codes}
 use Rattle.std.specs.List.{All}
 use Rattle.toml.specs.Data.{Data, Items, no_items, item, Members, table, as_array, get}
 use Rattle.toml.specs.Parse.{parse_document}
-use Rattle.interface.specs.Host.{Host, is_host}
+use Rattle.interface.specs.Host.{Host, is_host, most_imps}
 use Rattle.topology.specs.Naming.{network_of, number_of}
-use Rattle.topology.specs.Topology.{IsTopology, TopologyFields, hosts_of, number_at}
+use Rattle.topology.specs.Topology.{IsTopology, TopologyFields, has_host, host_if, hosts_below, hosts_of, most_hosts}
+use Rattle.topology.specs.Topology.{number_at}
+use Rattle.topology.specs.declared.network.ImpHosts.{ImpHosts}
 
 -- a topology, and those of its hosts that are strangers
 pub record MixedFields : Type 0 where
@@ -81,6 +84,17 @@ names_host imp h = is_number h.imp (number_at (codes "id") imp) && names h.host 
 abbrev pub is_foreign : Items → Host → Bool
 is_foreign no_items h = false
 is_foreign (item imp imps) h = names_host imp h || is_foreign imps h
+
+-- those of a network's hosts that one of these IMPs names, and the one at a place, if it is such a host
+abbrev pub named_in : Items → List ImpHosts → List Host
+named_in imps network = filter (is_foreign imps) (hosts_below network (most_imps * most_hosts))
+
+abbrev pub host_at : ℕ → Host
+host_at place = record { imp = place / 4 + 1; host = place % 4 }
+
+abbrev pub named_at : Items → List ImpHosts → ℕ → List Host
+named_at imps network place =
+    filter (is_foreign imps) (host_if (has_host network (place / 4 + 1) (place % 4)) (host_at place))
 
 -- ---- documents
 

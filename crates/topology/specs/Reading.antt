@@ -1,5 +1,5 @@
 -- How a topology is read.
-use Rattle.std.specs.Prelude.{◌≡◌, List, Option, Some, None, Result, Ok, Err, Vec}
+use Rattle.std.specs.Prelude.{◌≡◌, List, Option, Some, None, IsSome, Result, Ok, Err, Vec}
 use Rattle.std.specs.declared.alloc.Global.{Global}
 use Rattle.topology.specs.declared.network.TopologyFault.{TopologyFault}
 use Rattle.topology.specs.declared.network.TopologyFault.TheVariants as fault
@@ -15,3 +15,7 @@ abbrev pub DescribedIn : {X : Type 0} → Option (List X) → Result (Vec X Glob
 DescribedIn {X} described (Ok v) = described ≡ Some v.items
 DescribedIn {X} described (Err fault.BadTopology) = described ≡ None
 DescribedIn {X} described (Err fault.OutOfMemory) = Unit {0}
+
+-- memory is wanted only where nothing is refused
+abbrev pub MemoryLast : {X Y : Type 0} → Option Y → Result X TopologyFault → Type 0
+MemoryLast {X} {Y} described result = result ≡ Err fault.OutOfMemory → IsSome described

@@ -1,8 +1,12 @@
 -- Topologies: a network's IMPs, hosts and lines, and the documents that describe them.
-use Rattle.std.specs.Prelude.{◌≡◌, ℕ, zero, suc, ◌+◌, ◌*◌, ◌/◌, ◌%◌, ◌<◌, ◌≤◌, ◌==◌, ◌&&◌, ◌||◌, nat_le, nat_lt, not, Bool, true, false, List, [], ◌∷◌, ◌++◌, All, length, map, codes, Option, Some, None, option_and_then, option_map, IfSome, slice_index_or, is_some, if◌then◌else◌, ℤ, pos, negsuc, count_by, nat_eq}
+use Rattle.std.specs.Prelude.{◌≡◌, ℕ, zero, suc, ◌+◌, ◌*◌, ◌/◌, ◌%◌, ◌<◌, ◌≤◌, ◌==◌, ◌&&◌, ◌||◌, nat_le, nat_lt, not}
+use Rattle.std.specs.Prelude.{Bool, true, false, List, [], ◌∷◌, ◌++◌, All, length, map, codes, Option, Some, None}
+use Rattle.std.specs.Prelude.{option_and_then, option_map, IfSome, slice_index_or, is_some, if◌then◌else◌, ℤ, pos}
+use Rattle.std.specs.Prelude.{negsuc, count_by, nat_eq}
 use Rattle.std.specs.Cmp.Lexicographic.{pointwise}
 use Rattle.std.specs.List.{list_any, list_all, find, cons_option, range_with_len}
-use Rattle.toml.specs.Data.{Data, Items, no_items, item, Members, no_members, member, table, get, as_integer, as_str, as_bool, as_array, as_table}
+use Rattle.toml.specs.Data.{Data, Items, no_items, item, Members, no_members, member, table, get, as_integer, as_str}
+use Rattle.toml.specs.Data.{as_bool, as_array, as_table}
 use Rattle.toml.specs.Parse.{parse_document}
 use Rattle.interface.specs.Host.{Host, most_imps}
 use Rattle.topology.specs.declared.network.CarrierKind.{CarrierKind}

@@ -1,12 +1,15 @@
 //! What topologies promise, as laws over their definitions. The functions here do nothing: their clauses are the
 //! laws.
 
-ghost use Rattle.std.specs.Prelude.{◌≡◌, ◌≤◌, ℕ, List, length, true, false, Some, None, ◌∷◌, [], codes, option_map, pos, negsuc};
+ghost use Rattle.std.specs.Prelude.{◌≡◌, ◌≤◌, ℕ, List, length, true, false, Some, None, ◌∷◌, [], codes, pos, negsuc};
 ghost use Rattle.toml.specs.Data.{no_items, item, no_members, member, integer, array, table, string, boolean};
 ghost use Rattle.interface.specs.Host.{Host, is_host};
 ghost use Rattle.topology.specs.declared.network.CarrierKind.TheVariants as kind;
-ghost use Rattle.topology.specs.Examples.{document, naming, raw_document, imp_table, line_table, two_imps, alone, one_line, imp_hosts, line, five_lines, one_stranger, strangers_of};
-ghost use Rattle.topology.specs.Topology.{AreSites, TopologyFields, most_network_lines, IsTopology, hosts_from, hosts_of, has_host, has_ports, imp_of, sites_of, topology_in, topology_of};
+ghost use Rattle.topology.specs.Examples.{document, foreign_table, naming, naming_table, raw_document, imp_table};
+ghost use Rattle.topology.specs.Examples.{line_table, two_imps, alone, one_line, imp_hosts, line, five_lines};
+ghost use Rattle.topology.specs.Examples.{one_stranger, strangers_in, strangers_of, two};
+ghost use Rattle.topology.specs.Topology.{AreSites, TopologyFields, most_network_lines, IsTopology, hosts_from};
+ghost use Rattle.topology.specs.Topology.{hosts_of, has_host, has_ports, imp_of, sites_of, topology_in, topology_of};
 ghost use Rattle.topology.specs.Mixed.{MixedFields, mixed_in, mixed_of};
 ghost use Rattle.topology.specs.Laws.{WorkedSites};
 
@@ -72,12 +75,17 @@ pub fn worked_documents()
 pub fn worked_strangers()
     // the second of two hosts, and hosts 0 and 2 of three
     ensures one { mixed_of (document (naming 2 2 (1 ∷ [])) no_items) ≡ Some one_stranger }
-    ensures two { option_map (λ (m : MixedFields). m.strangers) (mixed_of (document (naming 1 3 (0 ∷ 2 ∷ [])) no_items)) ≡ Some (strangers_of 1 (0 ∷ 2 ∷ [])) }
+    ensures two { strangers_in (document (naming 1 3 (0 ∷ 2 ∷ [])) no_items) ≡ Some (strangers_of 1 (0 ∷ 2 ∷ [])) }
 
     // a number of no host, one that is there twice, and one that is out of order
     ensures no_host { mixed_of (document (naming 2 2 (2 ∷ [])) no_items) ≡ None }
     ensures twice { mixed_of (document (naming 2 2 (1 ∷ 1 ∷ [])) no_items) ≡ None }
     ensures order { mixed_of (document (naming 2 2 (1 ∷ 0 ∷ [])) no_items) ≡ None }
+
+    // of two IMPs only the second names host 1, whatever number the other's host has; the second names wrongly; no list
+    ensures its_imp { strangers_in (two (imp_table 1 2) (naming_table 2 2 (1 ∷ []))) ≡ Some (strangers_of 2 (1 ∷ [])) }
+    ensures second { mixed_of (two (naming_table 1 2 (1 ∷ [])) (naming_table 2 2 (2 ∷ []))) ≡ None }
+    ensures no_list { mixed_of (two (foreign_table 1 2 (integer (pos 1))) (naming_table 2 2 (1 ∷ []))) ≡ None }
 
     // where there are no host programs, where nobody is named, and without the key
     ensures raw { mixed_of (raw_document (codes "plain") (naming 2 2 (1 ∷ []))) ≡ None }

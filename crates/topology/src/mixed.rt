@@ -1,13 +1,19 @@
 //! Which networks have strangers: hosts that run no program of these.
 
-ghost use Rattle.std.specs.Prelude.{◌≡◌, filter, codes, IfOk};
+ghost use Rattle.std.specs.Prelude.{◌≡◌, ◌≢◌, ◌<◌, ◌+◌, ◌*◌, ◌/◌, ◌%◌, ◌++◌, [], Err, IfErr, IfOk, OnOk, Some};
+ghost use Rattle.std.specs.Prelude.{codes, true};
 ghost use Rattle.toml.specs.View.{view, items_view};
 ghost use Rattle.toml.specs.Data.{as_array, get};
-ghost use Rattle.topology.specs.Mixed.{AreHosts, all_foreign, are_foreign, are_rising, is_foreign, is_number, items_at, items_in, mixed_in, mixed_of, names, names_host};
-ghost use Rattle.topology.specs.Reading.{Described};
+ghost use Rattle.toml.specs.Errors.{IsBlank};
+ghost use Rattle.interface.specs.Host.{most_imps};
+ghost use Rattle.topology.specs.Mixed.{AreHosts, all_foreign, are_foreign, are_rising, host_at, is_foreign, is_number};
+ghost use Rattle.topology.specs.Mixed.{items_at, items_in, mixed_by, mixed_in, mixed_of, named_at, named_in, names};
+ghost use Rattle.topology.specs.Mixed.{names_host};
+ghost use Rattle.topology.specs.Reading.{Described, MemoryLast};
+ghost use Rattle.topology.specs.Topology.{has, has_host, most_hosts};
 
-use crate::network::{Topology, TopologyFault, fault_of, number_at, number_of};
-use interface::HostAddr;
+use crate::network::{ImpHosts, Topology, TopologyFault, fault_of, has_host, number_at, number_of};
+use interface::{HostAddr, MOST_HOSTS, MOST_IMPS};
 use std::alloc::{AllocError, Global};
 use std::marker::Model;
 use toml::Value;
@@ -33,10 +39,11 @@ impl MixedTopology {
     /// Returns the topology with strangers that this TOML document describes. Each IMP may have a key `foreign`, with the
     /// numbers of its strangers.
     ///
-    /// Errors: `BadTopology` where the text is no TOML 1.1 document or describes no topology with strangers;
-    /// `OutOfMemory`.
+    /// Errors: `BadTopology` where the text is no TOML 1.1 document or describes no topology with strangers.
+    /// `OutOfMemory` may come for any text that isn't blank, since its values are put in memory.
     pub fn read(alloc: Global, text: &str) -> Result<MixedTopology, TopologyFault>
-        ensures { Described (mixed_in text.now) result }
+        ensures described { Described (mixed_in text.now) result }
+        ensures memory { result ≡ Err TopologyFault.OutOfMemory → ¬ IsBlank text.now }
     {
         match toml::table_from_str(alloc, text) {
             Ok(table) => MixedTopology::from_document(alloc, &Value::Table(table)),
@@ -46,17 +53,31 @@ impl MixedTopology {
 
     /// Returns the topology with strangers that a document's value describes.
     ///
-    /// Errors: `BadTopology`, `OutOfMemory`.
+    /// Errors: `BadTopology`; `OutOfMemory`, only for a document that lists an IMP.
     fn from_document(alloc: Global, document: &Value) -> Result<MixedTopology, TopologyFault>
-        ensures { Described (mixed_of (view document.now)) result }
+        ensures described { Described (mixed_of (view document.now)) result }
+        ensures memory { result ≡ Err TopologyFault.OutOfMemory → has (codes "imp") (view document.now) ≡ true }
     {
         let network = Topology::from_document(alloc, document, true)?;
-        let imps = listed(document, "imp");
+        MixedTopology::naming(alloc, network, listed(document, "imp"))
+    }
+
+    /// Returns a topology with the strangers that its IMPs name, as a document lists them.
+    ///
+    /// Errors: `BadTopology` where there are no host programs, where an IMP names hosts wrongly, and where none is
+    /// named; `OutOfMemory`, only where nothing is refused.
+    fn naming(
+        alloc: Global,
+        network: Topology,
+        imps: &[Value],
+    ) -> Result<MixedTopology, TopologyFault>
+        ensures described { Described (mixed_by (items_view imps.now) (Some network)) result }
+        ensures memory { MemoryLast (mixed_by (items_view imps.now) (Some network)) result }
+    {
         if !all_foreign(imps) || network.is_raw() {
             return Err(TopologyFault::BadTopology);
         }
-        let hosts = network.hosts(alloc)?;
-        let strangers = strangers_of(alloc, &hosts, imps)?;
+        let strangers = strangers_of(alloc, network.imps(), imps)?;
         if strangers.is_empty() {
             return Err(TopologyFault::BadTopology);
         }
@@ -172,19 +193,45 @@ fn is_number(number: u8, found: Option<u8>) -> bool
     }
 }
 
-/// Returns those of the hosts that one of these IMPs names as strangers.
+/// Returns those of a network's hosts that its IMPs, as a document lists them, name as strangers.
+///
+/// Errors: `AllocError`, only where one is named.
 fn strangers_of(
     alloc: Global,
-    hosts: &[HostAddr],
+    network: &[ImpHosts],
     imps: &[Value],
 ) -> Result<Vec<HostAddr>, AllocError>
-    ensures { IfOk result (λ strangers. strangers.items ≡ filter (is_foreign (items_view imps.now)) hosts.now) }
+    ensures all { IfOk result (λ strangers. strangers.items ≡ named_in (items_view imps.now) network.now) }
+    ensures memory { IfErr result (λ _. named_in (items_view imps.now) network.now ≢ []) }
 {
     let mut strangers = Vec::new(alloc);
-    for host in hosts {
-        if is_foreign(imps, *host) {
-            strangers.push(*host)?;
-        }
+    for place in 0..MOST_IMPS as u8 * MOST_HOSTS {
+        push_stranger(&mut strangers, network, imps, place)?;
     }
     Ok(strangers)
+}
+
+/// Puts the host of a place at the end, where there is one and it is named as a stranger.
+///
+/// Errors: `AllocError`, only where it is so.
+fn push_stranger(
+    found: &mut Vec<HostAddr>,
+    network: &[ImpHosts],
+    imps: &[Value],
+    place: u8,
+) -> Result<(), AllocError>
+    requires { place < most_imps * most_hosts }
+    ensures pushed { OnOk result (found.new.items ≡ found.old.items ++ named_at (items_view imps.now) network.now place) }
+    ensures there { IfErr result (λ _. has_host network.now (place / 4 + 1) (place % 4) ≡ true) }
+    ensures named { IfErr result (λ _. is_foreign (items_view imps.now) (host_at place) ≡ true) }
+{
+    let (imp, number) = (place / MOST_HOSTS + 1, place % MOST_HOSTS);
+    if has_host(network, imp, number) {
+        if let Some(host) = HostAddr::new(number, imp) {
+            if is_foreign(imps, host) {
+                found.push(host)?;
+            }
+        }
+    }
+    Ok(())
 }

@@ -1,14 +1,17 @@
 //! Which IMPs, hosts and lines a network has.
 
-ghost use Rattle.std.specs.Prelude.{◌≡◌, ◌≢◌, ◌↔◌, ◌==◌, ◌*◌, ◌≤◌, not, true, Some, None, Err, ◌/◌, ◌%◌, ◌+◌, ◌<◌, ◌++◌, [], IfOk, IfErr, OnOk, codes, length};
+ghost use Rattle.std.specs.Prelude.{◌≡◌, ◌≢◌, ◌↔◌, ◌==◌, ◌*◌, ◌≤◌, not, true, Some, None, Err, ◌/◌, ◌%◌, ◌+◌, ◌<◌};
+ghost use Rattle.std.specs.Prelude.{◌++◌, [], IfOk, IfErr, OnOk, codes, length};
 ghost use Rattle.std.specs.List.{list_any, list_all, cons_option};
 ghost use Rattle.toml.specs.View.{view, items_view};
 ghost use Rattle.toml.specs.Data.{get};
 ghost use Rattle.toml.specs.Errors.{IsBlank, IsMemory};
 ghost use Rattle.interface.specs.Calls.{InOrder};
 ghost use Rattle.interface.specs.Host.{most_imps};
-ghost use Rattle.topology.specs.Topology.{TopologyFields, most_hosts, most_network_lines, hosts_of, has_host, topology_in, size, has, one_if, known_members, carrier_of, raw_of};
-ghost use Rattle.topology.specs.Topology.{number_at, host_if, hosts_from, site_of, sites_of, AreSites, is_imp, is_line, each_of, line_of, lines_of, are_imps, is_there, are_lines};
+ghost use Rattle.topology.specs.Topology.{TopologyFields, most_hosts, most_network_lines, hosts_of, has_host};
+ghost use Rattle.topology.specs.Topology.{topology_in, size, has, one_if, known_members, carrier_of, raw_of};
+ghost use Rattle.topology.specs.Topology.{number_at, host_if, hosts_from, site_of, sites_of, AreSites, is_imp, is_line};
+ghost use Rattle.topology.specs.Topology.{each_of, line_of, lines_of, are_imps, is_there, are_lines};
 ghost use Rattle.topology.specs.Naming.{imp_naming, imps_naming, network_of, number_of};
 ghost use Rattle.topology.specs.Topology.{are_apart, joins_same, has_ports, line_count, by_number, imp_of_number};
 ghost use Rattle.topology.specs.Reading.{Described, DescribedIn};
@@ -490,7 +493,7 @@ fn site_of(imps: &[ImpHosts], number: u8) -> Option<u8>
 }
 
 /// Returns whether there is an IMP with this number that has a host with this number.
-fn has_host(imps: &[ImpHosts], number: u8, host: u8) -> bool
+pub(crate) fn has_host(imps: &[ImpHosts], number: u8, host: u8) -> bool
     ensures { result ≡ has_host imps.now number host }
 {
     imps.iter().any(|imp| imp.imp == number && host < imp.hosts)

@@ -1,11 +1,16 @@
 -- What moments of no data do to lives: all keep what they carried, and new ones begin where a request of theirs crosses.
-use Rattle.world_keeps_lives.proofs.Common.{◌≡◌, ℕ, Bool, true, false, if◌then◌else◌, List, [], ◌∷◌, ◌++◌, map, refl, ap, sym, subst, ◌∙◌, append_assoc, map-append, Host, Crossing, Notice, Request, Kept, all_told, book_told, changed_when, life_ended, lives_asked, lives_at, lives_between, lives_crossed, lives_on, lives_told, lives_with, new_life, where_it, Asked, Crossed, Moment, host_in, kept_by, kept_in, notices_by, Amount, Life}
+use Rattle.world_keeps_lives.proofs.Common.{◌≡◌, ℕ, Bool, true, false, if◌then◌else◌, List, [], ◌∷◌, ◌++◌, map, refl, ap, sym, subst, ◌∙◌, append_assoc, map-append, Host, Crossing, Notice, Request, Kept, all_told, book_told, changed_when, life_ended, lives_asked, lives_at, lives_between, lives_crossed, lives_on, lives_told, lives_with, new_life, where_it, Asked, Crossed, Moment, host_in, kept_by, notices_by, Amount, Life}
 use Rattle.std.proofs.Common.{append-nil}
 use Rattle.interface.specs.declared.crossing.Crossing.TheVariants as crossing
 use Rattle.host_pairs.specs.declared.notice.Notice.TheVariants as notice
 use Rattle.sockets.specs.declared.request.Request.TheVariants as request
 use Rattle.net_sim.specs.Book.{granted, more, returned}
-use Rattle.world_keeps_lives.proofs.Grounds.{Opens, Tells}
+use Rattle.reset_law.specs.Network.{AreOurs, Network}
+use Rattle.net_sim.specs.Among.{lives_among}
+use Rattle.net_sim.specs.Mixed.{crossed_only, mixed_kept}
+use Rattle.world_keeps_lives.proofs.Among.{Leaves, among_more, among_other, among_where}
+use Rattle.world_keeps_lives.proofs.DataTold.{Reports}
+use Rattle.world_keeps_lives.proofs.Grounds.{Opens}
 use Rattle.world_keeps_lives.proofs.Walk.Rules.{Each, each_append, each_map}
 use Rattle.world_keeps_lives.proofs.Stamps.{Now, Stamped}
 
@@ -42,7 +47,7 @@ module _ (lives : List Life) (here : ℕ) (log : List Crossing) where
     pub still : (x : Life) → x.ended ≡ true → over x ≡ true
     pub born : Each Born more
 
-  calm_none : (xs : List Life) → Calm xs xs
+  pub calm_none : (xs : List Life) → Calm xs xs
   calm_none xs = record { given = λ x. x.granted; back = λ x. x.returned; over = λ x. x.ended; more = []; is = all_itself xs ∙ sym (append-nil _); still = λ x e. e; born = tt }
 
   calm_on : (xs ys zs : List Life) → Calm xs ys → Calm ys zs → Calm xs zs
@@ -68,7 +73,8 @@ module _ (lives : List Life) (here : ℕ) (log : List Crossing) where
     still = λ x e. off x (test x) e;
     born = tt;
   } where
-    by : (x : Life) (v : Bool) → changed_when v life_ended x ≡ kept_as x.granted x.returned (if v then true else x.ended) x
+    by : (x : Life) (v : Bool)
+        → changed_when v life_ended x ≡ kept_as x.granted x.returned (if v then true else x.ended) x
     by x true = refl
     by x false = refl
 
@@ -86,7 +92,8 @@ module _ (lives : List Life) (here : ℕ) (log : List Crossing) where
     still = λ x e. e;
     born = tt;
   } where
-    by : (x : Life) (v : Bool) → changed_when v (returned m n) x ≡ kept_as x.granted (if v then more m n x.returned else x.returned) x.ended x
+    by : (x : Life) (v : Bool)
+        → changed_when v (returned m n) x ≡ kept_as x.granted (if v then more m n x.returned else x.returned) x.ended x
     by x true = refl
     by x false = refl
 
@@ -100,42 +107,89 @@ module _ (lives : List Life) (here : ℕ) (log : List Crossing) where
     still = λ x e. e;
     born = tt;
   } where
-    by : (x : Life) (v : Bool) → changed_when v (granted m n) x ≡ kept_as (if v then more m n x.granted else x.granted) x.returned x.ended x
+    by : (x : Life) (v : Bool)
+        → changed_when v (granted m n) x ≡ kept_as (if v then more m n x.granted else x.granted) x.returned x.ended x
     by x true = refl
     by x false = refl
 
   calm_born : (x : Life) (xs : List Life) → Born x → Calm xs (xs ++ x ∷ [])
   calm_born x xs b = record { given = λ x. x.granted; back = λ x. x.returned; over = λ x. x.ended; more = x ∷ []; is = ap (λ (ys : List Life). ys ++ x ∷ []) (all_itself xs); still = λ x e. e; born = (b, tt) }
 
-  -- ---- one moment
+-- ---- one moment
 
-  module _ (h p : Host) where
-    calm_told : (n : Notice) (xs : List Life) → Tells h p log n → Stamped lives here n → Calm xs (lives_told h n xs)
-    calm_told (notice.Opened s q f a b) xs t now =
-        calm_born (new_life h s q f a b) xs (refl, refl, subst (λ (g : Host). Opens h g log s f a b) (sym t.0) t.1, now)
-    calm_told (notice.Ended s q f) xs t now = calm_ended (lives_between h s q f) xs
-    calm_told (notice.PairReset q) xs t now = calm_ended (lives_with h q) xs
-    calm_told (notice.Sent s bits) xs t now = absurd t
-    calm_told (notice.Arrived s bits) xs t now = absurd t
-    calm_told (notice.Returned s messages bits) xs t now = calm_returned (lives_at h s) messages bits xs
-    calm_told n xs t now = calm_none xs
+module _ (hosts : Network) (lives : List Life) (here : ℕ) (log : List Crossing) where
+  abbrev among : List Life → List Life
+  among xs = lives_among hosts.strange xs
 
-    calm_all_told : (ns : List Notice) (k : Kept) → Each (Tells h p log) ns → Each (Stamped lives here) ns → Calm k.book.lives (all_told h ns k).book.lives
-    calm_all_told [] k t now = calm_none k.book.lives
-    calm_all_told (n ∷ ns) k t now = calm_on k.book.lives (lives_told h n k.book.lives) (all_told h ns (book_told h n k)).book.lives (calm_told n k.book.lives t.0 now.0) (calm_all_told ns (book_told h n k) t.1 now.1)
+  abbrev Still : List Life → List Life → Type 0
+  Still xs ys = Calm lives here log (lives_among hosts.strange xs) (lives_among hosts.strange ys)
 
-  calm_crossed : (c : Crossing) (xs : List Life) → Calm xs (lives_crossed c xs)
-  calm_crossed (crossing.Down g) xs = calm_ended (lives_on g) xs
-  calm_crossed c xs = calm_none xs
+  still_where : (test : Life → Bool) (change : Life → Life) (xs : List Life) → Leaves change
+      → Calm lives here log (lives_among hosts.strange xs) (where_it test change (lives_among hosts.strange xs))
+      → Still xs (where_it test change xs)
+  still_where test change xs leaves c = subst (λ (ys : List Life). Calm lives here log (lives_among hosts.strange xs) ys) (sym (among_where hosts.strange test change xs leaves)) c
 
-  calm_asked : (g : Host) (r : Request) (xs : List Life) → Calm xs (lives_asked g r xs)
-  calm_asked g (request.Grant socket messages bits) xs = calm_granted (lives_at g socket) messages bits xs
-  calm_asked g r xs = calm_none xs
+  still_ended : (test : Life → Bool) (xs : List Life) → Still xs (where_it test life_ended xs)
+  still_ended test xs = still_where test life_ended xs (λ x. (refl, refl)) (calm_ended lives here log test (among xs))
 
-  calm_by : (y : Moment) (k : Kept) → Calm k.book.lives (kept_by y k).book.lives
-  calm_by (Crossed c) k = calm_crossed c k.book.lives
-  calm_by (Asked g r) k = calm_asked g r k.book.lives
+  module _ (h p : Host) (plain : hosts.strange h ≡ false) where
+    still_born : (x : Life) (xs : List Life) → hosts.strange x.host ≡ false → x.peer ≡ p
+        → (AreOurs hosts h p → Born lives here log x) → Still xs (xs ++ x ∷ [])
+    still_born x xs own is born = by (hosts.strange p) refl where
+      by : (v : Bool) → hosts.strange p ≡ v → Still xs (xs ++ x ∷ [])
+      by true on =
+          subst (λ (ys : List Life). Calm lives here log (lives_among hosts.strange xs) ys)
+          (sym (among_other hosts.strange xs x (let e : hosts.strange x.peer ≡ true = ap hosts.strange is ∙ on in rw (own, e) refl))) (calm_none lives here log (among xs))
+      by false off =
+          subst (λ (ys : List Life). Calm lives here log (lives_among hosts.strange xs) ys)
+          (sym (among_more hosts.strange xs x (let e : hosts.strange x.peer ≡ false = ap hosts.strange is ∙ off in rw (own, e) refl))) (calm_born lives here log x (among xs) (born (plain, off)))
 
-  pub calm_moment : (y : Moment) (ms : List Moment) (p : Host) → Each (Tells (host_in y) p log) (notices_by y ms) → Each (Stamped lives here) (notices_by y ms) → Calm (kept_in ms).book.lives (kept_in (y ∷ ms)).book.lives
-  calm_moment y ms p told now =
-      calm_on (kept_in ms).book.lives (kept_by y (kept_in ms)).book.lives (kept_in (y ∷ ms)).book.lives (calm_by y (kept_in ms)) (calm_all_told (host_in y) p (notices_by y ms) (kept_by y (kept_in ms)) told now)
+    still_told : (n : Notice) (xs : List Life) → Reports hosts h p log n → (AreOurs hosts h p → Stamped lives here n)
+        → Still xs (lives_told h n xs)
+    still_told (notice.Opened s q f a b) xs t now =
+        still_born (new_life h s q f a b) xs plain t.0 (λ ours. (refl, refl, subst (λ (g : Host). Opens h g log s f a b) (sym t.0) (t.1 ours), now ours))
+    still_told (notice.Ended s q f) xs t now = still_ended (lives_between h s q f) xs
+    still_told (notice.PairReset q) xs t now = still_ended (lives_with h q) xs
+    still_told (notice.Sent s bits) xs t now = absurd t
+    still_told (notice.Arrived s bits) xs t now = absurd t
+    still_told (notice.Returned s messages bits) xs t now = still_where (lives_at h s) (returned messages bits) xs (λ x. (refl, refl)) (calm_returned lives here log (lives_at h s) messages bits (among xs))
+    still_told n xs t now = calm_none lives here log (among xs)
+
+    still_all_told : (ns : List Notice) (k : Kept) → Each (Reports hosts h p log) ns
+        → (AreOurs hosts h p → Each (Stamped lives here) ns) → Still k.book.lives (all_told h ns k).book.lives
+    still_all_told [] k t now = calm_none lives here log (among k.book.lives)
+    still_all_told (n ∷ ns) k t now =
+        calm_on lives here log (among k.book.lives) (among (lives_told h n k.book.lives)) (among (all_told h ns (book_told h n k)).book.lives)
+        (still_told n k.book.lives t.0 (λ ours. (now ours).0)) (still_all_told ns (book_told h n k) t.1 (λ ours. (now ours).1))
+
+  still_crossed : (c : Crossing) (xs : List Life) → Still xs (lives_crossed c xs)
+  still_crossed (crossing.Down g) xs = still_ended (lives_on g) xs
+  still_crossed c xs = calm_none lives here log (among xs)
+
+  still_asked : (g : Host) (r : Request) (xs : List Life) → Still xs (lives_asked g r xs)
+  still_asked g (request.Grant socket messages bits) xs = still_where (lives_at g socket) (granted messages bits) xs (λ x. (refl, refl)) (calm_granted lives here log (lives_at g socket) messages bits (among xs))
+  still_asked g r xs = calm_none lives here log (among xs)
+
+  still_by : (y : Moment) (k : Kept) → Still k.book.lives (kept_by y k).book.lives
+  still_by (Crossed c) k = still_crossed c k.book.lives
+  still_by (Asked g r) k = still_asked g r k.book.lives
+
+  still_only : (y : Moment) (k : Kept) → Still k.book.lives (crossed_only y k).book.lives
+  still_only (Crossed c) k = still_crossed c k.book.lives
+  still_only (Asked g r) k = calm_none lives here log (among k.book.lives)
+
+  -- of a stranger's moment nothing is asked
+  pub calm_moment : (y : Moment) (ms : List Moment) (p : Host)
+      → (hosts.strange (host_in y) ≡ false → Each (Reports hosts (host_in y) p log) (notices_by y ms))
+      → (AreOurs hosts (host_in y) p → Each (Stamped lives here) (notices_by y ms))
+      → Still (mixed_kept hosts.strange ms).book.lives (mixed_kept hosts.strange (y ∷ ms)).book.lives
+  calm_moment y ms p told now = by (hosts.strange (host_in y)) refl where
+    old : Kept
+    old = mixed_kept hosts.strange ms
+
+    by : (v : Bool) → hosts.strange (host_in y) ≡ v
+        → Still (mixed_kept hosts.strange ms).book.lives (if v then crossed_only y (mixed_kept hosts.strange ms) else all_told (host_in y) (notices_by y ms) (kept_by y (mixed_kept hosts.strange ms))).book.lives
+    by true on = still_only y (mixed_kept hosts.strange ms)
+    by false plain =
+        calm_on lives here log (among old.book.lives) (among (kept_by y old).book.lives) (among (all_told (host_in y) (notices_by y ms) (kept_by y old)).book.lives) (still_by y old)
+        (still_all_told (host_in y) p plain (notices_by y ms) (kept_by y old) (told plain) now)

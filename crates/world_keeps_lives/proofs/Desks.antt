@@ -1,6 +1,6 @@
 -- What is done to the connections of one pair, at one socket of the host.
 pub use Rattle.world_keeps_lives.proofs.Books.{not_both as clash}
-use Rattle.world_keeps_lives.proofs.Common.{◌≡◌, ◌⊎◌, inl, inr, ℕ, ◌==◌, ◌&&◌, ◌||◌, Bool, true, false, not, if◌then◌else◌, List, [], ◌∷◌, ◌++◌, map, find, Option, Some, None, is_some, refl, ap, sym, subst, ◌∙◌, eqb-true, Host, or_false, changed_first, has_cls, is_ending, is_mine_on, is_open, listener_on, listens_on, without_listener, Entry, Listener, Notice, both, not_is, Life, Kept, all_told, lives_between, lives_told, new_life, is_receive_socket, is_send_socket, Allocation, sends, AddsUp, EachIn, IsFresh, IsLifeOf, NoneOf, has_opened, mine_on}
+use Rattle.world_keeps_lives.proofs.Common.{◌≡◌, ◌⊎◌, inl, inr, ℕ, ◌==◌, ◌&&◌, ◌||◌, Bool, true, false, not, if◌then◌else◌, List, [], ◌∷◌, ◌++◌, map, find, Option, Some, None, is_some, refl, ap, sym, subst, ◌∙◌, eqb-true, Host, or_false, changed_first, has_cls, is_ending, is_mine_on, is_open, listener_on, listens_on, without_listener, Entry, Listener, Notice, both, not_is, Life, Kept, all_told, is_receive_socket, is_send_socket, Allocation, sends, AddsUp, EachIn, IsFresh, IsLifeOf, NoneOf, has_opened, mine_on}
 use Rattle.std.proofs.lemmas.List.{append-nil}
 use Rattle.net_sim.specs.Book as book
 use Rattle.world_keeps_lives.proofs.Ends.{IsRefusing, IsSplit, mine_append, mine_one, none_changed, split}

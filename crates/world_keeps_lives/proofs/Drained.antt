@@ -1,7 +1,12 @@
 -- A sending life whose CLS is queued before its partner's was taken has sent all that was handed over in it, also once
 -- it is over.
-use Rattle.world_keeps_lives.proofs.Common.{◌≡◌, ◌⊎◌, inl, inr, ℕ, zero, suc, ◌<◌, ◌==◌, ◌&&◌, not, Bool, false, if◌then◌else◌, List, [], ◌∷◌, ◌++◌, length, filter, find, slice_index_or, Option, Some, None, refl, ap, sym, subst, ◌∙◌, eq-eqb, arith, eqb-true, Contains, Seen, Host, same_host, not_false, same_host-true, is_receive_socket, is_send_socket, Command, Order, orders_of, has_cls, is_mine_on, is_open, Entry, both, not_is, NcpState, owner_of, pair_with, AreInOrder, on_open, send_fault, not_first, lives_at, HaveAddresses, IsLawful, going, AreHanded, IsPrefix, Name, SafePartners, own_request, sends, Asked, Crossed, Moment, places, program, IsTimeline, crossings_of, kept_in, WorldState, Life, Coupled, coupled, places_same, book_run, even_odd, queued_commands, safe_partners, served_in, ClosedFirst, ClosesFirst, AreRefusing, EachOn, HasOpenEnd, IsFreeSocket, IsLifeOf, IsOwned, NoneOf, mine_on}
-use Rattle.reset_law.specs.Network.{all_ours}
+use Rattle.world_keeps_lives.proofs.Common.{◌≡◌, ◌⊎◌, inl, inr, ℕ, zero, suc, ◌<◌, ◌==◌, ◌&&◌, not, Bool, false, if◌then◌else◌, List, [], ◌∷◌, ◌++◌, length, filter, find, slice_index_or, Option, Some, None, refl, ap, sym, subst, ◌∙◌, eq-eqb, arith, eqb-true, Contains, Host, same_host, not_false, same_host-true, is_receive_socket, is_send_socket, Command, Order, orders_of, has_cls, is_mine_on, is_open, Entry, both, not_is, NcpState, owner_of, pair_with, AreInOrder, on_open, send_fault, not_first, lives_at, HaveAddresses, going, AreHanded, IsPrefix, Name, SafePartners, own_request, sends, Asked, Crossed, Moment, places, program, crossings_of, Life, Coupled, host_in, places_same, even_odd, ClosedFirst, ClosesFirst, AreRefusing, EachOn, HasOpenEnd, IsFreeSocket, IsLifeOf, IsOwned, NoneOf, mine_on}
+use Rattle.reset_law.specs.Network.{AreOurs, Network}
+use Rattle.net_sim.specs.Among.{beside_among}
+use Rattle.net_sim.specs.Mixed.{Happened, mixed_kept}
+use Rattle.net_sim.proofs.lemmas.{coupled}
+use Rattle.world_keeps_pairing.specs.Laws.Worlds.{among}
+use Rattle.world_keeps_pairing.proofs.lemmas.{in_book, life_paired, queued_commands, safe_partners, served_in, two_in_book}
 use Rattle.std.proofs.Common.{true}
 use Rattle.std.proofs.lemmas.Option.{same_Some}
 use Rattle.interface.specs.Mailboxes as mail
@@ -11,8 +16,7 @@ use Rattle.sockets.specs.Requests.{refusal}
 use Rattle.sockets.specs.declared.request.Request.TheVariants as request
 use Rattle.world_keeps_pairing.specs.Lives.{ArePaired}
 use Rattle.world_keeps_pairing.proofs.lemmas.{mail_below}
-use Rattle.world_keeps_pairing.proofs.lemmas.AllOurs.{life_paired}
-use Rattle.world_keeps_lives.specs.Drained.{AllDrained, AllSent}
+use Rattle.world_keeps_lives.specs.Drained.{AllSent}
 use Rattle.world_keeps_lives.proofs.Desks.{clash, open_parts, own_is}
 use Rattle.world_keeps_lives.proofs.Ends.{mine_one}
 use Rattle.world_keeps_lives.proofs.Begun as begun
@@ -20,9 +24,8 @@ use Rattle.world_keeps_lives.proofs.Grounds.{Grounded, IsAsked, May, MayOut, Not
 use Rattle.world_keeps_lives.proofs.Laws as laws
 use Rattle.world_keeps_lives.proofs.Laws.{holds, live, own_socket}
 use Rattle.world_keeps_lives.proofs.Owners.{owner_found}
-use Rattle.world_keeps_lives.proofs.Pairs.{IsPair, IsUnsent, Later, moment_later, pair_front, pair_one, pair_there, prefix_same}
+use Rattle.world_keeps_lives.proofs.Pairs.{IsPair, IsUnsent, Later, handed_among, moment_later, pair_among, pair_front, pair_one, pair_there, prefix_same}
 use Rattle.world_keeps_lives.proofs.Walk.Rules.{Begins, Each, Goes, Hears, Rules, each_filter}
-use Rattle.net_sim.proofs.lemmas.AllOurs.{happened}
 
 one_is : (e f : Entry) → e ∷ [] ≡ f ∷ [] → e ≡ f
 one_is e f h = cc
@@ -38,9 +41,6 @@ passes_one test (x ∷ xs) e h = by (passes_one test xs e) (test x) refl h where
 receives_foreign : (x : Life) → ArePaired x → sends x ≡ true → is_receive_socket x.foreign ≡ true
 receives_foreign x (inl p) s = absurd (even_odd x.socket p.0 s)
 receives_foreign x (inr p) s = p.1
-
-in_rest : (x y : Life) (lives : List Life) → Contains lives y → Contains (x ∷ lives) y
-in_rest x y lives c = (suc c.0, (let l : c.0 < length lives = c.1 in omega (arith, l)), c.2)
 
 module _ (moments : List Moment) where
   -- the lives of a socket that continue are those of no end, or of its one end
@@ -78,18 +78,16 @@ module _ (moments : List Moment) where
     foreign = ap is_receive_socket i.foreign ∙ receives_foreign x paired c.sending
 
   -- at one place
-  sent_at : (x : Life) (t : List Bool) (lives : List Life) (handed : List (List Bool))
-      → ((y : Life) → Contains lives y → ArePaired y)
-      → ((a : Host) (k : ℕ) → On a k lives handed) → IsPair x t lives handed → ClosesFirst moments x → x.bits ≡ t
+  sent_at : (x : Life) (t : List Bool) (lives : List Life) (handed : List (List Bool)) → ArePaired x
+      → On x.host x.socket lives handed → IsPair x t lives handed → ClosesFirst moments x → x.bits ≡ t
   sent_at x t [] handed paired on i c = absurd i
   sent_at x t (y ∷ lives) [] paired on i c = absurd i
   sent_at x t (y ∷ lives) (u ∷ handed) paired on (inl e) c =
       let d : ClosesFirst moments y = subst (λ (z : Life). ClosesFirst moments z) e.0 c in
-      ap (λ (z : Life). z.bits) e.0 ∙ sent_now y u lives handed (paired y (0, omega arith, refl))
-      (on y.host y.socket) d ∙ sym e.1
+      ap (λ (z : Life). z.bits) e.0 ∙ sent_now y u lives handed (subst ArePaired e.0 paired)
+      (subst (λ (z : Life). On z.host z.socket (y ∷ lives) (u ∷ handed)) e.0 on) d ∙ sym e.1
   sent_at x t (y ∷ lives) (u ∷ handed) paired on (inr i) c =
-      sent_at x t lives handed (λ z there. paired z (in_rest y z lives there))
-      (λ a k. on_rest a k y u lives handed (on a k)) i c
+      sent_at x t lives handed paired (on_rest x.host x.socket y u lives handed on) i c
 
 -- ---- an end that closes
 
@@ -221,12 +219,16 @@ pair_at x (y ∷ lives) (u ∷ handed) (suc i) l e h =
     let r : (t : List Bool) × IsPair x t lives handed = pair_at x lives handed i (omega (arith, l)) e h.1 in
     (r.0, inr r.1)
 
-module _ (hosts : List Host) (addresses : HaveAddresses hosts) where
+-- what was handed over in lives between hosts with programs
+abbrev pub handed_in : Network → List Moment → List (List Bool)
+handed_in hosts ms = beside_among hosts.strange (mixed_kept hosts.strange ms).book.lives (mixed_kept hosts.strange ms).handed
+
+module _ (hosts : Network) (addresses : HaveAddresses hosts.all) where
   -- a life that closed first and has sent all, as it is at some later moment
   record Whole (ms : List Moment) (r : Life) : Type 0 where
     life : Life
     text : List Bool
-    there : IsPair life text (kept_in ms).book.lives (kept_in ms).handed
+    there : IsPair life text (mixed_kept hosts.strange ms).book.lives (mixed_kept hosts.strange ms).handed
     sending : sends life ≡ true
     host : life.host ≡ r.host
     peer : life.peer ≡ r.peer
@@ -237,33 +239,36 @@ module _ (hosts : List Host) (addresses : HaveAddresses hosts) where
     shut : Each (IsShut r.socket r.own_stamp) (pair_with r.peer (program r.host ms).peers).entries
     placed : r.own_stamp < places ms
 
-  module _ (ms : List Moment) (run : mail.IsRun hosts (crossings_of ms)) (time : IsTimeline hosts ms) where
-    sockets : (a : Host) (k : ℕ) → On ms a k (kept_in ms).book.lives (kept_in ms).handed
-    sockets a k = by (holds hosts ms addresses run time a k).socket where
-      by : IsFreeSocket a k (program a ms) (kept_in ms) ⊎ IsOwned a k (program a ms) (kept_in ms)
-          → On ms a k (kept_in ms).book.lives (kept_in ms).handed
+  module _ (ms : List Moment) (run : mail.IsRun hosts.all (crossings_of ms)) (time : Happened hosts ms) where
+    sockets : (a : Host) → hosts.strange a ≡ false → (k : ℕ)
+        → On ms a k (mixed_kept hosts.strange ms).book.lives (mixed_kept hosts.strange ms).handed
+    sockets a plain k = by (holds hosts ms addresses run time a plain k).socket where
+      by : IsFreeSocket a k (program a ms) (mixed_kept hosts.strange ms) ⊎ IsOwned a k (program a ms) (mixed_kept hosts.strange ms)
+          → On ms a k (mixed_kept hosts.strange ms).book.lives (mixed_kept hosts.strange ms).handed
       by (inl f) = inl f.lives
       by (inr o) = inr (o.peer, o.end, o.one, o.lives)
 
-    paired : (x : Life) → Contains (kept_in ms).book.lives x → ArePaired x
-    paired x there =
-        let c : Coupled (all_ours hosts) ms = coupled hosts addresses ms run time in
-        life_paired hosts ms c.story c.run run (served_in hosts ms time) x there
+    paired : (x : Life) → AreOurs hosts x.host x.peer → Contains (mixed_kept hosts.strange ms).book.lives x
+        → ArePaired x
+    paired x two there =
+        let c : Coupled hosts ms = coupled hosts addresses ms run time in
+        life_paired hosts ms c.story c.run run (served_in hosts ms time) x two there
 
-    placed_first : (r : Life) → HasOpenEnd (program r.host ms) r → r.own_stamp < places ms
-    placed_first r o =
+    placed_first : (r : Life) → AreOurs hosts r.host r.peer → HasOpenEnd (program r.host ms) r → r.own_stamp < places ms
+    placed_first r two o =
         let g : Grounded r.host r.peer (crossings_of ms) o.end × (is_mine_on r.socket o.end ≡ true) =
-        begun.one_is (Grounded r.host r.peer (crossings_of ms)) r.socket (pair_with r.peer (program r.host ms).peers).entries o.end o.one (grounds (all_ours hosts) addresses ms run (happened hosts ms time) r.host r.peer (refl, refl)) in
+        begun.one_is (Grounded r.host r.peer (crossings_of ms)) r.socket (pair_with r.peer (program r.host ms).peers).entries o.end o.one (grounds hosts addresses ms run time r.host r.peer two) in
         let mine : o.end.mine ≡ true = (both o.end.mine (o.end.own == r.socket) g.1).0 in
         let asked : IsAsked r.host r.peer (crossings_of ms) o.end r.own_stamp = g.0.asked mine r.own_stamp o.own in
         let less : r.own_stamp < length (crossings_of ms) =
         crossed_below r.own_stamp (going asked.crossed.message) (crossings_of ms) asked.crossed.crossed in
         subst (λ (n : ℕ). r.own_stamp < n) (sym (places_same ms)) less
 
-    first : (r : Life) → Contains (kept_in ms).book.lives r → ClosesFirst ms r → Whole ms r
-    first r there c =
-        let i : (t : List Bool) × IsPair r t (kept_in ms).book.lives (kept_in ms).handed =
-        pair_at r (kept_in ms).book.lives (kept_in ms).handed there.0 there.1 there.2 (laws.handed hosts ms addresses run time) in
+    first : (r : Life) → AreOurs hosts r.host r.peer → Contains (mixed_kept hosts.strange ms).book.lives r
+        → ClosesFirst ms r → Whole ms r
+    first r two there c =
+        let i : (t : List Bool) × IsPair r t (mixed_kept hosts.strange ms).book.lives (mixed_kept hosts.strange ms).handed =
+        pair_at r (mixed_kept hosts.strange ms).book.lives (mixed_kept hosts.strange ms).handed there.0 there.1 there.2 (laws.handed hosts ms addresses run time) in
         record {
           life = r;
           text = i.0;
@@ -274,17 +279,20 @@ module _ (hosts : List Host) (addresses : HaveAddresses hosts) where
           socket = refl;
           foreign = refl;
           stamp = refl;
-          bits = sent_at ms r i.0 (kept_in ms).book.lives (kept_in ms).handed paired sockets i.1 c;
+          bits = sent_at ms r i.0 (mixed_kept hosts.strange ms).book.lives (mixed_kept hosts.strange ms).handed (paired r two there) (sockets r.host two.0 r.socket) i.1 c;
           shut =
               all_shut r.socket r.own_stamp (pair_with r.peer (program r.host ms).peers).entries
-              ((holds hosts ms addresses run time r.host 0).steady.refusing r.peer)
+              ((holds hosts ms addresses run time r.host two.0 0).steady.refusing r.peer)
               (subst (λ (es : List Entry). Each (λ (e : Entry). has_cls e.closing ≡ true) es) (sym c.end.one) (c.closed, tt));
-          placed = placed_first r c.end;
+          placed = placed_first r two c.end;
         }
 
     -- ---- a moment more
 
-    module _ (r : Life) (w : Whole ms r) where
+    module _ (r : Life) (two : AreOurs hosts r.host r.peer) (w : Whole ms r) where
+      own_host : hosts.strange w.life.host ≡ false
+      own_host = subst (λ (g : Host). hosts.strange g ≡ false) (sym w.host) two.0
+
       end_shut : (h : HasOpenEnd (program w.life.host ms) w.life) → has_cls h.end.closing ≡ true
       end_shut h =
           let own : h.end.own ≡ w.life.socket =
@@ -316,21 +324,21 @@ module _ (hosts : List Host) (addresses : HaveAddresses hosts) where
             both (same_host h w.life.host) (w.life.socket == socket) p.0 in
             let goes : w.life.ended ≡ false = not_is w.life.ended p.1 in
             let open_end : HasOpenEnd (program w.life.host ms) w.life =
-            live hosts ms addresses run time w.life
-            (pair_there w.life w.text (kept_in ms).book.lives (kept_in ms).handed w.there) goes in
+            live hosts ms addresses run time w.life own_host
+            (pair_there w.life w.text (mixed_kept hosts.strange ms).book.lives (mixed_kept hosts.strange ms).handed w.there) goes in
             absurd
-            (closing_refuses (program w.life.host ms) w.life open_end bits ((coupled hosts addresses ms run time).order w.life.host refl) (end_shut open_end)
+            (closing_refuses (program w.life.host ms) w.life open_end bits ((coupled hosts addresses ms run time).order w.life.host own_host) (end_shut open_end)
             (subst (λ (g : Host). refusal (program g ms) (request.Send w.life.socket bits) ≡ None) (same_host-true h w.life.host q.0)
             (subst (λ (k : ℕ). refusal (program h ms) (request.Send k bits) ≡ None) (sym (eqb-true w.life.socket socket q.1)) may)))
 
-      unsent : (y : Moment) → IsTimeline hosts (y ∷ ms) → IsUnsent y w.life
-      unsent (Crossed c) t = tt
-      unsent (Asked h (request.Send socket bits)) t = not_handed h socket bits t.0.2
-      unsent (Asked h c) t = tt
+      unsent : (y : Moment) → Happened hosts (y ∷ ms) → hosts.strange (host_in y) ≡ false → IsUnsent y w.life
+      unsent (Crossed c) t plain = tt
+      unsent (Asked h (request.Send socket bits)) t plain = not_handed h socket bits (t.0 plain).2
+      unsent (Asked h c) t plain = tt
 
-      may : (y : Moment) → mail.IsRun hosts (crossings_of (y ∷ ms)) → IsTimeline hosts (y ∷ ms)
+      may : (y : Moment) → mail.IsRun hosts.all (crossings_of (y ∷ ms)) → Happened hosts (y ∷ ms)
           → May (IsShut r.socket r.own_stamp) Nothing r.host r.peer (shut_rules r.socket r.own_stamp r.peer) y ms
-      may (Crossed (crossing.Out m)) on t = (out, λ from. (coupled hosts addresses (Crossed (crossing.Out m) ∷ ms) on t).story.0 refl) where
+      may (Crossed (crossing.Out m)) on t = (out, λ from. (coupled hosts addresses (Crossed (crossing.Out m) ∷ ms) on t).story.0 (subst (λ (g : Host). hosts.strange g ≡ false) from two.0)) where
         out : MayOut (IsShut r.socket r.own_stamp) Nothing r.host r.peer (shut_rules r.socket r.own_stamp r.peer) m ms
         out g parcel.Reset from to next order is = tt
         out g parcel.Reply from to next order is = tt
@@ -345,13 +353,13 @@ module _ (hosts : List Host) (addresses : HaveAddresses hosts) where
       placed_next (Crossed c) = omega (arith, w.placed)
       placed_next (Asked h q) = w.placed
 
-      next : (y : Moment) → mail.IsRun hosts (crossings_of (y ∷ ms)) → IsTimeline hosts (y ∷ ms) → Whole (y ∷ ms) r
+      next : (y : Moment) → mail.IsRun hosts.all (crossings_of (y ∷ ms)) → Happened hosts (y ∷ ms) → Whole (y ∷ ms) r
       next y on t =
-          let l : Later w.life w.text (kept_in (y ∷ ms)).book.lives (kept_in (y ∷ ms)).handed =
-          moment_later y ms w.life w.text (unsent y t) w.there in
+          let l : Later w.life w.text (mixed_kept hosts.strange (y ∷ ms)).book.lives (mixed_kept hosts.strange (y ∷ ms)).handed =
+          moment_later hosts.strange y ms w.life w.text (unsent y t) w.there in
           let sending : sends l.life ≡ true = ap is_send_socket l.next.socket ∙ w.sending in
           let within : IsPrefix l.life.bits w.text =
-          pair_front l.life w.text (kept_in (y ∷ ms)).book.lives (kept_in (y ∷ ms)).handed
+          pair_front l.life w.text (mixed_kept hosts.strange (y ∷ ms)).book.lives (mixed_kept hosts.strange (y ∷ ms)).handed
           (laws.handed hosts (y ∷ ms) addresses on t) l.there sending in
           let more : IsPrefix w.text l.life.bits =
           subst (λ (bs : List Bool). IsPrefix bs l.life.bits) w.bits l.next.front in
@@ -369,62 +377,58 @@ module _ (hosts : List Host) (addresses : HaveAddresses hosts) where
             shut =
                 step_ends (IsShut r.socket r.own_stamp) Nothing r.host r.peer (shut_rules r.socket r.own_stamp r.peer)
                 (shut_begins r.socket r.own_stamp) y ms
-                (queued_commands hosts ms addresses run time r.host r.peer) (may y on t) w.shut;
+                (queued_commands hosts ms addresses run time r.host r.peer two) (may y on t) w.shut;
             placed = placed_next y;
           }
 
-  later : (newer ms : List Moment) → mail.IsRun hosts (crossings_of (newer ++ ms)) → IsTimeline hosts (newer ++ ms)
-      → (r : Life)
-      → Contains (kept_in ms).book.lives r → ClosesFirst ms r → Whole (newer ++ ms) r
-  later [] ms run time r there c = first ms run time r there c
-  later (y ∷ newer) ms run time r there c =
-      let below : mail.IsRun hosts (crossings_of (newer ++ ms)) = mail_below hosts y (newer ++ ms) run in
-      next (newer ++ ms) below time.1 r (later newer ms below time.1 r there c) y run time
+  later : (newer ms : List Moment) → mail.IsRun hosts.all (crossings_of (newer ++ ms)) → Happened hosts (newer ++ ms)
+      → (r : Life) → AreOurs hosts r.host r.peer
+      → Contains (mixed_kept hosts.strange ms).book.lives r → ClosesFirst ms r → Whole (newer ++ ms) r
+  later [] ms run time r two there c = first ms run time r two there c
+  later (y ∷ newer) ms run time r two there c =
+      let below : mail.IsRun hosts.all (crossings_of (newer ++ ms)) = mail_below hosts.all y (newer ++ ms) run in
+      next (newer ++ ms) below time.1 r two (later newer ms below time.1 r two there c) y run time
 
   -- ---- all lives of a book
 
-  module _ (ms : List Moment) (run : mail.IsRun hosts (crossings_of ms)) (time : IsTimeline hosts ms) where
-    sent_since : (x : Life) (t : List Bool) → IsPair x t (kept_in ms).book.lives (kept_in ms).handed
-        → ClosedFirst ms x → x.bits ≡ t
+  module _ (ms : List Moment) (run : mail.IsRun hosts.all (crossings_of ms)) (time : Happened hosts ms) where
+    sent_since : (x : Life) (t : List Bool) → IsPair x t (among hosts ms) (handed_in hosts ms)
+        → ClosedFirst (among hosts) ms x → x.bits ≡ t
     sent_since x t i c =
+        let s : Contains (mixed_kept hosts.strange c.earlier).book.lives c.sender × AreOurs hosts c.sender.host c.sender.peer =
+        in_book hosts (mixed_kept hosts.strange c.earlier).book.lives c.sender c.there in
         let w : Whole ms c.sender = subst (λ (ns : List Moment). Whole ns c.sender) (sym c.is)
-        (later c.later c.earlier (subst (λ (ns : List Moment). mail.IsRun hosts (crossings_of ns)) c.is run)
-        (subst (λ (ns : List Moment). IsTimeline hosts ns) c.is time) c.sender c.there c.first) in
-        let k : Coupled (all_ours hosts) ms = coupled hosts addresses ms run time in
-        let partners : SafePartners (crossings_of ms) (kept_in ms).book.lives =
-        safe_partners hosts ms k.story k.run run (served_in hosts ms time) in
+        (later c.later c.earlier (subst (λ (ns : List Moment). mail.IsRun hosts.all (crossings_of ns)) c.is run)
+        (subst (λ (ns : List Moment). Happened hosts ns) c.is time) c.sender s.1 s.0 c.first) in
+        let k : Coupled hosts ms = coupled hosts addresses ms run time in
+        let partners : SafePartners (crossings_of ms) (among hosts ms) =
+        safe_partners hosts ms k.story k.run run (served_in hosts ms time) (among hosts ms)
+        (in_book hosts (mixed_kept hosts.strange ms).book.lives) (two_in_book hosts (mixed_kept hosts.strange ms).book.lives) in
+        let own : hosts.strange w.life.host ≡ false = subst (λ (g : Host). hosts.strange g ≡ false) (sym w.host) s.1.0 in
+        let other : hosts.strange w.life.peer ≡ false = subst (λ (g : Host). hosts.strange g ≡ false) (sym w.peer) s.1.1 in
+        let there : IsPair w.life w.text (among hosts ms) (handed_in hosts ms) =
+        pair_among hosts.strange w.life w.text (mixed_kept hosts.strange ms).book.lives (mixed_kept hosts.strange ms).handed
+        (rw (own, other) refl) w.there in
         let same : (x ≡ w.life) × (t ≡ w.text) =
-        pair_one x w.life t w.text (kept_in ms).book.lives (kept_in ms).handed partners.own_once
-        (c.same ∙ sym (name_is c.sender w.life w.socket w.foreign w.stamp)) i w.there in
+        pair_one x w.life t w.text (among hosts ms) (handed_in hosts ms) partners.own_once
+        (c.same ∙ sym (name_is c.sender w.life w.socket w.foreign w.stamp)) i there in
         ap (λ (y : Life). y.bits) same.0 ∙ w.bits ∙ sym same.1
 
-    each_sent : (lives : List Life) (ts : List (List Bool)) → AreHanded lives ts
-        → ((x : Life) (t : List Bool) → IsPair x t lives ts → ClosedFirst ms x → x.bits ≡ t) → AllSent ms lives ts
-    each_sent [] ts h sent = tt
-    each_sent (x ∷ lives) [] h sent = h
-    each_sent (x ∷ lives) (t ∷ ts) h sent =
-        (sent x t (inl (refl, refl)), each_sent lives ts h.1 (λ y u i. sent y u (inr i)))
+each_sent : (lives_in : List Moment → List Life) (ms : List Moment) (lives : List Life) (ts : List (List Bool))
+    → AreHanded lives ts
+    → ((x : Life) (t : List Bool) → IsPair x t lives ts → ClosedFirst lives_in ms x → x.bits ≡ t)
+    → AllSent lives_in ms lives ts
+each_sent lives_in ms [] ts h sent = tt
+each_sent lives_in ms (x ∷ lives) [] h sent = h
+each_sent lives_in ms (x ∷ lives) (t ∷ ts) h sent =
+    (sent x t (inl (refl, refl)), each_sent lives_in ms lives ts h.1 (λ y u i. sent y u (inr i)))
 
 -- ---- moments
 
-pub drained : (hosts : List Host) (moments : List Moment) → HaveAddresses hosts
-    → mail.IsRun hosts (crossings_of moments) → IsTimeline hosts moments
-    → AllSent moments (kept_in moments).book.lives (kept_in moments).handed
+pub drained : (hosts : Network) (moments : List Moment) → HaveAddresses hosts.all
+    → mail.IsRun hosts.all (crossings_of moments) → Happened hosts moments
+    → AllSent (among hosts) moments (among hosts moments) (handed_in hosts moments)
 drained hosts moments addresses run time =
-    each_sent hosts addresses moments run time (kept_in moments).book.lives (kept_in moments).handed
-    (laws.handed hosts moments addresses run time) (sent_since hosts addresses moments run time)
-
-all_drained : (hosts : List Host) (later earlier : List Moment) → HaveAddresses hosts
-    → mail.IsRun hosts (crossings_of (later ++ earlier)) → IsTimeline hosts (later ++ earlier)
-    → AllSent earlier (kept_in earlier).book.lives (kept_in earlier).handed
-all_drained hosts [] earlier addresses run time = drained hosts earlier addresses run time
-all_drained hosts (y ∷ later) earlier addresses run time =
-    all_drained hosts later earlier addresses (mail_below hosts y (later ++ earlier) run) time.1
-
--- ---- worlds
-
-pub world_drained : {C : Type 0} (seen : C → Seen) (hosts : List Host) (w : WorldState C)
-    → (lawful : IsLawful seen hosts w) → AllDrained lawful.whole.moments
-world_drained seen hosts w lawful later earlier is =
-    all_drained hosts later earlier lawful.addresses (subst (λ (ms : List Moment). mail.IsRun hosts (crossings_of ms)) is (book_run seen hosts w lawful))
-    (subst (λ (ms : List Moment). IsTimeline hosts ms) is lawful.whole.timeline)
+    each_sent (among hosts) moments (among hosts moments) (handed_in hosts moments)
+    (handed_among hosts.strange (mixed_kept hosts.strange moments).book.lives (mixed_kept hosts.strange moments).handed (laws.handed hosts moments addresses run time))
+    (sent_since hosts addresses moments run time)

@@ -1,5 +1,5 @@
 -- The requests of each end of a host's program, in the messages that crossed.
-use Rattle.world_keeps_lives.proofs.Common.{◌≡◌, inl, inr, ℕ, ◌<◌, Bool, true, false, if◌then◌else◌, zero, suc, List, [], ◌∷◌, map, take, drop, length, slice_index_or, Some, refl, ap, sym, subst, ◌∙◌, arith, Contains, eqb-true, take-append-drop, Contains-append_left, Host, same_host, Flow, Answer, Crossing, HostMessage, or_false, same_host-true, is_receive_socket, is_send_socket, Command, Legal, Order, orders_of, has_cls, is_ending, is_receiving, PairState, Parcel, asked_at, link_for, Entry, Notice, offer_read, AreCommands, IsReadBack, accepted, NcpState, opening_state, pair_with, AreInOrder, served, message_for, next_in, offered, Peer, next_pair, HaveAddresses, CrossedAt, HasCrossed, coming, going, request, control_flow, Asked, Crossed, IsNext, Moment, places, program, crossings_of, places_same, even_odd, programs_ranged}
+use Rattle.world_keeps_lives.proofs.Common.{◌≡◌, inl, inr, ℕ, ◌<◌, Bool, true, false, if◌then◌else◌, zero, suc, List, [], ◌∷◌, map, take, drop, length, slice_index_or, Some, refl, ap, sym, subst, ◌∙◌, arith, Contains, eqb-true, take-append-drop, Contains-append_left, Host, same_host, Flow, Answer, Crossing, HostMessage, or_false, same_host-true, is_receive_socket, is_send_socket, Command, Legal, Order, orders_of, has_cls, is_ending, is_receiving, PairState, Parcel, Entry, Notice, offer_read, AreCommands, IsReadBack, accepted, NcpState, opening_state, pair_with, AreInOrder, served, message_for, next_in, offered, Peer, next_pair, HaveAddresses, CrossedAt, HasCrossed, coming, going, request, control_flow, Asked, Crossed, IsNext, Moment, places, program, crossings_of, places_same, even_odd, programs_ranged}
 use Rattle.reset_law.specs.Network.{AreOurs, Network}
 use Rattle.std.proofs.lemmas.Option.{same_Some}
 use Rattle.interface.specs.Mailboxes as mail
@@ -22,7 +22,8 @@ use Rattle.world_keeps_lives.proofs.Walk.ByRules.{Done, Ends, MayTake, answer_ke
 
 -- ---- what crossed stays in the log
 
-pub still_crossed : (way : HostMessage → Crossing) (from to : Host) (place : ℕ) (c : Command) (d : Crossing) (log : List Crossing) → HasCrossed way from to place c log → HasCrossed way from to place c (d ∷ log)
+pub still_crossed : (way : HostMessage → Crossing) (from to : Host) (place : ℕ) (c : Command) (d : Crossing) (log : List Crossing)
+    → HasCrossed way from to place c log → HasCrossed way from to place c (d ∷ log)
 still_crossed way from to place c d log h = record { message = h.message; flow = h.flow; crossed = inr h.crossed; holds = h.holds }
 
 pub crossed_below : (place : ℕ) (c : Crossing) (log : List Crossing) → CrossedAt place c log → place < length log
@@ -113,7 +114,8 @@ module _ (h p : Host) (log : List Crossing) where
     by true f = refl
     by false f = false_is (sym (or_false (has_cls e.closing) e.partner_closed goes).0 ∙ r f)
 
-  opening_by_ends : (e : Entry) (a b : ℕ) → IsAsked h p log e a → IsAnswered h p log e b → Opens h p log e.own e.foreign a b
+  opening_by_ends : (e : Entry) (a b : ℕ) → IsAsked h p log e a → IsAnswered h p log e b
+      → Opens h p log e.own e.foreign a b
   opening_by_ends e a b i j = by (is_receive_socket e.own) refl where
     by : (r : Bool) → is_receive_socket e.own ≡ r → Opens h p log e.own e.foreign a b
     by true r = record {
@@ -137,7 +139,8 @@ module _ (h p : Host) (log : List Crossing) where
     returns = λ e messages bits g o. tt;
   }
 
-  pub grounded_hears : (m : HostMessage) (stamp : ℕ) → m.flow ≡ control_flow p h → CrossedAt stamp (coming m) log → Hears (Grounded h p log) stamp (orders_of m.text)
+  pub grounded_hears : (m : HostMessage) (stamp : ℕ) → m.flow ≡ control_flow p h → CrossedAt stamp (coming m) log
+      → Hears (Grounded h p log) stamp (orders_of m.text)
   grounded_hears m stamp flow crossed = record {
     begins = grounded_begins;
     rts = λ own foreign link e there even odd o f g. record {
@@ -192,12 +195,15 @@ module _ (h p : Host) (log : List Crossing) where
   taken_in : (n : ℕ) (queue : List Command) (c : Command) → Contains (take n queue) c → Contains queue c
   taken_in n queue c there = subst (λ (l : List Command). Contains l c) (take-append-drop n queue) (Contains-append_left (take n queue) (drop n queue) c there)
 
-  read_at : (cs : List Command) (c : Command) (i : ℕ) → i < length cs → slice_index_or cs i c ≡ c → Contains (map Legal cs) (Legal c)
+  read_at : (cs : List Command) (c : Command) (i : ℕ) → i < length cs → slice_index_or cs i c ≡ c
+      → Contains (map Legal cs) (Legal c)
   read_at [] c i less is = absurd (omega (arith, less))
   read_at (d ∷ cs) c zero less is = (0, omega arith, ap Legal is)
   read_at (d ∷ cs) c (suc i) less is = let rest : Contains (map Legal cs) (Legal c) = read_at cs c i (omega (arith, less)) is in (suc rest.0, omega (arith, rest.1), rest.2)
 
-  going_goes : (m : HostMessage) (stamp n : ℕ) (queue : List Command) → m.flow ≡ control_flow h p → CrossedAt stamp (going m) log → orders_of m.text ≡ map Legal (take n queue) → Goes (Going queue) stamp (take n queue)
+  going_goes : (m : HostMessage) (stamp n : ℕ) (queue : List Command) → m.flow ≡ control_flow h p
+      → CrossedAt stamp (going m) log → orders_of m.text ≡ map Legal (take n queue)
+      → Goes (Going queue) stamp (take n queue)
   going_goes m stamp n queue flow crossed reads = record {
     rts = λ own foreign link e there even o f g. (
       record {
@@ -232,7 +238,8 @@ module _ (h p : Host) (log : List Crossing) where
       holds = subst (λ (x : Command). Contains (orders_of m.text) (Legal x)) (sym same) (subst (λ (os : List Order). Contains os (Legal d)) (sym reads) (read_at (take n queue) d there.0 there.1 there.2));
     }
 
-pub still_grounded : (h p : Host) (d : Crossing) (log : List Crossing) (e : Entry) → Grounded h p log e → Grounded h p (d ∷ log) e
+pub still_grounded : (h p : Host) (d : Crossing) (log : List Crossing) (e : Entry) → Grounded h p log e
+    → Grounded h p (d ∷ log) e
 still_grounded h p d log e g = record {
   refusing = g.refusing;
   asked = λ m a is. (let i : IsAsked h p log e a = g.asked m a is in record { named = i.named; crossed = still_crossed going h p a (request e.own e.foreign i.named) d log i.crossed; link = i.link });
@@ -254,12 +261,17 @@ module _ (P : Entry → Type 0) (N : Notice → Type 0) (a b : Host) (rules : Ru
   abbrev pub MayIn : HostMessage → List Moment → Type 0
   MayIn m moments = a ≡ m.flow.destination → b ≡ m.flow.source → MayTake P N b rules (program a moments) m (places moments)
 
-  pub out_done : (m : HostMessage) (moments : List Moment) → IsNext (program a moments) m → AreCommands (pair_with b (program a moments).peers).queue → MayOut m moments → a ≡ m.flow.source → b ≡ m.flow.destination → Ends P b (program a moments)
+  pub out_done : (m : HostMessage) (moments : List Moment) → IsNext (program a moments) m
+      → AreCommands (pair_with b (program a moments).peers).queue → MayOut m moments → a ≡ m.flow.source
+      → b ≡ m.flow.destination → Ends P b (program a moments)
       → Done P N b rules (offered (program a moments) (places moments))
   out_done m moments n ok may from to h =
       offer_keeps P N b rules (program a moments) (places moments) n.peer n.parcel n.order n.next (sym (to ∙ ap (λ (x : HostMessage). x.flow.destination) n.message)) ok (may n.peer n.parcel from to n.next n.order n.message) h
 
-  pub out_ends : (m : HostMessage) (moments : List Moment) → (a ≡ m.flow.source → IsNext (program m.flow.source moments) m) → AreCommands (pair_with b (program a moments).peers).queue → MayOut m moments → Ends P b (program a moments) → Ends P b (program a (Crossed (crossing.Out m) ∷ moments))
+  pub out_ends : (m : HostMessage) (moments : List Moment)
+      → (a ≡ m.flow.source → IsNext (program m.flow.source moments) m)
+      → AreCommands (pair_with b (program a moments).peers).queue → MayOut m moments → Ends P b (program a moments)
+      → Ends P b (program a (Crossed (crossing.Out m) ∷ moments))
   out_ends m moments n ok may h = if_ends (same_host a m.flow.source) (offered (program a moments) (places moments)).0 (program a moments) here h where
     here : same_host a m.flow.source ≡ true → Ends P b (offered (program a moments) (places moments)).0
     here e = by (same_host b m.flow.destination) refl where
@@ -274,21 +286,26 @@ module _ (P : Entry → Type 0) (N : Notice → Type 0) (a b : Host) (rules : Ru
       by false f =
           subst (λ (q : PairState). Each P q.entries) (sym (offer_leaves (program a moments) (places moments) own.peer own.parcel b own.next (ap (λ (y : HostMessage). same_host b y.flow.destination) (sym own.message) ∙ f))) h
 
-  pub in_ends : (m : HostMessage) (moments : List Moment) → MayIn m moments → Ends P b (program a moments) → Ends P b (program a (Crossed (crossing.In m) ∷ moments))
+  pub in_ends : (m : HostMessage) (moments : List Moment) → MayIn m moments → Ends P b (program a moments)
+      → Ends P b (program a (Crossed (crossing.In m) ∷ moments))
   in_ends m moments may h = if_ends (same_host a m.flow.destination) (accepted (program a moments) (inbound.Message m) (places moments)).0 (program a moments) here h where
-    here : same_host a m.flow.destination ≡ true → Ends P b (accepted (program a moments) (inbound.Message m) (places moments)).0
+    here : same_host a m.flow.destination ≡ true
+        → Ends P b (accepted (program a moments) (inbound.Message m) (places moments)).0
     here e = by (same_host b m.flow.source) refl where
-      by : (c : Bool) → same_host b m.flow.source ≡ c → Ends P b (accepted (program a moments) (inbound.Message m) (places moments)).0
+      by : (c : Bool) → same_host b m.flow.source ≡ c
+          → Ends P b (accepted (program a moments) (inbound.Message m) (places moments)).0
       by true f =
           let from : b ≡ m.flow.source = same_host-true b m.flow.source f in
           (message_keeps P N b rules (program a moments) m (places moments) (sym from) (may (same_host-true a m.flow.destination e) from) h).ends
       by false f = subst (λ (q : PairState). Each P q.entries) (sym (message_leaves (program a moments) m (places moments) b f)) h
 
-  answer_ends : (kind : Answer) (f : Flow) (moments : List Moment) → Ends P b (program a moments) → Ends P b (program a (Crossed (crossing.Answer kind f) ∷ moments))
+  answer_ends : (kind : Answer) (f : Flow) (moments : List Moment) → Ends P b (program a moments)
+      → Ends P b (program a (Crossed (crossing.Answer kind f) ∷ moments))
   answer_ends kind f moments h = if_ends (same_host a f.source) (accepted (program a moments) (inbound.Answer kind f) (places moments)).0 (program a moments) (λ e. here) h where
     here : Ends P b (accepted (program a moments) (inbound.Answer kind f) (places moments)).0
     here = by (same_host b f.destination) refl where
-      by : (c : Bool) → same_host b f.destination ≡ c → Ends P b (accepted (program a moments) (inbound.Answer kind f) (places moments)).0
+      by : (c : Bool) → same_host b f.destination ≡ c
+          → Ends P b (accepted (program a moments) (inbound.Answer kind f) (places moments)).0
       by true g = (answer_keeps P N b rules (program a moments) kind f (places moments) (sym (same_host-true b f.destination g)) h).ends
       by false g = subst (λ (q : PairState). Each P q.entries) (sym (answer_leaves (program a moments) kind f (places moments) b g)) h
 
@@ -298,7 +315,9 @@ module _ (P : Entry → Type 0) (N : Notice → Type 0) (a b : Host) (rules : Ru
   May (Crossed (crossing.In m)) moments = MayIn m moments
   May x moments = Unit {0}
 
-  pub step_ends : Begins P → (x : Moment) (moments : List Moment) → AreCommands (pair_with b (program a moments).peers).queue → May x moments → Ends P b (program a moments) → Ends P b (program a (x ∷ moments))
+  pub step_ends : Begins P → (x : Moment) (moments : List Moment)
+      → AreCommands (pair_with b (program a moments).peers).queue → May x moments → Ends P b (program a moments)
+      → Ends P b (program a (x ∷ moments))
   step_ends begins (Crossed (crossing.Out m)) moments ok may h = out_ends m moments may.1 ok may.0 h
   step_ends begins (Crossed (crossing.In m)) moments ok may h = in_ends m moments may h
   step_ends begins (Crossed (crossing.Answer kind f)) moments ok may h = answer_ends kind f moments h
@@ -315,7 +334,8 @@ pub flow_is : (f : Flow) (x y : Host) → x ≡ f.source → y ≡ f.destination
 flow_is f x y s d l =
     ap (λ (n : ℕ). flow_of f.source f.destination n) l ∙ ap (λ (h : Host). flow_of h f.destination 0) (sym s) ∙ ap (λ (h : Host). flow_of x h 0) (sym d)
 
-each_both : (P Q R : Entry → Type 0) (es : List Entry) → ((e : Entry) → P e → Q e → R e) → Each P es → Each Q es → Each R es
+each_both : (P Q R : Entry → Type 0) (es : List Entry) → ((e : Entry) → P e → Q e → R e) → Each P es → Each Q es
+    → Each R es
 each_both P Q R [] k h j = tt
 each_both P Q R (e ∷ es) k h j = (k e h.0 j.0, each_both P Q R es k h.1 j.1)
 
@@ -323,7 +343,9 @@ module _ (hosts : Network) (addresses : HaveAddresses hosts.all) where
   module _ (moments : List Moment) (run : mail.IsRun hosts.all (crossings_of moments)) (time : Happened hosts moments)
       (a b : Host) (ours : AreOurs hosts a b) (log : List Crossing) where
     -- commands that go out of a host's program hold the requests that waited
-    pub goes_of : (m : HostMessage) (g : Peer) (count : ℕ) → CrossedAt (places moments) (going m) log → b ≡ m.flow.destination → next_in (program a moments).peers ≡ Some (g, parcel.Commands count) → AreInOrder (program a moments).peers → m ≡ message_for (program a moments).own g (parcel.Commands count)
+    pub goes_of : (m : HostMessage) (g : Peer) (count : ℕ) → CrossedAt (places moments) (going m) log
+        → b ≡ m.flow.destination → next_in (program a moments).peers ≡ Some (g, parcel.Commands count)
+        → AreInOrder (program a moments).peers → m ≡ message_for (program a moments).own g (parcel.Commands count)
         → Goes (Going a b log (pair_with b (program a moments).peers).queue) (places moments) (take count (pair_with b (program a moments).peers).queue)
     goes_of m g count crossed to next order is =
         let there : g.host ≡ b = sym (to ∙ ap (λ (x : HostMessage). x.flow.destination) is) in
@@ -335,7 +357,8 @@ module _ (hosts : Network) (addresses : HaveAddresses hosts.all) where
         (flow_is m.flow a b (sym (ap (λ (x : HostMessage). x.flow.source) is ∙ program_own a moments)) to (ap (λ (x : HostMessage). x.flow.link.0) is)) crossed reads
 
     -- where the ends are so, they are so beside their requests that wait
-    pub going_now : Ends (Grounded a b log) b (program a moments) → Ends (Going a b log (pair_with b (program a moments).peers).queue) b (program a moments)
+    pub going_now : Ends (Grounded a b log) b (program a moments)
+        → Ends (Going a b log (pair_with b (program a moments).peers).queue) b (program a moments)
     going_now h =
         each_both (Grounded a b log) (λ (e : Entry). Contains (pair_with b (program a moments).peers).entries e) (Going a b log (pair_with b (program a moments).peers).queue) (pair_with b (program a moments).peers).entries
         (λ e g there. (g, λ mine l waits. queued_link hosts moments addresses run time a b ours l e waits there mine)) h (each_of (pair_with b (program a moments).peers).entries)
@@ -343,7 +366,9 @@ module _ (hosts : Network) (addresses : HaveAddresses hosts.all) where
     commands : AreCommands (pair_with b (program a moments).peers).queue
     commands = queued_commands hosts moments addresses run time a b ours
 
-    out_grounds : (m : HostMessage) → Follows hosts (Crossed (crossing.Out m)) moments → CrossedAt (places moments) (going m) log → Ends (Grounded a b log) b (program a moments) → Ends (Grounded a b log) b (program a (Crossed (crossing.Out m) ∷ moments))
+    out_grounds : (m : HostMessage) → Follows hosts (Crossed (crossing.Out m)) moments
+        → CrossedAt (places moments) (going m) log → Ends (Grounded a b log) b (program a moments)
+        → Ends (Grounded a b log) b (program a (Crossed (crossing.Out m) ∷ moments))
     out_grounds m n crossed h =
         each_weaker (Going a b log (pair_with b (program a moments).peers).queue) (Grounded a b log) _ (λ e g. g.0)
         (out_ends (Going a b log (pair_with b (program a moments).peers).queue) Nothing a b (quietly (Going a b log (pair_with b (program a moments).peers).queue) (Tells a b log) b (going_rules a b log (pair_with b (program a moments).peers).queue)) m moments (λ from. n (subst (λ (g : Host). hosts.strange g ≡ false) from ours.0)) commands may (going_now h)) where
@@ -353,7 +378,9 @@ module _ (hosts : Network) (addresses : HaveAddresses hosts.all) where
           may g (parcel.Commands count) from to next order is = goes_of m g count crossed to next order is
           may g (parcel.Bytes e size count) from to next order is = tt
 
-    in_grounds : (m : HostMessage) → CrossedAt (places moments) (coming m) log → Ends (Grounded a b log) b (program a moments) → Ends (Grounded a b log) b (program a (Crossed (crossing.In m) ∷ moments))
+    in_grounds : (m : HostMessage) → CrossedAt (places moments) (coming m) log
+        → Ends (Grounded a b log) b (program a moments)
+        → Ends (Grounded a b log) b (program a (Crossed (crossing.In m) ∷ moments))
     in_grounds m crossed h =
         in_ends (Grounded a b log) Nothing a b (quietly (Grounded a b log) (Tells a b log) b (grounded_rules a b log)) m moments
         (λ to from. ((λ zero. grounded_hears a b log m (places moments) (flow_is m.flow b a from to (eqb-true m.flow.link.0 0 zero)) crossed), (λ off e k f o t. tt))) h
@@ -364,7 +391,9 @@ module _ (hosts : Network) (addresses : HaveAddresses hosts.all) where
   grounds (Asked g r ∷ moments) run time a b ours =
       step_ends (Grounded a b (crossings_of moments)) (Tells a b (crossings_of moments)) a b (grounded_rules a b (crossings_of moments)) (grounded_begins a b (crossings_of moments)) (Asked g r) moments (queued_commands hosts moments addresses run time.1 a b ours) tt (grounds moments run time.1 a b ours)
   grounds (Crossed c ∷ moments) run time a b ours = by c run time (each_weaker (Grounded a b (crossings_of moments)) (Grounded a b (c ∷ crossings_of moments)) (pair_with b (program a moments).peers).entries (still_grounded a b c (crossings_of moments)) (grounds moments run.1 time.1 a b ours)) where
-    by : (c : Crossing) → mail.IsRun hosts.all (c ∷ crossings_of moments) → Happened hosts (Crossed c ∷ moments) → Ends (Grounded a b (c ∷ crossings_of moments)) b (program a moments) → Ends (Grounded a b (c ∷ crossings_of moments)) b (program a (Crossed c ∷ moments))
+    by : (c : Crossing) → mail.IsRun hosts.all (c ∷ crossings_of moments) → Happened hosts (Crossed c ∷ moments)
+        → Ends (Grounded a b (c ∷ crossings_of moments)) b (program a moments)
+        → Ends (Grounded a b (c ∷ crossings_of moments)) b (program a (Crossed c ∷ moments))
     by (crossing.Out m) run time h =
         out_grounds moments run.1 time.1 a b ours (crossing.Out m ∷ crossings_of moments) m ((coupled hosts addresses (Crossed (crossing.Out m) ∷ moments) run time).story.0) (inl (refl, places_same moments)) h
     by (crossing.In m) run time h = in_grounds moments run.1 time.1 a b ours (crossing.In m ∷ crossings_of moments) m (inl (refl, places_same moments)) h

@@ -21,10 +21,12 @@ use Rattle.world_keeps_lives.proofs.Turns.{GoodTurn, good_answer, good_message}
 pub record IsPut (s new : NcpState) (p : Host) (q : PairState) : Type 0 where
   pub pairs : (h : Host) → pair_with h new.peers ≡ cond (same_host h p) q (pair_with h s.peers)
 
-pub put_here : (s new : NcpState) (p : Host) (q : PairState) → IsPut s new p q → (h : Host) → same_host h p ≡ true → pair_with h new.peers ≡ q
+pub put_here : (s new : NcpState) (p : Host) (q : PairState) → IsPut s new p q → (h : Host) → same_host h p ≡ true
+    → pair_with h new.peers ≡ q
 put_here s new p q put h e = let r : pair_with h new.peers ≡ cond (same_host h p) q (pair_with h s.peers) = put.pairs h in rw e at r
 
-put_away : (s new : NcpState) (p : Host) (q : PairState) → IsPut s new p q → (h : Host) → same_host h p ≡ false → pair_with h new.peers ≡ pair_with h s.peers
+put_away : (s new : NcpState) (p : Host) (q : PairState) → IsPut s new p q → (h : Host) → same_host h p ≡ false
+    → pair_with h new.peers ≡ pair_with h s.peers
 put_away s new p q put h e = let r : pair_with h new.peers ≡ cond (same_host h p) q (pair_with h s.peers) = put.pairs h in rw e at r
 
 pub same_turned : (g h : Host) → same_host g h ≡ false → same_host h g ≡ false
@@ -34,7 +36,8 @@ same_turned g h off = by (same_host h g) refl where
   by false e = refl
 
 -- at every place
-put_all : (P : PairState → Type 0) (s new : NcpState) (p : Host) (q : PairState) → IsPut s new p q → P q → ((h : Host) → P (pair_with h s.peers)) → (h : Host) → P (pair_with h new.peers)
+put_all : (P : PairState → Type 0) (s new : NcpState) (p : Host) (q : PairState) → IsPut s new p q → P q
+    → ((h : Host) → P (pair_with h s.peers)) → (h : Host) → P (pair_with h new.peers)
 put_all P s new p q put now old h = by (same_host h p) refl where
   by : (b : Bool) → same_host h p ≡ b → P (pair_with h new.peers)
   by true e = subst P (sym (put_here s new p q put h e)) now
@@ -57,7 +60,9 @@ module _ (a : Host) (k : ℕ) where
 
   module _ (s new : NcpState) (p : Host) (q : PairState) (κ next : Kept) (put : IsPut s new p q) where
     -- the end is this pair's, or none
-    pub near : ((h : Host) → same_host h p ≡ false → mine_on k (pair_with h s.peers).entries ≡ []) → (ms : List Entry) (l : Bool) → mine_on k q.entries ≡ ms → listens_on k new.listening ≡ l → At a k Near p ms l next → IsFreeSocket a k new next ⊎ IsOwned a k new next
+    pub near : ((h : Host) → same_host h p ≡ false → mine_on k (pair_with h s.peers).entries ≡ [])
+        → (ms : List Entry) (l : Bool) → mine_on k q.entries ≡ ms → listens_on k new.listening ≡ l
+        → At a k Near p ms l next → IsFreeSocket a k new next ⊎ IsOwned a k new next
     near others [] l e f h = inl (record { none = put_none; lives = h }) where
       put_none : (g : Host) → mine_on k (pair_with g new.peers).entries ≡ []
       put_none g = by (same_host g p) refl where
@@ -77,7 +82,9 @@ module _ (a : Host) (k : ℕ) where
     near others (x ∷ y ∷ ms) l e f h = absurd h
 
     -- it is another pair's
-    far : (o : IsOwned a k s κ) → same_host o.peer p ≡ false → (ms : List Entry) (l : Bool) → mine_on k q.entries ≡ ms → listens_on k new.listening ≡ l → At a k (Elsewhere o.peer o.end) p ms l next → IsFreeSocket a k new next ⊎ IsOwned a k new next
+    far : (o : IsOwned a k s κ) → same_host o.peer p ≡ false → (ms : List Entry) (l : Bool) → mine_on k q.entries ≡ ms
+        → listens_on k new.listening ≡ l → At a k (Elsewhere o.peer o.end) p ms l next
+        → IsFreeSocket a k new next ⊎ IsOwned a k new next
     far o off [] false e f h = inr (record {
       peer = o.peer;
       end = o.end;
@@ -101,10 +108,13 @@ module _ (a : Host) (k : ℕ) where
       idle = put_all (λ (x : PairState). is_ready x.phase ≡ false → x.entries ≡ []) s new p q put d.idle t.idle;
     }
 
-    pub old : (m : Place) → IsSteady s → At a k m p (mine_on k (pair_with p s.peers).entries) (listens_on k s.listening) κ → Done m p (pair_with p s.peers) (listens_on k s.listening) κ
+    pub old : (m : Place) → IsSteady s
+        → At a k m p (mine_on k (pair_with p s.peers).entries) (listens_on k s.listening) κ
+        → Done m p (pair_with p s.peers) (listens_on k s.listening) κ
     old m t h = record { refusing = t.refusing p; idle = t.idle p; on = h }
 
-    owned_here : (o : IsOwned a k s κ) → p ≡ o.peer → At a k Near p (mine_on k (pair_with p s.peers).entries) (listens_on k s.listening) κ
+    owned_here : (o : IsOwned a k s κ) → p ≡ o.peer
+        → At a k Near p (mine_on k (pair_with p s.peers).entries) (listens_on k s.listening) κ
     owned_here o e =
         let one : mine_on k (pair_with p s.peers).entries ≡ o.end ∷ [] = subst (λ (g : Host). mine_on k (pair_with g s.peers).entries ≡ o.end ∷ []) (sym e) o.one in
         subst (λ (ms : List Entry). At a k Near p ms (listens_on k s.listening) κ) (sym one)
@@ -135,38 +145,47 @@ module _ (a : Host) (k : ℕ) where
 
   -- ---- what comes in
 
-  turn_holds : (s : NcpState) (p : Host) (t : TurnState) (κ : Kept) → ((m : Place) → GoodTurn a k m p κ (turn_of s p) → GoodTurn a k m p κ t) → Holds s κ → Holds (with_turn s p t) (all_told a t.notices κ)
+  turn_holds : (s : NcpState) (p : Host) (t : TurnState) (κ : Kept)
+      → ((m : Place) → GoodTurn a k m p κ (turn_of s p) → GoodTurn a k m p κ t) → Holds s κ
+      → Holds (with_turn s p t) (all_told a t.notices κ)
   turn_holds s p t κ does h =
       lift s (with_turn s p t) p t.pair κ (all_told a t.notices κ) (record { pairs = λ h. pair_changed p h t.pair s.peers })
       (λ m d. let g : GoodTurn a k m p κ t = does m (record { refusing = d.refusing; idle = d.idle; on = d.on }) in record { refusing = g.refusing; idle = g.idle; on = g.on }) h
 
-  pub message_holds : (s : NcpState) (m : HostMessage) (stamp : ℕ) (κ : Kept) → Holds s κ → Holds (accepted s (inbound.Message m) stamp).0 (all_told a (accepted s (inbound.Message m) stamp).1 κ)
+  pub message_holds : (s : NcpState) (m : HostMessage) (stamp : ℕ) (κ : Kept) → Holds s κ
+      → Holds (accepted s (inbound.Message m) stamp).0 (all_told a (accepted s (inbound.Message m) stamp).1 κ)
   unfolding accepted
   message_holds s m stamp κ h = by (same_host s.own m.flow.destination) where
     t : TurnState
     t = message_taken m.flow.source stamp m.flow.link.0 m.text (turn_of s m.flow.source)
 
-    by : (b : Bool) → Holds (if b then after_turn s m.flow.source (message_taken m.flow.source stamp m.flow.link.0 m.text (turn_of s m.flow.source)) else (s, [])).0 (all_told a (if b then after_turn s m.flow.source (message_taken m.flow.source stamp m.flow.link.0 m.text (turn_of s m.flow.source)) else (s, [])).1 κ)
+    by : (b : Bool)
+        → Holds (if b then after_turn s m.flow.source (message_taken m.flow.source stamp m.flow.link.0 m.text (turn_of s m.flow.source)) else (s, [])).0 (all_told a (if b then after_turn s m.flow.source (message_taken m.flow.source stamp m.flow.link.0 m.text (turn_of s m.flow.source)) else (s, [])).1 κ)
     by true = turn_holds s m.flow.source (message_taken m.flow.source stamp m.flow.link.0 m.text (turn_of s m.flow.source)) κ (λ n g. good_message a k n m.flow.source κ stamp m.flow.link.0 m.text (turn_of s m.flow.source) g) h
     by false = h
 
-  pub answer_holds : (s : NcpState) (kind : Answer) (f : Flow) (stamp : ℕ) (κ : Kept) → Holds s κ → Holds (accepted s (inbound.Answer kind f) stamp).0 (all_told a (accepted s (inbound.Answer kind f) stamp).1 κ)
+  pub answer_holds : (s : NcpState) (kind : Answer) (f : Flow) (stamp : ℕ) (κ : Kept) → Holds s κ
+      → Holds (accepted s (inbound.Answer kind f) stamp).0 (all_told a (accepted s (inbound.Answer kind f) stamp).1 κ)
   unfolding accepted
   answer_holds s kind f stamp κ h = by (same_host s.own f.source) where
-    by : (b : Bool) → Holds (if b then (if is_busy (pair_with f.destination s.peers).busy f.link.0 then after_turn s f.destination (answered_turn f.destination kind f.link.0 (turn_of s f.destination)) else (s, [])) else (s, [])).0 (all_told a (if b then (if is_busy (pair_with f.destination s.peers).busy f.link.0 then after_turn s f.destination (answered_turn f.destination kind f.link.0 (turn_of s f.destination)) else (s, [])) else (s, [])).1 κ)
+    by : (b : Bool)
+        → Holds (if b then (if is_busy (pair_with f.destination s.peers).busy f.link.0 then after_turn s f.destination (answered_turn f.destination kind f.link.0 (turn_of s f.destination)) else (s, [])) else (s, [])).0 (all_told a (if b then (if is_busy (pair_with f.destination s.peers).busy f.link.0 then after_turn s f.destination (answered_turn f.destination kind f.link.0 (turn_of s f.destination)) else (s, [])) else (s, [])).1 κ)
     by true = busy_by (is_busy (pair_with f.destination s.peers).busy f.link.0) where
-      busy_by : (b : Bool) → Holds (if b then after_turn s f.destination (answered_turn f.destination kind f.link.0 (turn_of s f.destination)) else (s, [])).0 (all_told a (if b then after_turn s f.destination (answered_turn f.destination kind f.link.0 (turn_of s f.destination)) else (s, [])).1 κ)
+      busy_by : (b : Bool)
+          → Holds (if b then after_turn s f.destination (answered_turn f.destination kind f.link.0 (turn_of s f.destination)) else (s, [])).0 (all_told a (if b then after_turn s f.destination (answered_turn f.destination kind f.link.0 (turn_of s f.destination)) else (s, [])).1 κ)
       busy_by true = turn_holds s f.destination (answered_turn f.destination kind f.link.0 (turn_of s f.destination)) κ (λ n g. good_answer a k n f.destination κ kind f.link.0 (turn_of s f.destination) g) h
       busy_by false = h
     by false = h
 
 -- ---- what goes out
 
-gone_listening : (p : Host) (stamp : ℕ) (c : Command) (d : DeskState) → (command_gone p stamp c d).listening ≡ d.listening
+gone_listening : (p : Host) (stamp : ℕ) (c : Command) (d : DeskState)
+    → (command_gone p stamp c d).listening ≡ d.listening
 gone_listening p stamp command.Nop d = refl
 gone_listening p stamp c d = refl
 
-all_listening : (p : Host) (stamp : ℕ) (cs : List Command) (d : DeskState) → (commands_gone p stamp cs d).listening ≡ d.listening
+all_listening : (p : Host) (stamp : ℕ) (cs : List Command) (d : DeskState)
+    → (commands_gone p stamp cs d).listening ≡ d.listening
 all_listening p stamp [] d = refl
 all_listening p stamp (c ∷ cs) d = all_listening p stamp cs (command_gone p stamp c d) ∙ gone_listening p stamp c d
 
@@ -174,7 +193,8 @@ all_listening p stamp (c ∷ cs) d = all_listening p stamp cs (command_gone p st
 abbrev pub HasEnds : (ℕ → ℕ) → PairState → Type 0
 HasEnds origin q = (own foreign : ℕ) → IsOfTwo own foreign → (x : End) × HasEnd origin own foreign q x
 
-pub waits : (origin : ℕ → ℕ) (q : PairState) (n : ℕ) → HasEnds origin q → Waits origin q.entries (take n q.queue) (drop n q.queue)
+pub waits : (origin : ℕ → ℕ) (q : PairState) (n : ℕ) → HasEnds origin q
+    → Waits origin q.entries (take n q.queue) (drop n q.queue)
 waits origin q n has own foreign two =
     let h : (x : End) × HasEnd origin own foreign q x = has own foreign two in (
       h.0,
@@ -186,7 +206,8 @@ module _ (a : Host) (k : ℕ) (s : NcpState) (stamp : ℕ) (κ : Kept) (g : Peer
   abbrev Goes : Parcel → Place → Type 0
   Goes x m = Done a k m g.host (pair_after x g.pair (parcel_gone g.host stamp g.pair.busy x (desk_of g.pair s.listening))) (listens_on k s.listening) (all_told a (parcel_gone g.host stamp g.pair.busy x (desk_of g.pair s.listening)).notices κ)
 
-  goes : (origin : ℕ → ℕ) (x : Parcel) (m : Place) → MayGo g.pair x → next_of g.pair ≡ Some x → AreCommands g.pair.queue → HasEnds origin g.pair → Done a k m g.host g.pair (listens_on k s.listening) κ → Goes x m
+  goes : (origin : ℕ → ℕ) (x : Parcel) (m : Place) → MayGo g.pair x → next_of g.pair ≡ Some x → AreCommands g.pair.queue
+      → HasEnds origin g.pair → Done a k m g.host g.pair (listens_on k s.listening) κ → Goes x m
   goes origin parcel.Reset m may next is has d = record { refusing = d.refusing; idle = λ i. d.idle (ap is_ready may.wanted); on = d.on }
   goes origin parcel.Reply m may next is has d = record { refusing = d.refusing; idle = d.idle; on = d.on }
   goes origin (parcel.Commands count) m may next is has d =
@@ -203,11 +224,14 @@ module _ (a : Host) (k : ℕ) (s : NcpState) (stamp : ℕ) (κ : Kept) (g : Peer
       good_bytes a k m g.host κ g.pair.busy (link_of e.link) (size * count) e (desk_of g.pair s.listening) (senders.next_is g.pair e size count next) may.1.is_opened may.1.sends (record { refusing = d.refusing; on = d.on }) in
       record { refusing = done.refusing; idle = λ i. clash _ (is_ready g.pair.phase) (ap is_ready may.0.ready) i; on = done.on }
 
-pub offer_holds : (a : Host) (k : ℕ) (s : NcpState) (stamp : ℕ) (κ : Kept) → AreInOrder s.peers → ((p : Host) → AreCommands (pair_with p s.peers).queue) → ((p : Host) → (origin : ℕ → ℕ) × HasEnds origin (pair_with p s.peers))
+pub offer_holds : (a : Host) (k : ℕ) (s : NcpState) (stamp : ℕ) (κ : Kept) → AreInOrder s.peers
+    → ((p : Host) → AreCommands (pair_with p s.peers).queue)
+    → ((p : Host) → (origin : ℕ → ℕ) × HasEnds origin (pair_with p s.peers))
     → Holds a k s κ → Holds a k (offered s stamp).0 (all_told a (offered s stamp).1 κ)
 unfolding offered
 offer_holds a k s stamp κ order ranged has h = by (next_in s.peers) refl where
-  by : (o : Option (Peer × Parcel)) → next_in s.peers ≡ o → Holds a k (offered_by s stamp o).0 (all_told a (offered_by s stamp o).1 κ)
+  by : (o : Option (Peer × Parcel)) → next_in s.peers ≡ o
+      → Holds a k (offered_by s stamp o).0 (all_told a (offered_by s stamp o).1 κ)
   by None f = h
   by (Some (g, x)) f =
       let pair : pair_with g.host s.peers ≡ g.pair = next_pair s.peers g x order f in

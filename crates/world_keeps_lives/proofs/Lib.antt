@@ -13,19 +13,17 @@ pub mod Asks
 pub mod Moments
 pub mod AnyPeer
 pub mod Sockets
-pub mod AllOurs
 pub mod Laws
 pub mod Walk
 pub mod Grounds
 pub mod DataTold
-pub mod Linked
 pub mod Begun
 pub mod Named
 pub mod OneRequest
 pub mod Pairs
 pub mod Drained
 pub mod Notices
-pub mod Texts
+pub mod Among
 pub mod Stamps
 pub mod Unopened
 pub mod Calms
@@ -34,4 +32,5 @@ pub mod Formed
 pub mod FormedRows
 pub mod NoticesRows
 pub mod Rows
+pub mod AllOurs
 pub mod lemmas

@@ -1,32 +1,15 @@
 -- One socket of a host, over all moments of a world.
-use Rattle.world_keeps_lives.proofs.Common.{◌≡◌, inl, inr, ℕ, ◌==◌, Bool, true, false, if◌then◌else◌, List, [], ◌∷◌, None, refl, sym, subst, Host, same_host, Crossing, same_host-refl, same_host-true, Notice, both, accepted, NcpState, opening_state, pair_with, served, offered, Request, Life, Kept, all_told, asked, crossed, lives_at, lives_on, opening_kept, HaveAddresses, Asked, Crossed, Moment, places, program, IsTimeline, crossings_of, kept_in, Coupled, coupled, programs_ranged, served_in, EachIn, IsLifeOf, NoneOf, at_socket, served_notices}
-use Rattle.reset_law.specs.Network.{all_ours}
+use Rattle.world_keeps_lives.proofs.Common.{◌≡◌, inl, inr, ℕ, ◌==◌, Bool, true, false, if◌then◌else◌, List, refl, sym, subst, Host, same_host, Crossing, same_host-refl, same_host-true, Notice, both, NcpState, opening_state, Request, Life, Kept, all_told, asked, crossed, lives_at, lives_on, EachIn, IsLifeOf, NoneOf, at_socket}
 use Rattle.interface.specs.Mailboxes as mail
 use Rattle.interface.specs.declared.crossing.Crossing.TheVariants as crossing
-use Rattle.interface.specs.declared.crossing.Inbound.TheVariants as inbound
-use Rattle.host_keeps_ranges.proofs.lemmas.{pair_range}
-use Rattle.sockets.specs.Requests.{refusal}
 use Rattle.sockets.specs.declared.request.Request.TheVariants as request
 use Rattle.net_sim.specs.Book.{granted}
-use Rattle.world_keeps_pairing.specs.Free.{origin_in}
-use Rattle.world_keeps_pairing.proofs.lemmas.{AllTied, all_tied, are_origins}
-use Rattle.world_keeps_lives.proofs.Books.{all_away, away_at, each_apart, each_ended, each_ending, each_handed}
+use Rattle.world_keeps_lives.proofs.Books.{all_away, away_at, each_apart, each_ended, each_handed}
 use Rattle.world_keeps_lives.proofs.Desks.{clash}
-use Rattle.world_keeps_lives.proofs.Hosts.{HasEnds, Holds, answer_holds, message_holds, offer_holds}
-use Rattle.world_keeps_lives.proofs.Asks.{holds_same, request_holds}
+use Rattle.world_keeps_lives.proofs.Hosts.{Holds}
+use Rattle.world_keeps_lives.proofs.Asks.{holds_same}
 
 -- ---- what is known of all moments
-
-pub has_ends : (hosts : List Host) (moments : List Moment) → HaveAddresses hosts → mail.IsRun hosts (crossings_of moments) → IsTimeline hosts moments → (a p : Host) → HasEnds (origin_in (crossings_of moments) a p) (pair_with p (program a moments).peers)
-has_ends hosts moments addresses run time a p own foreign two = elim two [
-  | inl r ↦ (_, ((tied hosts moments addresses run time).tied a p (refl, refl)).receiver (record { receive = own; send = foreign }) (r.0, r.1))
-  | inr s ↦ (_, ((tied hosts moments addresses run time).tied p a (refl, refl)).sender (record { receive = foreign; send = own }) (s.1, s.0))
-] where
-  tied : (hosts : List Host) (moments : List Moment) → HaveAddresses hosts → mail.IsRun hosts (crossings_of moments)
-      → IsTimeline hosts moments → AllTied (all_ours hosts) (origin_in (crossings_of moments)) moments
-  tied hosts moments addresses run time =
-      let c : Coupled (all_ours hosts) moments = coupled hosts addresses moments run time in
-      all_tied (all_ours hosts) (origin_in (crossings_of moments)) moments (are_origins 0 (crossings_of moments) [] moments refl) c.story c.run (served_in hosts moments time)
 
 -- a host that isn't up has a program that does nothing
 pub idle_if : (a h : Host) (up : Bool) (s new : NcpState) → up ≡ false → (same_host a h ≡ true → up ≡ true) → s ≡ opening_state a → (if same_host a h then new else s) ≡ opening_state a

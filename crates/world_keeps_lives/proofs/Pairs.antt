@@ -1,10 +1,12 @@
 -- A life and what was handed over in it, at one place of their two lists, from one moment to the next.
-use Rattle.world_keeps_lives.proofs.Common.{◌≡◌, ◌⊎◌, inl, inr, ℕ, suc, ◌+◌, ◌<◌, ◌==◌, ◌&&◌, Bool, true, false, not, if◌then◌else◌, List, [], ◌∷◌, ◌++◌, length, refl, ap, sym, ◌∙◌, arith, append_assoc, length-append, Contains, Host, same_host, Crossing, Notice, both, not_is, Request, Kept, all_told, book_told, carried, changed_when, handed_to, handed_told, life_ended, lives_asked, lives_at, lives_between, lives_crossed, lives_on, lives_told, lives_with, where_it, AreHanded, AreTwo, IsPrefix, own_request, sends, Asked, Crossed, Moment, host_in, kept_by, kept_in, notices_by, Life}
+use Rattle.world_keeps_lives.proofs.Common.{◌≡◌, ◌⊎◌, inl, inr, ℕ, suc, ◌+◌, ◌<◌, ◌==◌, ◌&&◌, Bool, true, false, not, if◌then◌else◌, List, [], ◌∷◌, ◌++◌, length, refl, ap, sym, ◌∙◌, arith, append_assoc, length-append, Contains, Host, same_host, Crossing, Notice, both, not_is, Request, Kept, all_told, book_told, carried, changed_when, handed_to, handed_told, life_ended, lives_asked, lives_at, lives_between, lives_crossed, lives_on, lives_told, lives_with, where_it, AreHanded, AreTwo, IsPrefix, own_request, sends, Asked, Crossed, Moment, host_in, kept_by, notices_by, Life}
 use Rattle.std.proofs.Common.{append-nil}
 use Rattle.interface.specs.declared.crossing.Crossing.TheVariants as crossing
 use Rattle.host_pairs.specs.declared.notice.Notice.TheVariants as notice
 use Rattle.sockets.specs.declared.request.Request.TheVariants as request
+use Rattle.net_sim.specs.Among.{beside_among, is_among, lives_among}
 use Rattle.net_sim.specs.Book.{granted, handed_asked, returned}
+use Rattle.net_sim.specs.Mixed.{crossed_only, mixed_kept}
 
 -- ---- prefixes
 
@@ -272,12 +274,58 @@ kept_later : (y : Moment) (k : Kept) (x : Life) (t : List Bool) → IsUnsent y x
 kept_later (Crossed c) k x t off i = crossed_later c x t k.book.lives k.handed i
 kept_later (Asked h r) k x t off i = asked_later h r x t k.book.lives k.handed off i
 
-pub moment_later : (y : Moment) (ms : List Moment) (x : Life) (t : List Bool) → IsUnsent y x
-    → IsPair x t (kept_in ms).book.lives (kept_in ms).handed
-    → Later x t (kept_in (y ∷ ms)).book.lives (kept_in (y ∷ ms)).handed
-moment_later y ms x t off i =
-    let one : Later x t (kept_by y (kept_in ms)).book.lives (kept_by y (kept_in ms)).handed =
-    kept_later y (kept_in ms) x t off i in
-    let more : Later one.life t (kept_in (y ∷ ms)).book.lives (kept_in (y ∷ ms)).handed =
-    all_later (host_in y) (notices_by y ms) (kept_by y (kept_in ms)) one.life t one.there in
+only_later : (y : Moment) (k : Kept) (x : Life) (t : List Bool) → IsPair x t k.book.lives k.handed
+    → Later x t (crossed_only y k).book.lives (crossed_only y k).handed
+only_later (Crossed c) k x t i = crossed_later c x t k.book.lives k.handed i
+only_later (Asked h r) k x t i = as_is x t k.book.lives k.handed i
+
+own_later : (y : Moment) (ms : List Moment) (k : Kept) (x : Life) (t : List Bool) → IsUnsent y x
+    → IsPair x t k.book.lives k.handed
+    → Later x t (all_told (host_in y) (notices_by y ms) (kept_by y k)).book.lives (all_told (host_in y) (notices_by y ms) (kept_by y k)).handed
+own_later y ms k x t off i =
+    let one : Later x t (kept_by y k).book.lives (kept_by y k).handed = kept_later y k x t off i in
+    let more : Later one.life t (all_told (host_in y) (notices_by y ms) (kept_by y k)).book.lives (all_told (host_in y) (notices_by y ms) (kept_by y k)).handed =
+    all_later (host_in y) (notices_by y ms) (kept_by y k) one.life t one.there in
     record { life = more.life; there = more.there; next = next_then x one.life more.life one.next more.next }
+
+pub moment_later : (strange : Host → Bool) (y : Moment) (ms : List Moment) (x : Life) (t : List Bool)
+    → (strange (host_in y) ≡ false → IsUnsent y x)
+    → IsPair x t (mixed_kept strange ms).book.lives (mixed_kept strange ms).handed
+    → Later x t (mixed_kept strange (y ∷ ms)).book.lives (mixed_kept strange (y ∷ ms)).handed
+moment_later strange y ms x t off i = by (strange (host_in y)) refl where
+  k : Kept
+  k = mixed_kept strange ms
+
+  after : Bool → Kept
+  after v = if v then crossed_only y (mixed_kept strange ms) else all_told (host_in y) (notices_by y ms) (kept_by y (mixed_kept strange ms))
+
+  by : (v : Bool) → strange (host_in y) ≡ v → Later x t (after v).book.lives (after v).handed
+  by true on = only_later y k x t i
+  by false plain = own_later y ms k x t (off plain) i
+
+-- ---- lives between hosts with programs, and what was handed over in them
+
+module _ (strange : Host → Bool) where
+  pub pair_among : (x : Life) (t : List Bool) (lives : List Life) (handed : List (List Bool))
+      → is_among strange x ≡ true
+      → IsPair x t lives handed → IsPair x t (lives_among strange lives) (beside_among strange lives handed)
+  pair_among x t [] handed is i = absurd i
+  pair_among x t (y ∷ lives) [] is i = absurd i
+  pair_among x t (y ∷ lives) (u ∷ handed) is i = by (is_among strange y) refl i (pair_among x t lives handed is) where
+    by : (b : Bool) → is_among strange y ≡ b → IsPair x t (y ∷ lives) (u ∷ handed)
+        → (IsPair x t lives handed → IsPair x t (lives_among strange lives) (beside_among strange lives handed))
+        → IsPair x t (if b then y ∷ lives_among strange lives else lives_among strange lives) (if b then u ∷ beside_among strange lives handed else beside_among strange lives handed)
+    by true e (inl here) rest = inl here
+    by true e (inr later) rest = inr (rest later)
+    by false e (inl here) rest = absurd (let no : true ≡ false = sym is ∙ ap (is_among strange) here.0 ∙ e in cc)
+    by false e (inr later) rest = rest later
+
+  pub handed_among : (lives : List Life) (handed : List (List Bool)) → AreHanded lives handed
+      → AreHanded (lives_among strange lives) (beside_among strange lives handed)
+  handed_among [] handed h = h
+  handed_among (y ∷ lives) [] h = absurd h
+  handed_among (y ∷ lives) (u ∷ handed) h = by (is_among strange y) (handed_among lives handed h.1) where
+    by : (b : Bool) → AreHanded (lives_among strange lives) (beside_among strange lives handed)
+        → AreHanded (if b then y ∷ lives_among strange lives else lives_among strange lives) (if b then u ∷ beside_among strange lives handed else beside_among strange lives handed)
+    by true rest = (h.0, rest)
+    by false rest = rest

@@ -117,7 +117,7 @@ module _ (hosts : Network) (addresses : HaveAddresses hosts.all) (a : Host) (pla
       subst (λ (x : Host). Happens hosts.all (Asked x r) moments) (sym (same_host-true a h e))
       (time.0 (subst (λ (x : Host). hosts.strange x ≡ false) (same_host-true a h e) plain))
 
-  ordered : (moments : List Moment) → mail.IsRun hosts.all (crossings_of moments) → Happened hosts moments
+  pub ordered : (moments : List Moment) → mail.IsRun hosts.all (crossings_of moments) → Happened hosts moments
       → AreInOrder (program a moments).peers
   ordered moments run time = (coupled hosts addresses moments run time).order a plain
 
@@ -179,7 +179,7 @@ module _ (hosts : Network) (addresses : HaveAddresses hosts.all) (a : Host) (pla
     has_ends s h p = ((λ n. n), λ own foreign two. ((h.ends own foreign p).x, (h.ends own foreign p).has))
 
     -- a moment of a host with a program
-    own_moment : (x : Moment) (moments : List Moment) (κ : Kept) → mail.IsRun hosts.all (crossings_of (x ∷ moments))
+    pub own_moment : (x : Moment) (moments : List Moment) (κ : Kept) → mail.IsRun hosts.all (crossings_of (x ∷ moments))
         → Happened hosts (x ∷ moments)
         → AreInOrder (program a moments).peers → IsFit (program a moments)
         → (mail.is_up hosts.all a (crossings_of moments) ≡ false → program a moments ≡ opening_state a)

@@ -1,7 +1,10 @@
 -- Where a user is notified of an opening, one of its two requests has just crossed, unless a life of its own request is there.
-use Rattle.world_keeps_lives.proofs.Common.{◌≡◌, ◌⊎◌, inl, inr, ℕ, Bool, true, false, List, Some, is_some, refl, ap, sym, subst, ◌∙◌, Contains, Host, HostMessage, Command, Order, has_cls, is_open, Parcel, Entry, Notice, pair_with, HaveAddresses, Asked, Crossed, IsNext, Moment, places, program, IsTimeline, crossings_of, notices_by, Life, queued_commands}
+use Rattle.world_keeps_lives.proofs.Common.{◌≡◌, ◌⊎◌, inl, inr, ℕ, Bool, true, false, List, Some, is_some, refl, ap, sym, subst, ◌∙◌, Contains, Host, HostMessage, Command, Order, has_cls, is_open, Parcel, Entry, Notice, pair_with, HaveAddresses, Asked, Crossed, IsNext, Moment, places, program, crossings_of, host_in, notices_by, Life}
 use Rattle.std.proofs.lemmas.Option.{same_Some}
 use Rattle.interface.specs.Mailboxes as mail
+use Rattle.reset_law.specs.Network.{AreOurs, Network}
+use Rattle.net_sim.specs.Mixed.{Happened}
+use Rattle.world_keeps_pairing.proofs.lemmas.{queued_commands}
 use Rattle.interface.specs.declared.crossing.Crossing.TheVariants as crossing
 use Rattle.host_pairs.specs.Parcels as parcel
 use Rattle.host_pairs.specs.declared.notice.Notice.TheVariants as notice
@@ -73,23 +76,35 @@ module _ (lives : List Life) (here : ℕ) where
 
 -- ---- one moment
 
-module _ (hosts : List Host) (addresses : HaveAddresses hosts) (moments : List Moment) (run : mail.IsRun hosts (crossings_of moments)) (time : IsTimeline hosts moments) (lives : List Life)
-    (old : (a b : Host) → Each (Due lives (places moments)) (pair_with b (program a moments).peers).entries) where
-  pub stamped : (y : Moment) → ((m : HostMessage) → y ≡ Crossed (crossing.Out m) → IsNext (program m.flow.source moments) m) → Each (Stamped lives (places moments)) (notices_by y moments)
-  stamped (Crossed (crossing.Out m)) story =
+-- the host with which a moment's host has to do
+abbrev pub other_in : Moment → Host
+other_in (Crossed (crossing.Out m)) = m.flow.destination
+other_in (Crossed (crossing.In m)) = m.flow.source
+other_in (Crossed (crossing.Answer kind f)) = f.destination
+other_in (Crossed (crossing.Down h)) = h
+other_in (Crossed (crossing.Up h)) = h
+other_in (Asked h r) = h
+
+module _ (hosts : Network) (addresses : HaveAddresses hosts.all) (moments : List Moment) (run : mail.IsRun hosts.all (crossings_of moments)) (time : Happened hosts moments) (lives : List Life)
+    (old : (a b : Host) → AreOurs hosts a b → Each (Due lives (places moments)) (pair_with b (program a moments).peers).entries) where
+  pub stamped : (y : Moment) → AreOurs hosts (host_in y) (other_in y)
+      → ((m : HostMessage) → y ≡ Crossed (crossing.Out m) → IsNext (program m.flow.source moments) m)
+      → Each (Stamped lives (places moments)) (notices_by y moments)
+  stamped (Crossed (crossing.Out m)) ours story =
       (offer_keeps (Due lives (places moments)) (Stamped lives (places moments)) m.flow.destination (rules lives (places moments) m.flow.destination) (program m.flow.source moments) (places moments) n.peer n.parcel n.order n.next
-      (sym (ap (λ (x : HostMessage). x.flow.destination) n.message)) (queued_commands hosts moments addresses run time m.flow.source m.flow.destination) (may n.parcel) (old m.flow.source m.flow.destination)).told where
+      (sym (ap (λ (x : HostMessage). x.flow.destination) n.message)) (queued_commands hosts moments addresses run time m.flow.source m.flow.destination ours) (may n.parcel) (old m.flow.source m.flow.destination ours)).told where
         n : IsNext (program m.flow.source moments) m
         n = story m refl
 
-        may : (z : Parcel) → MayTell (Due lives (places moments)) (Stamped lives (places moments)) m.flow.destination (rules lives (places moments) m.flow.destination) (places moments) z (pair_with m.flow.destination (program m.flow.source moments).peers)
+        may : (z : Parcel)
+            → MayTell (Due lives (places moments)) (Stamped lives (places moments)) m.flow.destination (rules lives (places moments) m.flow.destination) (places moments) z (pair_with m.flow.destination (program m.flow.source moments).peers)
         may (parcel.Commands count) = goes lives (places moments) _
         may z = tt
-  stamped (Crossed (crossing.In m)) story =
+  stamped (Crossed (crossing.In m)) ours story =
       (message_keeps (Due lives (places moments)) (Stamped lives (places moments)) m.flow.source (rules lives (places moments) m.flow.source) (program m.flow.destination moments) m (places moments) refl
-      ((λ zero. hears lives (places moments) _), (λ off e k f o t. tt)) (old m.flow.destination m.flow.source)).told
-  stamped (Crossed (crossing.Answer kind f)) story =
-      (answer_keeps (Due lives (places moments)) (Stamped lives (places moments)) f.destination (rules lives (places moments) f.destination) (program f.source moments) kind f (places moments) refl (old f.source f.destination)).told
-  stamped (Crossed (crossing.Down g)) story = tt
-  stamped (Crossed (crossing.Up g)) story = tt
-  stamped (Asked h r) story = request_told (Due lives (places moments)) (Stamped lives (places moments)) h (rules lives (places moments) h) (program h moments) r
+      ((λ zero. hears lives (places moments) _), (λ off e k f o t. tt)) (old m.flow.destination m.flow.source ours)).told
+  stamped (Crossed (crossing.Answer kind f)) ours story =
+      (answer_keeps (Due lives (places moments)) (Stamped lives (places moments)) f.destination (rules lives (places moments) f.destination) (program f.source moments) kind f (places moments) refl (old f.source f.destination ours)).told
+  stamped (Crossed (crossing.Down g)) ours story = tt
+  stamped (Crossed (crossing.Up g)) ours story = tt
+  stamped (Asked h r) ours story = request_told (Due lives (places moments)) (Stamped lives (places moments)) h (rules lives (places moments) h) (program h moments) r

@@ -1,5 +1,5 @@
 -- What a command or data of the peer does, at one socket of the host.
-use Rattle.world_keeps_lives.proofs.Common.{◌≡◌, ℕ, ◌-◌, ◌≤◌, ◌<◌, ◌==◌, ◌&&◌, Bool, true, false, not, nat_lt, if◌then◌else◌, List, [], ◌∷◌, find, length, Option, Some, None, is_some, refl, ap, sym, subst, ◌∙◌, arith, eqb-true, ltb-true, length-append, list_any, Host, same_host, spelling, data_bits, header_of, is_receive_socket, is_send_socket, Allocation, Command, DataHeader, answered_on, asked_on_link, asked_with_size, at_end, changed, cls_taken_by, gvb_taken, interrupted, matched_once, ret_taken, rts_heard, rts_taken, rts_taken_by, str_heard, str_linked, str_taken_by, desk_taken, ERRONEOUS, NOT_CONNECTED, NO_SOCKET, error, arrived, arrived_if, data_found, data_of, data_taken, is_acceptable, spent, text_faulted, DeskState, listener_on, settled, swept, desk_told, closed_by_partner, entry_at, free_link, is_at, is_ending, is_link, is_mine_on, is_open, is_receiving, receiving_end, receives_on, refused_end, sending_end, sends_on, Entry, Listener, both, not_is, Life, Kept, all_told, carried, lives_at, where_it, receives, sends, AddsUp, EachOn, IsLifeOf, IsSafe, at_socket, has_opened}
+use Rattle.world_keeps_lives.proofs.Common.{◌≡◌, ℕ, ◌≤◌, ◌<◌, ◌==◌, ◌&&◌, Bool, true, false, not, nat_lt, if◌then◌else◌, List, [], ◌∷◌, find, length, Option, Some, None, is_some, refl, ap, sym, subst, ◌∙◌, arith, eqb-true, ltb-true, length-append, list_any, Host, same_host, spelling, data_bits, header_of, is_receive_socket, is_send_socket, Allocation, Command, DataHeader, answered_on, asked_on_link, asked_with_size, at_end, changed, cls_taken_by, gvb_taken, interrupted, matched_once, ret_taken, rts_heard, rts_taken, rts_taken_by, str_heard, str_linked, str_taken_by, desk_taken, ERRONEOUS, NOT_CONNECTED, NO_SOCKET, error, arrived, arrived_if, data_found, data_of, data_taken, is_acceptable, spent, text_faulted, DeskState, listener_on, settled, swept, desk_told, closed_by_partner, entry_at, free_link, is_at, is_ending, is_link, is_mine_on, is_open, is_receiving, receiving_end, receives_on, refused_end, sending_end, sends_on, Entry, Listener, both, not_is, Life, Kept, all_told, carried, lives_at, where_it, receives, sends, AddsUp, EachOn, IsLifeOf, IsSafe, at_socket, has_opened}
 use Rattle.std.proofs.Common.{nat_le}
 use Rattle.std.proofs.lemmas.Bool.{leb-true}
 use Rattle.ncp_control.specs.Allocation as counters
@@ -27,16 +27,20 @@ module _ (a : Host) (k : ℕ) where
   socket_of : (x : Life) → at_socket a k x ≡ true → x.socket ≡ k
   socket_of x there = eqb-true x.socket k (both (same_host a x.host) (x.socket == k) there).1
 
-  pub life_receives : (e : Entry) (x : Life) → is_mine_on k e ≡ true → at_socket a k x ≡ true → receives x ≡ is_receiving e
+  pub life_receives : (e : Entry) (x : Life) → is_mine_on k e ≡ true → at_socket a k x ≡ true
+      → receives x ≡ is_receiving e
   life_receives e x is there = ap is_receive_socket (socket_of x there ∙ sym (own_is k e is))
 
-  life_sends : (P : Type 0) (e : Entry) (x : Life) → is_mine_on k e ≡ true → at_socket a k x ≡ true → is_receiving e ≡ true → sends x ≡ true → P
+  life_sends : (P : Type 0) (e : Entry) (x : Life) → is_mine_on k e ≡ true → at_socket a k x ≡ true
+      → is_receiving e ≡ true → sends x ≡ true → P
   life_sends P e x is there r s = apart P x.socket (life_receives e x is there ∙ r) s
 
   -- an open end is changed, and the lives of its socket with it
-  pub at_here : (m : Place) (p : Host) (f : Life → Life) (e new : Entry) (l : Bool) (κ next : Kept) → is_mine_on k e ≡ true → has_opened new ≡ true → ((x : Life) → at_socket a k (f x) ≡ at_socket a k x)
+  pub at_here : (m : Place) (p : Host) (f : Life → Life) (e new : Entry) (l : Bool) (κ next : Kept)
+      → is_mine_on k e ≡ true → has_opened new ≡ true → ((x : Life) → at_socket a k (f x) ≡ at_socket a k x)
       → ((x : Life) (t : List Bool) → at_socket a k x ≡ true → IsSafe x t → IsLifeOf p e x t → IsSafe (f x) t × IsLifeOf p new (f x) t)
-      → next.book.lives ≡ where_it (lives_at a e.own) f κ.book.lives → next.handed ≡ κ.handed → At a k m p (e ∷ []) l κ → At a k m p (new ∷ []) l next
+      → next.book.lives ≡ where_it (lives_at a e.own) f κ.book.lives → next.handed ≡ κ.handed → At a k m p (e ∷ []) l κ
+      → At a k m p (new ∷ []) l next
   at_here Near p f e new false κ next is opened keeps work lives handed h =
       let own : e.own ≡ k = own_is k e is in
       let done : EachOn a k (IsLifeOf p new) (where_it (lives_at a k) f κ.book.lives) κ.handed = each_here a k f (IsLifeOf p e) (IsLifeOf p new) κ.book.lives κ.handed keeps work h.1 in
@@ -49,7 +53,8 @@ module _ (a : Host) (k : ℕ) where
 
   -- an open end is changed, and no life
   at_still : (m : Place) (p : Host) (e new : Entry) (l : Bool) (κ : Kept) → has_opened new ≡ true
-      → ((x : Life) (t : List Bool) → at_socket a k x ≡ true → IsLifeOf p e x t → IsLifeOf p new x t) → At a k m p (e ∷ []) l κ → At a k m p (new ∷ []) l κ
+      → ((x : Life) (t : List Bool) → at_socket a k x ≡ true → IsLifeOf p e x t → IsLifeOf p new x t)
+      → At a k m p (e ∷ []) l κ → At a k m p (new ∷ []) l κ
   at_still Near p e new false κ opened work h = ((λ unopen. clash _ (has_opened new) opened unopen), each_weaker a k (IsLifeOf p e) (IsLifeOf p new) κ.book.lives κ.handed work h.1)
   at_still Near p e new true κ opened work h = absurd h
   at_still (Elsewhere g y) p e new l κ opened work h = absurd h
@@ -57,21 +62,25 @@ module _ (a : Host) (k : ℕ) where
 -- ---- the accounts of a life
 
 -- more is granted to a sending end, or taken back from it
-sender_still : (p : Host) (e : Entry) (c : Allocation) (x : Life) (t : List Bool) → receives x ≡ false → IsLifeOf p e x t → IsLifeOf p (record e { allocation = c }) x t
+sender_still : (p : Host) (e : Entry) (c : Allocation) (x : Life) (t : List Bool) → receives x ≡ false
+    → IsLifeOf p e x t → IsLifeOf p (record e { allocation = c }) x t
 sender_still p e c x t off i = record { peers = i.peers; foreign = i.foreign; own = i.own; partner = i.partner; waits = i.waits; drained = i.drained; left = λ r. clash _ (receives x) r off }
 
 covered : (bits : ℕ) (c : Allocation) → is_covered bits c ≡ true → (0 < c.messages) × (bits ≤ c.bits)
 covered bits c is = let h : (nat_lt 0 c.messages ≡ true) × (nat_le bits c.bits ≡ true) = both (nat_lt 0 c.messages) (nat_le bits c.bits) is in (ltb-true 0 c.messages h.0, leb-true bits c.bits h.1)
 
 -- a message is taken
-taken_safe : (x : Life) (t ds : List Bool) (bits : ℕ) (c : Allocation) → (sends x ≡ true → ⊥) → (0 < c.messages) × (bits ≤ c.bits) → length ds ≡ bits → AddsUp x c → IsSafe x t → IsSafe (carried ds x) t
+taken_safe : (x : Life) (t ds : List Bool) (bits : ℕ) (c : Allocation) → (sends x ≡ true → ⊥)
+    → (0 < c.messages) × (bits ≤ c.bits) → length ds ≡ bits → AddsUp x c → IsSafe x t → IsSafe (carried ds x) t
 taken_safe x t ds bits c off ok whole i s = record {
   front = λ q. absurd (off q);
   within = λ r. record { messages = omega (arith, ok.0, i.messages); bits = omega (arith, ok.1, whole, i.bits, length-append x.bits ds) };
   bounded = λ r. record { messages = omega (arith, (s.bounded r).messages); bits = omega (arith, (s.bounded r).bits, length-append x.bits ds) };
 }
 
-taken_life : (p : Host) (e : Entry) (x : Life) (t ds : List Bool) (bits : ℕ) → (sends x ≡ true → ⊥) → (0 < e.allocation.messages) × (bits ≤ e.allocation.bits) → length ds ≡ bits → IsLifeOf p e x t → IsLifeOf p (spent bits e) (carried ds x) t
+taken_life : (p : Host) (e : Entry) (x : Life) (t ds : List Bool) (bits : ℕ) → (sends x ≡ true → ⊥)
+    → (0 < e.allocation.messages) × (bits ≤ e.allocation.bits) → length ds ≡ bits → IsLifeOf p e x t
+    → IsLifeOf p (spent bits e) (carried ds x) t
 taken_life p e x t ds bits off ok whole i = record {
   peers = i.peers;
   foreign = i.foreign;
@@ -83,14 +92,18 @@ taken_life p e x t ds bits off ok whole i = record {
 }
 
 -- a part is returned
-returned_safe : (x : Life) (t : List Bool) (messages bits : ℕ) (c : Allocation) → (sends x ≡ true → ⊥) → messages ≤ c.messages → bits ≤ c.bits → (receives x ≡ true → AddsUp x c) → IsSafe x t → IsSafe (book.returned messages bits x) t
+returned_safe : (x : Life) (t : List Bool) (messages bits : ℕ) (c : Allocation) → (sends x ≡ true → ⊥)
+    → messages ≤ c.messages → bits ≤ c.bits → (receives x ≡ true → AddsUp x c) → IsSafe x t
+    → IsSafe (book.returned messages bits x) t
 returned_safe x t messages bits c off m b i s = record {
   front = λ q. absurd (off q);
   within = λ r. record { messages = omega (arith, m, (i r).messages); bits = omega (arith, b, (i r).bits) };
   bounded = λ r. record { messages = omega (arith, (s.bounded r).messages); bits = omega (arith, (s.bounded r).bits) };
 }
 
-returned_life : (p : Host) (e : Entry) (x : Life) (t : List Bool) (messages bits : ℕ) → (sends x ≡ true → ⊥) → messages ≤ e.allocation.messages → bits ≤ e.allocation.bits → IsLifeOf p e x t → IsLifeOf p (returned messages bits e) (book.returned messages bits x) t
+returned_life : (p : Host) (e : Entry) (x : Life) (t : List Bool) (messages bits : ℕ) → (sends x ≡ true → ⊥)
+    → messages ≤ e.allocation.messages → bits ≤ e.allocation.bits → IsLifeOf p e x t
+    → IsLifeOf p (returned messages bits e) (book.returned messages bits x) t
 returned_life p e x t messages bits off m b i = record {
   peers = i.peers;
   foreign = i.foreign;
@@ -110,10 +123,13 @@ module _ (a : Host) (k : ℕ) (m : Place) (p : Host) (k0 : Kept) where
 
   -- ---- requests
 
-  good_matched : (x y : ℕ) (c : Command) (e : Entry) (change : Entry → Entry) (d : DeskState) → entry_at x y d.entries ≡ Some e → is_mine_on k (change e) ≡ is_mine_on k e → is_at x y (change e) ≡ is_at x y e
-      → (change e).bits ≡ e.bits → (change e).allocation ≡ e.allocation → ((e : Entry) → IsRefusing e → IsRefusing (change e)) → G d → G (matched_once p x y c e change d)
+  good_matched : (x y : ℕ) (c : Command) (e : Entry) (change : Entry → Entry) (d : DeskState)
+      → entry_at x y d.entries ≡ Some e → is_mine_on k (change e) ≡ is_mine_on k e → is_at x y (change e) ≡ is_at x y e
+      → (change e).bits ≡ e.bits → (change e).allocation ≡ e.allocation
+      → ((e : Entry) → IsRefusing e → IsRefusing (change e)) → G d → G (matched_once p x y c e change d)
   good_matched x y c e change d found keeps at bits allocation refuses h = by (is_some e.partner) refl where
-    by : (b : Bool) → is_some e.partner ≡ b → G (if b then commands.faulted ERRONEOUS c d else commands.matched p x y change d)
+    by : (b : Bool) → is_some e.partner ≡ b
+        → G (if b then commands.faulted ERRONEOUS c d else commands.matched p x y change d)
     by true f = good_fault ERRONEOUS c d h
     by false f =
         good_opening a k m p k0 x y change d e found (ap (λ (b : Bool). is_some e.asked && b) f ∙ and_none (is_some e.asked)) keeps at bits allocation refuses h
@@ -123,14 +139,16 @@ module _ (a : Host) (k : ℕ) (m : Place) (p : Host) (k0 : Kept) where
       let joined : G (commands.entry_joined (refused_end x y stamp) d) = good_foreign a k m p k0 (refused_end x y stamp) d refl refl h in
       record { refusing = joined.refusing; on = joined.on }
 
-  good_rts_heard : (x y link stamp : ℕ) (l : Option Listener) (d : DeskState) → listener_on x d.listening ≡ l → G d → G (rts_heard x y link stamp l d)
+  good_rts_heard : (x y link stamp : ℕ) (l : Option Listener) (d : DeskState) → listener_on x d.listening ≡ l → G d
+      → G (rts_heard x y link stamp l d)
   good_rts_heard x y link stamp None d is h = good_refused x y stamp d h
   good_rts_heard x y link stamp (Some l) d is h =
       let joined : G (commands.entry_joined (asked_on_link stamp link (sending_end x y l.size)) (answered_on x d)) =
       good_joined a k m p k0 (asked_on_link stamp link (sending_end x y l.size)) l d refl (λ f. (refl, refl)) is h in
       record { refusing = joined.refusing; on = joined.on }
 
-  good_rts_by : (x y link stamp : ℕ) (o : Option Entry) (d : DeskState) → entry_at x y d.entries ≡ o → G d → G (rts_taken_by p x y link stamp o d)
+  good_rts_by : (x y link stamp : ℕ) (o : Option Entry) (d : DeskState) → entry_at x y d.entries ≡ o → G d
+      → G (rts_taken_by p x y link stamp o d)
   good_rts_by x y link stamp None d f h = good_rts_heard x y link stamp (listener_on x d.listening) d refl h
   good_rts_by x y link stamp (Some e) d f h = good_matched x y (command.Rts y x link) e (asked_on_link stamp link) d f refl refl refl refl (λ e r. r) h
 
@@ -139,18 +157,21 @@ module _ (a : Host) (k : ℕ) (m : Place) (p : Host) (k0 : Kept) where
       good_if a k m p k0 (list_any (sends_on link) d.entries) (commands.faulted ERRONEOUS (command.Rts y x link) d) (rts_taken_by p x y link stamp (entry_at x y d.entries) d)
       (good_fault ERRONEOUS (command.Rts y x link) d h) (good_rts_by x y link stamp (entry_at x y d.entries) d refl h)
 
-  good_str_linked : (x y size stamp : ℕ) (l : Listener) (link : Option ℕ) (d : DeskState) → listener_on x d.listening ≡ Some l → G d → G (str_linked x y size stamp link d)
+  good_str_linked : (x y size stamp : ℕ) (l : Listener) (link : Option ℕ) (d : DeskState)
+      → listener_on x d.listening ≡ Some l → G d → G (str_linked x y size stamp link d)
   good_str_linked x y size stamp l None d is h = good_refused x y stamp d h
   good_str_linked x y size stamp l (Some link) d is h =
       let joined : G (commands.entry_joined (asked_with_size stamp size (receiving_end x y link)) (answered_on x d)) =
       good_joined a k m p k0 (asked_with_size stamp size (receiving_end x y link)) l d refl (λ f. (refl, refl)) is h in
       record { refusing = joined.refusing; on = joined.on }
 
-  good_str_heard : (x y size stamp : ℕ) (l : Option Listener) (d : DeskState) → listener_on x d.listening ≡ l → G d → G (str_heard x y size stamp l d)
+  good_str_heard : (x y size stamp : ℕ) (l : Option Listener) (d : DeskState) → listener_on x d.listening ≡ l → G d
+      → G (str_heard x y size stamp l d)
   good_str_heard x y size stamp None d is h = good_refused x y stamp d h
   good_str_heard x y size stamp (Some l) d is h = good_str_linked x y size stamp l (free_link d.entries) d is h
 
-  good_str_by : (x y size stamp : ℕ) (o : Option Entry) (d : DeskState) → entry_at x y d.entries ≡ o → G d → G (str_taken_by p x y size stamp o d)
+  good_str_by : (x y size stamp : ℕ) (o : Option Entry) (d : DeskState) → entry_at x y d.entries ≡ o → G d
+      → G (str_taken_by p x y size stamp o d)
   good_str_by x y size stamp None d f h = good_str_heard x y size stamp (listener_on x d.listening) d refl h
   good_str_by x y size stamp (Some e) d f h = good_matched x y (command.Str y x size) e (asked_with_size stamp size) d f refl refl refl refl (λ e r. r) h
 
@@ -167,32 +188,40 @@ module _ (a : Host) (k : ℕ) (m : Place) (p : Host) (k0 : Kept) where
 
   -- ---- a link
 
-  good_found : (c : Command) (test : Entry → Bool) (change : Entry → DeskState → DeskState) (d : DeskState) → ((e : Entry) → find test d.entries ≡ Some e → is_open e ≡ true → G (change e d)) → G d → G (at_end c change (found_in (find test d.entries)) d)
+  good_found : (c : Command) (test : Entry → Bool) (change : Entry → DeskState → DeskState) (d : DeskState)
+      → ((e : Entry) → find test d.entries ≡ Some e → is_open e ≡ true → G (change e d)) → G d
+      → G (at_end c change (found_in (find test d.entries)) d)
   good_found c test change d work h = by (find test d.entries) refl where
     by : (o : Option Entry) → find test d.entries ≡ o → G (at_end c change (found_in o) d)
     by None f = good_fault NOT_CONNECTED c d h
     by (Some e) f = open_by (is_open e) refl where
-      open_by : (b : Bool) → is_open e ≡ b → G (at_end c change (if b then commands.Open e else (if is_ending e then commands.Ending else commands.Unconnected)) d)
+      open_by : (b : Bool) → is_open e ≡ b
+          → G (at_end c change (if b then commands.Open e else (if is_ending e then commands.Ending else commands.Unconnected)) d)
       open_by true o = work e f o
       open_by false o = ending_by (is_ending e) where
         ending_by : (b : Bool) → G (at_end c change (if b then commands.Ending else commands.Unconnected) d)
         ending_by true = h
         ending_by false = good_fault NOT_CONNECTED c d h
 
-  sending_found : (link : ℕ) (d : DeskState) (e : Entry) → find (sends_on link) d.entries ≡ Some e → is_receiving e ≡ false
+  sending_found : (link : ℕ) (d : DeskState) (e : Entry) → find (sends_on link) d.entries ≡ Some e
+      → is_receiving e ≡ false
   sending_found link d e f = not_is (is_receiving e) (both (not (is_receiving e)) (is_link link e.link) (split (sends_on link) (λ x. x) d.entries e f).passes).0
 
-  receiving_found : (link : ℕ) (d : DeskState) (e : Entry) → find (receives_on link) d.entries ≡ Some e → is_receiving e ≡ true
+  receiving_found : (link : ℕ) (d : DeskState) (e : Entry) → find (receives_on link) d.entries ≡ Some e
+      → is_receiving e ≡ true
   receiving_found link d e f = (both (is_receiving e) (is_link link e.link) (split (receives_on link) (λ x. x) d.entries e f).passes).0
 
   -- the counters of a sending end
-  good_sender : (link : ℕ) (c : Entry → Allocation) (d : DeskState) (e : Entry) → find (sends_on link) d.entries ≡ Some e → is_open e ≡ true → G d → G (changed (sends_on link) (λ e. record e { allocation = c e }) d)
+  good_sender : (link : ℕ) (c : Entry → Allocation) (d : DeskState) (e : Entry)
+      → find (sends_on link) d.entries ≡ Some e → is_open e ≡ true → G d
+      → G (changed (sends_on link) (λ e. record e { allocation = c e }) d)
   good_sender link c d e f o h =
       good_quiet a k m p k0 (sends_on link) (λ e. record e { allocation = c e }) d e f refl (λ e r. r)
       (λ is l κ i. at_still a k m p e (record e { allocation = c e }) l κ (open_opened e o)
       (λ x t there j. sender_still p e (c e) x t (life_receives a k e x is there ∙ sending_found link d e f) j) i) h
 
-  good_ret : (link messages bits : ℕ) (d : DeskState) (e : Entry) → find (receives_on link) d.entries ≡ Some e → is_open e ≡ true → G d → G (ret_taken link messages bits e d)
+  good_ret : (link messages bits : ℕ) (d : DeskState) (e : Entry) → find (receives_on link) d.entries ≡ Some e
+      → is_open e ≡ true → G d → G (ret_taken link messages bits e d)
   good_ret link messages bits d e f o h = by (nat_le messages e.allocation.messages && nat_le bits e.allocation.bits) refl where
     mine : e.mine ≡ true
     mine = open_mine e (refusing_found (receives_on link) d.entries e h.refusing f) o
@@ -236,13 +265,15 @@ module _ (a : Host) (k : ℕ) (m : Place) (p : Host) (k0 : Kept) where
 
   -- ---- data
 
-  good_arrived : (link : ℕ) (text : List Bool) (g : Option DataHeader) (d : DeskState) (e : Entry) → header_of text ≡ g → find (receives_on link) d.entries ≡ Some e → is_open e ≡ true → G d → G (arrived_if link e text g d)
+  good_arrived : (link : ℕ) (text : List Bool) (g : Option DataHeader) (d : DeskState) (e : Entry) → header_of text ≡ g
+      → find (receives_on link) d.entries ≡ Some e → is_open e ≡ true → G d → G (arrived_if link e text g d)
   good_arrived link text None d e headed f o h = record { refusing = h.refusing; on = h.on }
   good_arrived link text (Some g) d e headed f o h = by (is_acceptable e g) refl where
     mine : e.mine ≡ true
     mine = open_mine e (refusing_found (receives_on link) d.entries e h.refusing f) o
 
-    by : (b : Bool) → is_acceptable e g ≡ b → G (if b then arrived link e (data_bits g) text d else text_faulted ERRONEOUS text d)
+    by : (b : Bool) → is_acceptable e g ≡ b
+        → G (if b then arrived link e (data_bits g) text d else text_faulted ERRONEOUS text d)
     by true fits =
         let ok : (0 < e.allocation.messages) × (data_bits g ≤ e.allocation.bits) = covered (data_bits g) e.allocation (both (is_size g.size e.size) (is_covered (data_bits g) e.allocation) fits).1 in
         let ds : List Bool = data_of (data_bits g) text in
@@ -259,7 +290,8 @@ module _ (a : Host) (k : ℕ) (m : Place) (p : Host) (k0 : Kept) where
     by : (o : Option Entry) → find (receives_on link) d.entries ≡ o → G (data_found link text (found_in o) d)
     by None f = record { refusing = h.refusing; on = h.on }
     by (Some e) f = open_by (is_open e) refl where
-      open_by : (b : Bool) → is_open e ≡ b → G (data_found link text (if b then commands.Open e else (if is_ending e then commands.Ending else commands.Unconnected)) d)
+      open_by : (b : Bool) → is_open e ≡ b
+          → G (data_found link text (if b then commands.Open e else (if is_ending e then commands.Ending else commands.Unconnected)) d)
       open_by true o = good_arrived link text (header_of text) d e refl f o h
       open_by false o = ending_by (is_ending e) where
         ending_by : (b : Bool) → G (data_found link text (if b then commands.Ending else commands.Unconnected) d)

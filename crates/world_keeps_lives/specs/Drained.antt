@@ -16,22 +16,28 @@ pub record ClosesFirst (moments : List Moment) (sender : Life) : Type 0 where
   pub closed : has_cls end.end.closing ≡ true
   pub unheard : end.end.partner_closed ≡ false
 
--- at some moment up to now it was so of this life, which may be over since
-pub record ClosedFirst (moments : List Moment) (life : Life) : Type 0 where
+-- at some moment up to now it was so of this life, which may be over since. The lives after some moments are given
+pub record ClosedFirst (lives_in : List Moment → List Life) (moments : List Moment) (life : Life) : Type 0 where
   pub later : List Moment
   pub earlier : List Moment
   pub is : moments ≡ later ++ earlier
   pub sender : Life
-  pub there : Contains (kept_in earlier).book.lives sender
+  pub there : Contains (lives_in earlier) sender
   pub first : ClosesFirst earlier sender
   pub same : own_request life ≡ own_request sender
 
 -- each such life has sent all that was handed over in it
-abbrev pub AllSent : List Moment → List Life → List (List Bool) → Type 0
-AllSent moments [] handed = Unit {0}
-AllSent moments (x ∷ lives) [] = ⊥
-AllSent moments (x ∷ lives) (t ∷ handed) = (ClosedFirst moments x → x.bits ≡ t) × AllSent moments lives handed
+abbrev pub AllSent : (List Moment → List Life) → List Moment → List Life → List (List Bool) → Type 0
+AllSent lives_in moments [] handed = Unit {0}
+AllSent lives_in moments (x ∷ lives) [] = ⊥
+AllSent lives_in moments (x ∷ lives) (t ∷ handed) =
+    (ClosedFirst lives_in moments x → x.bits ≡ t) × AllSent lives_in moments lives handed
+
+-- the lives of a book all of whose hosts run the program
+abbrev pub all_lives : List Moment → List Life
+all_lives moments = (kept_in moments).book.lives
 
 -- so it is at every moment
 abbrev pub AllDrained : List Moment → Type 0
-AllDrained moments = (later earlier : List Moment) → moments ≡ later ++ earlier → AllSent earlier (kept_in earlier).book.lives (kept_in earlier).handed
+AllDrained moments = (later earlier : List Moment) → moments ≡ later ++ earlier →
+    AllSent all_lives earlier (kept_in earlier).book.lives (kept_in earlier).handed

@@ -9,16 +9,18 @@ use Rattle.promise.specs.Safe.{AreHanded, IsGranted, receives}
 use Rattle.promise.specs.declared.life.Life.{Life}
 use Rattle.net_sim.specs.Clean.{HaveAddresses, IsLawful}
 use Rattle.net_sim.specs.Story.{Moment, program}
-use Rattle.net_sim.specs.Timeline.{IsTimeline, crossings_of}
-use Rattle.net_sim.specs.Told.{kept_in}
+use Rattle.net_sim.specs.Timeline.{crossings_of}
+use Rattle.net_sim.specs.Among.{beside_among}
 use Rattle.net_sim.specs.Mixed.{Happened, mixed_kept}
+use Rattle.world_keeps_pairing.specs.Laws.Worlds.{among}
 use Rattle.net_sim.specs.World.{WorldState}
 use Rattle.reset_law.specs.Network.{Network}
 use Rattle.world_keeps_lives.specs.Drained.{AllDrained, AllSent}
+use Rattle.world_keeps_lives.specs.Told.{ToldAmong}
 use Rattle.world_keeps_lives.specs.Lives.{HasOpenEnd, IsBounded, IsFreeSocket, IsOwned, IsSteady}
 
--- What each host has, over every list of moments in which what crosses is a run of the mailboxes. The first five are of a
--- host with a program, whatever strangers do, the others where all hosts run the program.
+-- What each host with a program has, over every list of moments in which what crosses is a run of the mailboxes, whatever
+-- strangers do.
 pub record Programs : Type 0 where
   -- each of its sockets is free, or has one end of the host's own, whose lives are all that continue there
   pub sockets :
@@ -50,18 +52,22 @@ pub record Programs : Type 0 where
       receives receiver ≡ true → IsBounded receiver
   -- what each sending life sent is a prefix of what was handed over in it
   pub handed :
-      (hosts : List Host) (moments : List Moment) → HaveAddresses hosts → mail.IsRun hosts (crossings_of moments) →
-      IsTimeline hosts moments → AreHanded (kept_in moments).book.lives (kept_in moments).handed
-  -- a sending life whose CLS was queued, before its partner's was taken, has sent all that was handed over in it, also
-  -- once it is over
+      (hosts : Network) (moments : List Moment) → HaveAddresses hosts.all → mail.IsRun hosts.all (crossings_of moments) →
+      Happened hosts moments →
+      AreHanded (mixed_kept hosts.strange moments).book.lives (mixed_kept hosts.strange moments).handed
+  -- a sending life between two such hosts whose CLS was queued, before its partner's was taken, has sent all that was
+  -- handed over in it, also once it is over
   pub drained :
-      (hosts : List Host) (moments : List Moment) → HaveAddresses hosts → mail.IsRun hosts (crossings_of moments) →
-      IsTimeline hosts moments → AllSent moments (kept_in moments).book.lives (kept_in moments).handed
-  -- each notice of data reports a message of data just after it crossed, on the link of a connection of its socket;
-  -- each such message that goes out has its notice
+      (hosts : Network) (moments : List Moment) → HaveAddresses hosts.all → mail.IsRun hosts.all (crossings_of moments) →
+      Happened hosts moments →
+      AllSent (among hosts) moments (among hosts moments)
+      (beside_among hosts.strange (mixed_kept hosts.strange moments).book.lives (mixed_kept hosts.strange moments).handed)
+  -- each notice of data about a message between two such hosts reports it just after it crossed, on the link of a
+  -- connection of its socket; each such message that goes out has its notice
   pub told :
-      (hosts : List Host) (moments : List Moment) → HaveAddresses hosts → mail.IsRun hosts (crossings_of moments) →
-      IsTimeline hosts moments → FormedNotices (crossings_of moments) (kept_in moments).book.notices
+      (hosts : Network) (moments : List Moment) → HaveAddresses hosts.all → mail.IsRun hosts.all (crossings_of moments) →
+      Happened hosts moments →
+      ToldAmong hosts.strange (crossings_of moments) (mixed_kept hosts.strange moments).book.notices
 
 -- The same of the book of every world, whatever its carrier is made of: the two clauses of the safe book that are about
 -- one host only, the bound of grants, the end of each life that isn't over, in the program that comes of the world's

@@ -70,7 +70,11 @@ stray_arrived = record arrived_told { place = 14 }
 abbrev pub closed_moments : List Moment
 closed_moments = Asked second (request.Close 33) ∷ Crossed (crossing.Answer answer.Rfnm (sockets.on_link second first 2)) ∷ sent_moments
 
--- before that
+-- then its host stops
+abbrev pub stopped_moments : List Moment
+stopped_moments = Crossed (crossing.Down second) ∷ closed_moments
+
+-- where its message isn't answered yet
 abbrev pub closing_moments : List Moment
 closing_moments = Asked second (request.Close 33) ∷ sent_moments
 

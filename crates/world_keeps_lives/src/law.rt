@@ -6,8 +6,7 @@ ghost use Rattle.promise.specs.Formed.{IsFormed};
 ghost use Rattle.world_keeps_lives.specs.Firsts.{DetermineBits};
 ghost use Rattle.promise.specs.Notices.{FormedNotices, data_told};
 ghost use Rattle.promise.specs.Safe.{sends};
-ghost use Rattle.interface.specs.declared.crossing.Crossing.TheVariants as crossing;
-ghost use Rattle.net_sim.specs.Story.{Crossed, Moment};
+ghost use Rattle.net_sim.specs.Story.{Moment};
 ghost use Rattle.net_sim.specs.Told.{kept_in};
 ghost use Rattle.host_pairs.specs.Asked.{with_more_bits};
 ghost use Rattle.host_pairs.specs.Commands as commands;
@@ -19,10 +18,10 @@ ghost use Rattle.host_pairs.specs.declared.notice.Notice.TheVariants as notice;
 ghost use Rattle.sockets.specs.Worked.{first, second, third};
 ghost use Rattle.net_sim.specs.Book.{carried, life_ended, granted, new_life, opening_kept, returned};
 ghost use Rattle.world_keeps_lives.specs.Lives.{AreRefusing, EachOn, HasOpenEnd, IsBounded, IsFreeSocket, IsFresh, IsLifeOf, IsOwned, IsSafe, IsSteady, NoneOf, at_socket, mine_on};
-ghost use Rattle.world_keeps_lives.specs.Drained.{AllSent, ClosedFirst, ClosesFirst};
+ghost use Rattle.world_keeps_lives.specs.Drained.{AllSent, ClosedFirst, ClosesFirst, all_lives};
 ghost use Rattle.world_keeps_lives.specs.Firsts.{AreApart, FirstBook};
 ghost use Rattle.world_keeps_lives.specs.Worked.{worked_end, with_one};
-ghost use Rattle.world_keeps_lives.specs.WorkedFormed.{arrived_told, closed_moments, closing_moments, gave, sent_log, sent_told, stray_arrived, stray_log, stray_sent, taken_moments, took};
+ghost use Rattle.world_keeps_lives.specs.WorkedFormed.{arrived_told, closed_moments, closing_moments, gave, sent_log, sent_told, stopped_moments, stray_arrived, stray_log, stray_sent, taken_moments, took};
 ghost use Rattle.world_keeps_lives.specs.WorkedFormed.{took_second, two_log, untaken_log};
 ghost use Rattle.net_sim.specs.Worked.{crossings, eight, eight_zeros, taker};
 ghost use Rattle.net_sim.specs.WorkedMoments.{sent_moments};
@@ -176,9 +175,9 @@ pub fn worked_drained()
     ensures closed { ClosesFirst closed_moments gave }
 
     // it is so of this life still once its host has stopped; then all that was handed over is what was sent, and not less
-    ensures stopped { ClosedFirst (Crossed (crossing.Down second) ∷ closed_moments) (life_ended gave) }
-    ensures all { AllSent (Crossed (crossing.Down second) ∷ closed_moments) (life_ended gave ∷ []) (eight ∷ []) }
-    ensures less { AllSent (Crossed (crossing.Down second) ∷ closed_moments) (life_ended gave ∷ []) ([] ∷ []) → ⊥ }
+    ensures stopped { ClosedFirst all_lives stopped_moments (life_ended gave) }
+    ensures all { AllSent all_lives stopped_moments (life_ended gave ∷ []) (eight ∷ []) }
+    ensures less { AllSent all_lives stopped_moments (life_ended gave ∷ []) ([] ∷ []) → ⊥ }
     ensures unanswered { ClosesFirst closing_moments gave → ⊥ }
     ensures taken { ClosesFirst taken_moments gave → ⊥ }
 {}
@@ -186,11 +185,11 @@ pub fn worked_drained()
 /// Lives of which at no moment so far their user had closed the end first.
 pub fn worked_not_first()
     // its user has closed it, but its CLS waits for an answer
-    ensures unanswered { ClosedFirst closing_moments gave → ⊥ }
+    ensures unanswered { ClosedFirst all_lives closing_moments gave → ⊥ }
 
     // the partner's CLS was taken before its own was queued
-    ensures taken { ClosedFirst taken_moments gave → ⊥ }
+    ensures taken { ClosedFirst all_lives taken_moments gave → ⊥ }
 
     // a life that receives
-    ensures sending { (moments : List Moment) (life : Life) → ClosedFirst moments life → sends life ≡ true }
+    ensures sending { (moments : List Moment) (life : Life) → ClosedFirst all_lives moments life → sends life ≡ true }
 {}

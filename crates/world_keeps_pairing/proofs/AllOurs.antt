@@ -1,5 +1,5 @@
 -- The same where all hosts run the program: then all lives of the book are between two that do. So it is of the book of a world.
-use Rattle.world_keeps_pairing.proofs.Common.{◌≡◌, ℕ, false, true, List, [], ◌++◌, refl, ap, sym, subst, Some, IsSome, Contains, Coupled, Crossing, Host, HaveAddresses, Kept, Moment, IsStory, IsTimeline, AreAmong, AreCommands, IsIn, AreTwo, Match, SafePartners, crossings_of, events_of, life_of, openings, origin_or, own_request, pair_with, partner_request, program, receives, with_lives}
+use Rattle.world_keeps_pairing.proofs.Common.{◌≡◌, false, true, List, ◌++◌, refl, ap, sym, subst, Some, IsSome, Contains, Coupled, Crossing, Host, Kept, Moment, IsStory, IsTimeline, AreTwo, Match, SafePartners, crossings_of, events_of, own_request, partner_request, receives}
 use Rattle.interface.specs.Calls.{Seen}
 use Rattle.interface.specs.Mailboxes as mail
 use Rattle.interface.proofs.lemmas.{run_below}
@@ -13,19 +13,11 @@ use Rattle.net_sim.specs.Mixed.{mixed_kept}
 use Rattle.net_sim.specs.Told.{kept_in}
 use Rattle.net_sim.specs.World.{WorldState}
 use Rattle.world_keeps_pairing.proofs.BookPartners as partners
-use Rattle.world_keeps_pairing.proofs.LinkRun as links
-use Rattle.world_keeps_pairing.proofs.LivesAmong as lives
 use Rattle.world_keeps_pairing.proofs.Served as all
 use Rattle.world_keeps_pairing.proofs.Served.{AreServed}
-use Rattle.world_keeps_pairing.proofs.Tied.{AreOrigins}
-use Rattle.world_keeps_pairing.specs.Lives.{ArePaired}
 
 pub served_in : (hosts : List Host) (moments : List Moment) → IsTimeline hosts moments → AreServed (all_ours hosts) moments
 served_in hosts moments time = all.served_in (all_ours hosts) moments (happened hosts moments time)
-
-module _ (hosts : List Host) (moments : List Moment) (addresses : HaveAddresses hosts) (run : mail.IsRun hosts (crossings_of moments)) (time : IsTimeline hosts moments) where
-  pub queued_commands : (a b : Host) → AreCommands (pair_with b (program a moments).peers).queue
-  queued_commands a b = links.queued_commands (all_ours hosts) moments addresses run (happened hosts moments time) a b (refl, refl)
 
 module _ (hosts : List Host) (moments : List Moment) (story : IsStory (all_ours hosts) moments) (run : IsRun (all_ours hosts) (events_of moments)) (mails : mail.IsRun hosts (crossings_of moments)) (served : AreServed (all_ours hosts) moments) where
   abbrev book : List Life
@@ -36,12 +28,6 @@ module _ (hosts : List Host) (moments : List Moment) (story : IsStory (all_ours 
 
   two_there : (x y : Life) → AreTwo book x y → AreTwo (mixed_kept (λ h. false) moments).book.lives x y
   two_there x y two = subst (λ (k : Kept). AreTwo k.book.lives x y) (sym (kept_same moments)) two
-
-  pub life_in : (none : ℕ) (x : Life) → Contains book x → IsIn (life_of (origin_or none (crossings_of moments) x.host x.peer) x) (openings x.host x.peer x.socket x.foreign moments)
-  life_in none x c = partners.life_in (all_ours hosts) moments story run mails served none x (refl, refl) (there x c)
-
-  pub life_paired : (x : Life) → Contains book x → ArePaired x
-  life_paired x c = partners.life_paired (all_ours hosts) moments story run mails served x (refl, refl) (there x c)
 
   pub partner_named : (x : Life) → Contains book x → IsSome (partner_request (crossings_of moments) x)
   partner_named x c = partners.partner_named (all_ours hosts) moments story run mails served x (refl, refl) (there x c)
@@ -54,12 +40,6 @@ module _ (hosts : List Host) (moments : List Moment) (story : IsStory (all_ours 
 
   pub life_alone : (receiver x y : Life) → AreTwo book x y → Match (crossings_of moments) receiver x → Match (crossings_of moments) receiver y → ⊥
   life_alone receiver x y two = partners.life_alone (all_ours hosts) moments story run mails served receiver x y (refl, refl) (refl, refl) (two_there x y two)
-
-pub lives_among : (hosts : List Host) (origin : Host → Host → ℕ → ℕ) (moments : List Moment) → AreOrigins origin moments → IsStory (all_ours hosts) moments → IsRun (all_ours hosts) (events_of moments) → mail.IsRun hosts (crossings_of moments) → AreServed (all_ours hosts) moments
-    → (h p : Host) (own foreign : ℕ) → AreAmong (with_lives (origin h p) h p own foreign (kept_in moments).book.lives []) (openings h p own foreign moments)
-lives_among hosts origin moments from story run mails served h p own foreign =
-    subst (λ (k : Kept). AreAmong (with_lives (origin h p) h p own foreign k.book.lives []) (openings h p own foreign moments)) (kept_same moments)
-    (lives.lives_among (all_ours hosts) origin moments from story run mails served h p (refl, refl) own foreign)
 
 -- ---- the book of a world
 

@@ -1,8 +1,7 @@
 -- The lemmas of this crate that others may use: the proofs of headline, world_keeps_connections, world_keeps_lives and world_keeps_streams do. All others in proofs/ are its own.
 pub use Rattle.world_keeps_pairing.proofs.AllOurs
-pub use Rattle.world_keeps_pairing.proofs.BookPartners.{life_in, life_matches, life_paired, one_own, partner_named, place_there, safe_partners}
-pub use Rattle.world_keeps_pairing.proofs.BookPartners.{other_sends}
-pub use Rattle.world_keeps_pairing.proofs.LifeLists.{between_itself, in_among, in_book, told_in}
+pub use Rattle.world_keeps_pairing.proofs.BookPartners.{life_alone, life_in, life_matches, life_paired, one_own, other_sends, partner_named, place_there, safe_partners, two_left, two_right}
+pub use Rattle.world_keeps_pairing.proofs.LifeLists.{between_itself, in_among, in_book, told_in, two_in_book}
 pub use Rattle.world_keeps_pairing.proofs.LinkDesks.{and_never}
 pub use Rattle.world_keeps_pairing.proofs.LinkGone.{some_commands}
 pub use Rattle.world_keeps_pairing.proofs.LinkRun.{AllTied, all_tied, heard_off_in, queued_commands, queued_link, queued_once, takes}

@@ -34,5 +34,6 @@ pub mod Starts
 pub mod Streams
 pub mod Unasked
 pub mod Unclosed
+pub mod WasSent
 pub mod Went
 pub mod Whole

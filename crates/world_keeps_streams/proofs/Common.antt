@@ -47,13 +47,13 @@ pub use Rattle.ncp_control.specs.declared.command.Command.{Command}
 pub use Rattle.ncp_control.specs.declared.data_header.DataHeader.{DataHeader}
 pub use Rattle.ncp_control.specs.declared.phase.Phase.{Phase}
 pub use Rattle.ncp_control.specs.declared.phase.Phase.TheVariants.{Gone, Heard, Ready, Want}
-pub use Rattle.net_sim.proofs.lemmas.AllOurs.{coupled}
-pub use Rattle.net_sim.proofs.lemmas.{Coupled, box_same, by_request, data_away, kept_fated, place_same, plain_take, program_own, same_host-sym, story_agrees}
+pub use Rattle.net_sim.proofs.lemmas.{Coupled, box_same, coupled, by_request, data_away, kept_fated, place_same, plain_take, program_own, same_host-sym, story_agrees}
 pub use Rattle.net_sim.specs.Book.{Kept, all_told, book_told, carried, changed_when, crossed, life_ended, lives_asked, lives_at, lives_between, lives_crossed, lives_on, lives_told, lives_with, new_life, where_it}
 pub use Rattle.net_sim.specs.Clean.{HaveAddresses, IsLawful}
+pub use Rattle.net_sim.specs.Mixed.{Happened}
 pub use Rattle.net_sim.specs.Projection.{Agrees, AllPlain, ArePlain, IsApart, control_message, event_by, is_rrp, is_rst, message_on}
 pub use Rattle.net_sim.specs.Story.{Asked, Crossed, IsNext, IsStory, Moment, event_in, events_of, places, program}
-pub use Rattle.net_sim.specs.Timeline.{IsTimeline, contacts_of, crossings_of, seen_box}
+pub use Rattle.net_sim.specs.Timeline.{contacts_of, crossings_of, seen_box}
 pub use Rattle.net_sim.specs.Told.{host_in, kept_by, notices_by}
 pub use Rattle.net_sim.specs.WorkedMoments.{bits_sent, eight_sent, sent_moments}
 pub use Rattle.net_sim.specs.World.{WorldState}
@@ -77,6 +77,7 @@ pub use Rattle.promise.specs.declared.life.Fate.{Fate}
 pub use Rattle.reset_law.proofs.lemmas.{NoPlain, alone_run, begin_quiet, begins_either, carry, contradicts, ready_phase, sound_run, stays_ready}
 pub use Rattle.reset_law.specs.Boxes.{Clear, ClearAll, Fetch, Put, boxes, posted}
 pub use Rattle.reset_law.specs.Events.{Begin, Contact, Down, Event, Hear, Idle, In, Message, Other, Out, Send, Take, Told, Up, are, place, when}
+pub use Rattle.reset_law.specs.Network.{AreOurs, Network}
 pub use Rattle.reset_law.specs.Invariant.{is_signal, kind_in}
 pub use Rattle.reset_law.specs.Pairs.{MaySend, Pair, pair, pair_moved}
 pub use Rattle.reset_law.specs.Stays.{begins, ready, takes_reset}
@@ -98,13 +99,11 @@ pub use Rattle.stream_law.proofs.lemmas.{Inv, came_inv, for_here, safe_inv, some
 pub use Rattle.stream_law.specs.Streams.{Stream, opening_stream}
 pub use Rattle.stream_law.specs.Within.{IsSafe, message_bits, waiting_in}
 pub use Rattle.stream_law.specs.Words.{All, Cls, Gvb, Ret, Rts, Str, Word, covers, for, holds, is_size}
-pub use Rattle.world_keeps_lives.proofs.lemmas.AllOurs.{held}
-pub use Rattle.world_keeps_lives.proofs.lemmas.{At, Each, Elsewhere, GoodTurn, IsOfTwo, Linked, LinkedBook, Near, Place, all_told_append, clash, each_in, good_queued, good_ready, good_taken, has_ends, linked_end, live, none_there, open_mine, open_parts, owner_found, refusing_found, same_turned, texts_one, unopened}
+pub use Rattle.world_keeps_lives.proofs.lemmas.{At, Each, Elsewhere, GoodTurn, IsOfTwo, Linked, LinkedBook, Near, Place, all_told_append, clash, each_in, good_queued, good_ready, good_taken, none_there, open_mine, open_parts, owner_found, refusing_found, same_turned, texts_one, unopened}
 pub use Rattle.world_keeps_lives.specs.Drained.{ClosesFirst}
 pub use Rattle.world_keeps_lives.specs.Lives.{AreRefusing, HasOpenEnd, IsLifeOf, at_socket, mine_on}
 pub use Rattle.world_keeps_lives.specs.WorkedFormed.{gave, sent_log}
-pub use Rattle.world_keeps_pairing.proofs.lemmas.AllOurs.{life_in, life_paired, safe_partners, served_in}
-pub use Rattle.world_keeps_pairing.proofs.lemmas.{AText, AllBare, AllTied, AnRrp, AnRst, AreOrigins, IsUnpaired, Side_of, Sort, Tie, all_bare, all_hears, all_says, all_tied, are_origins, at_texts, book_lives, book_run, even_odd, foreign_of, half, heard_is, hears_if, left_if, mail_below, message_pair, met_if, odd_send, offered_pair, other, own_of, plain_joint, programs_ranged, receiver_half, send_odd, sender_half, sort_of, takes, waiting}
+pub use Rattle.world_keeps_pairing.proofs.lemmas.{AText, AllBare, AllTied, AnRrp, AnRst, AreOrigins, IsUnpaired, Side_of, Sort, Tie, all_bare, all_hears, all_says, all_tied, are_origins, at_texts, book_lives, even_odd, foreign_of, half, heard_is, hears_if, left_if, mail_below, message_pair, met_if, odd_send, offered_pair, other, own_of, plain_joint, programs_ranged, receiver_half, send_odd, sender_half, served_in, sort_of, takes, waiting}
 pub use Rattle.world_keeps_pairing.specs.Free.{TakesFreeAt, law_events, origin_in, place_or}
 pub use Rattle.world_keeps_pairing.specs.Lives.{life_of, openings}
 pub use Rattle.world_keeps_pairing.specs.Steps.{keeps, steps}

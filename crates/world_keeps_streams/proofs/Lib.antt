@@ -1,4 +1,5 @@
 pub mod Common
+pub mod Ours
 pub mod Facts
 pub mod Calls
 pub mod Stays

@@ -1,11 +1,12 @@
 -- The laws of src/ that are longer than a line: each is a record, and its fields are the clauses.
 use Rattle.std.specs.List.{Contains}
-use Rattle.std.specs.Prelude.{List, None, Some, [], false, length, true, ℕ, ◌==◌, ◌∷◌, ◌≡◌}
+use Rattle.std.specs.Prelude.{Bool, List, None, Some, [], false, length, true, ℕ, ◌++◌, ◌==◌, ◌∷◌, ◌≡◌}
 use Rattle.interface.specs.Calls.{Seen}
 use Rattle.interface.specs.Host.{Host}
 use Rattle.interface.specs.Mailboxes as mail
 use Rattle.interface.specs.declared.address.Flow.{Flow}
 use Rattle.interface.specs.declared.crossing.Answer.TheVariants as answer
+use Rattle.interface.specs.declared.crossing.Crossing.{Crossing}
 use Rattle.interface.specs.declared.crossing.Crossing.TheVariants as crossing
 use Rattle.interface.specs.declared.message.HostMessage.{HostMessage}
 use Rattle.sockets.specs.Pairs.{pair_with}
@@ -17,15 +18,17 @@ use Rattle.host_keeps_streams.specs.Ends.{HasReceiver}
 use Rattle.host_keeps_streams.specs.Histories.{AreAllowed, HasClosed, IsHistory, ends_now, name_now, numbered}
 use Rattle.host_keeps_streams.specs.Histories.{receiver_now, sender_now}
 use Rattle.host_keeps_streams.specs.Names.{IsSending}
+use Rattle.promise.specs.Arrived as promised
 use Rattle.promise.specs.Arrived.{ArrivedBook}
 use Rattle.promise.specs.Fates.{ClosesWhole, IsBeside}
-use Rattle.promise.specs.Formed.{FormedBook}
-use Rattle.promise.specs.Ends.{AreContacts, AreLeft}
+use Rattle.promise.specs.Formed.{FormedBook, link_of, texts_on}
+use Rattle.promise.specs.Ends.{AreContacts, AreLeft, Going, stage}
 use Rattle.promise.specs.Safe.{IsGranted, Match, Source, receives}
 use Rattle.promise.specs.declared.life.Fate.TheVariants as fate
 use Rattle.promise.specs.declared.life.Life.{Life}
 use Rattle.reset_law.specs.Network.{AreOurs, Network}
-use Rattle.net_sim.specs.Mixed.{Happened}
+use Rattle.net_sim.specs.Among.{beside_among, contacts_among, lives_among}
+use Rattle.net_sim.specs.Mixed.{Happened, mixed_kept}
 use Rattle.net_sim.specs.Clean.{HaveAddresses, IsLawful}
 use Rattle.net_sim.specs.Story.{Asked, Crossed, Moment, events_of, program}
 use Rattle.net_sim.specs.Timeline.{IsTimeline, contacts_of, crossings_of}
@@ -34,11 +37,12 @@ use Rattle.net_sim.specs.WorkedMoments.{connected}
 use Rattle.net_sim.specs.World.{WorldState}
 use Rattle.world_keeps_lives.specs.Firsts.{FirstBook}
 use Rattle.world_keeps_streams.specs.Answered.{AllAnswered, HasArrived}
-use Rattle.world_keeps_streams.specs.Arrivals.{AllArrive, AllCome, Arrives, ComesFor}
+use Rattle.world_keeps_streams.specs.Arrivals.{AllArrive, AllCome, Arrives, ComesBetween, ComesFor}
 use Rattle.world_keeps_streams.specs.Calls.{numbered_by_peer, own_calls}
-use Rattle.world_keeps_streams.specs.Came.{AllCame}
+use Rattle.world_keeps_streams.specs.Came.{AllCame, CameAll, HadTakenCls}
 use Rattle.world_keeps_streams.specs.Closes.{AllClose, AllHanded, EachHanded, TookAll, WasClosedByPartner}
-use Rattle.world_keeps_streams.specs.Rests.{Agree, AllAgree, AllCalm, AllRest, AreAtRest, AreSettled}
+use Rattle.world_keeps_streams.specs.Rests.{Agree, AllAgree, AllCalm, AllRest, AreAtRest, AreCalm, AreOpen, AreSettled}
+use Rattle.world_keeps_streams.specs.Sent.{EachWasSent}
 use Rattle.world_keeps_streams.specs.Settled.{EachAgrees, HasSettled}
 use Rattle.world_keeps_streams.specs.Within.{CountNothingLater}
 
@@ -111,6 +115,10 @@ pub record Lives : Type 0 where
       IsTimeline hosts moments → (receiver : Life) → Contains (kept_in moments).book.lives receiver →
       receives receiver ≡ true → (receiver.bits ≡ [] → ⊥) →
       Source (crossings_of moments) (kept_in moments).book.lives receiver
+  -- and message by message, whatever their bits: the k-th that it counts is the k-th that its partner counts
+  pub was_sent :
+      (hosts : List Host) (moments : List Moment) → HaveAddresses hosts → mail.IsRun hosts (crossings_of moments) →
+      IsTimeline hosts moments → EachWasSent (crossings_of moments) (kept_in moments).book.lives
   -- a receiving life whose end its partner has closed, and no user of its host, took all that its partner sent; it
   -- stays so whatever becomes of both lives
   pub closes :
@@ -210,12 +218,117 @@ pub record Lives : Type 0 where
       Contains (kept_in moments).book.lives sender → Match (crossings_of moments) receiver sender →
       IsGranted receiver sender.messages (length sender.bits)
 
+-- What happened in a network, whatever its strangers did, where what crosses is a run of the mailboxes.
+abbrev pub MayBe : Network → List Moment → Type 0
+MayBe hosts moments =
+    HaveAddresses hosts.all × mail.IsRun hosts.all (crossings_of moments) × Happened hosts moments
+
+-- The lives between two hosts with programs, whatever strangers do. `kept_in` has what each program would report; of
+-- these lives it has what the network's book has, in which strangers report nothing (`lives`). What was handed over is
+-- said of networks without strangers only.
+pub record Among : Type 0 where
+  pub lives :
+      (hosts : Network) (moments : List Moment) → lives_among hosts.strange (kept_in moments).book.lives ≡
+      lives_among hosts.strange (mixed_kept hosts.strange moments).book.lives
+  -- the clauses are those of `Lives`, under their names
+  pub source :
+      (hosts : Network) (moments : List Moment) → MayBe hosts moments → (receiver : Life) →
+      AreOurs hosts receiver.host receiver.peer → Contains (kept_in moments).book.lives receiver →
+      receives receiver ≡ true → (receiver.bits ≡ [] → ⊥) →
+      Source (crossings_of moments) (kept_in moments).book.lives receiver
+  pub closes :
+      (hosts : Network) (moments : List Moment) → MayBe hosts moments → (receiver : Life) →
+      AreOurs hosts receiver.host receiver.peer → (closed : WasClosedByPartner moments receiver) →
+      AreOurs hosts closed.receiver.host closed.receiver.peer →
+      TookAll (crossings_of moments) (kept_in moments).book.lives receiver
+  pub came :
+      (hosts : Network) (moments : List Moment) → MayBe hosts moments → (later earlier : List Moment) →
+      moments ≡ later ++ earlier → (receiver : Life) → AreOurs hosts receiver.host receiver.peer →
+      (taken : HadTakenCls earlier receiver) →
+      CameAll (crossings_of taken.earlier) (crossings_of earlier) (kept_in earlier).book.lives receiver
+      taken.then.link
+  pub ended :
+      (hosts : Network) (moments : List Moment) → MayBe hosts moments → (receiver : Life) →
+      AreOurs hosts receiver.host receiver.peer →
+      IsBeside receiver fate.Ended (kept_in moments).book.lives (kept_in moments).fates → receives receiver ≡ true →
+      (closed : WasClosedByPartner moments receiver) × AreOurs hosts closed.receiver.host closed.receiver.peer
+  -- an orderly close loses nothing of what was sent
+  pub whole :
+      (hosts : Network) (moments : List Moment) → MayBe hosts moments → (receiver sender : Life) →
+      AreOurs hosts receiver.host receiver.peer →
+      IsBeside receiver fate.Ended (kept_in moments).book.lives (kept_in moments).fates →
+      Contains (kept_in moments).book.lives sender → Match (crossings_of moments) receiver sender →
+      (receiver.bits ≡ sender.bits) × (receiver.messages ≡ sender.messages)
+  -- the three clauses of `ArrivedBook`
+  pub counts :
+      (hosts : Network) (moments : List Moment) → MayBe hosts moments → (x : Life) → AreOurs hosts x.host x.peer →
+      IsBeside x fate.Open (kept_in moments).book.lives (kept_in moments).fates → receives x ≡ true →
+      x.messages ≡ length (texts_on x (link_of (crossings_of moments) x) (crossings_of moments))
+  pub closed :
+      (hosts : Network) (moments : List Moment) → MayBe hosts moments → (receiver sender : Life) (own : Bool) →
+      AreOurs hosts receiver.host receiver.peer →
+      IsBeside receiver fate.Open (kept_in moments).book.lives (kept_in moments).fates →
+      stage (contacts_of moments) receiver (crossings_of moments) ≡ Going own true →
+      Contains (kept_in moments).book.lives sender → Match (crossings_of moments) receiver sender →
+      (receiver.bits ≡ sender.bits) × (receiver.messages ≡ sender.messages)
+  pub arrived :
+      (hosts : Network) (moments : List Moment) → MayBe hosts moments → (newer older : List Crossing) (f : Flow) →
+      crossings_of moments ≡ newer ++ crossing.Answer answer.Rfnm f ∷ older → (f.link.0 == 0) ≡ false →
+      AreOurs hosts f.source f.destination →
+      promised.HasArrived (crossings_of moments) older (kept_in moments).book.lives (kept_in moments).fates f
+  pub over :
+      (hosts : Network) (moments : List Moment) → MayBe hosts moments →
+      AreLeft (contacts_of moments) (crossings_of moments) (lives_among hosts.strange (kept_in moments).book.lives)
+      (beside_among hosts.strange (kept_in moments).book.lives (kept_in moments).fates)
+  pub contacts :
+      (hosts : Network) (moments : List Moment) → MayBe hosts moments →
+      AreContacts (contacts_among hosts.strange (contacts_of moments)) (crossings_of moments)
+  pub within :
+      (hosts : Network) (moments : List Moment) → MayBe hosts moments →
+      CountNothingLater (contacts_of moments) (crossings_of moments)
+      (lives_among hosts.strange (kept_in moments).book.lives)
+  pub formed :
+      (hosts : Network) (moments : List Moment) → MayBe hosts moments →
+      FormedBook (crossings_of moments) (lives_among hosts.strange (mixed_kept hosts.strange moments).book.lives)
+  pub arrives :
+      (hosts : Network) (moments : List Moment) (m : HostMessage) → MayBe hosts (Crossed (crossing.In m) ∷ moments) →
+      (receiver : Life) → AreOurs hosts receiver.host receiver.peer → ComesFor m moments receiver →
+      Arrives m moments receiver
+  pub comes :
+      (hosts : Network) (moments : List Moment) (m : HostMessage) → MayBe hosts (Crossed (crossing.In m) ∷ moments) →
+      (receiver sender : Life) → AreOurs hosts receiver.host receiver.peer →
+      ComesBetween m moments receiver sender → ComesFor m moments receiver
+  pub answered :
+      (hosts : Network) (moments : List Moment) (f : Flow) → AreOurs hosts f.source f.destination →
+      MayBe hosts (Crossed (crossing.Answer answer.Rfnm f) ∷ moments) → HasArrived f moments
+  pub rests :
+      (hosts : Network) (moments : List Moment) → MayBe hosts moments → (receiver sender : Life) →
+      AreOurs hosts receiver.host receiver.peer → AreAtRest moments receiver sender →
+      (receiver.bits ≡ sender.bits) × (receiver.messages ≡ sender.messages)
+  pub agree :
+      (hosts : Network) (moments : List Moment) → MayBe hosts moments → (receiver sender : Life) →
+      AreOurs hosts receiver.host receiver.peer → (settled : AreSettled moments receiver sender) →
+      Agree receiver settled.rest.end.end settled.giver.end
+  pub calm :
+      (hosts : Network) (moments : List Moment) → MayBe hosts moments → (receiver sender : Life) →
+      AreOurs hosts receiver.host receiver.peer → (calm : AreCalm moments receiver sender) →
+      (receiver.bits ≡ sender.bits) × (receiver.messages ≡ sender.messages) ×
+      Agree receiver calm.end.end calm.giver.end × AreOpen calm.end.end calm.giver.end
+  pub sent :
+      (hosts : Network) (moments : List Moment) → MayBe hosts moments → (receiver sender : Life) →
+      AreOurs hosts receiver.host receiver.peer → Contains (kept_in moments).book.lives receiver →
+      Contains (kept_in moments).book.lives sender → Match (crossings_of moments) receiver sender →
+      IsGranted receiver sender.messages (length sender.bits)
+
 -- The same of the book of every world, whatever its carrier is made of.
 pub record Worlds {C : Type 0} (seen : C → Seen) : Type 0 where
   pub source :
       (hosts : List Host) (w : WorldState C) → IsLawful seen hosts w → (receiver : Life) →
       Contains w.kept.book.lives receiver → receives receiver ≡ true → (receiver.bits ≡ [] → ⊥) →
       Source w.kept.book.crossings w.kept.book.lives receiver
+  pub was_sent :
+      (hosts : List Host) (w : WorldState C) → IsLawful seen hosts w →
+      EachWasSent w.kept.book.crossings w.kept.book.lives
   pub closes : (hosts : List Host) (w : WorldState C) → (lawful : IsLawful seen hosts w) → AllClose lawful.whole.moments
   pub came : (hosts : List Host) (w : WorldState C) → (lawful : IsLawful seen hosts w) → AllCame lawful.whole.moments
   pub handed :

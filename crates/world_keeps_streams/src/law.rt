@@ -18,7 +18,7 @@ ghost use Rattle.world_keeps_streams.specs.Came.{CameAll, HadTakenCls, HasTakenC
 ghost use Rattle.world_keeps_streams.specs.Rests.{Agree, AreAtRest, AreCalm, AreSettled};
 ghost use Rattle.world_keeps_lives.specs.WorkedFormed.{gave};
 ghost use Rattle.world_keeps_streams.specs.Closes.{IsClosedByPartner, TookHanded, WasClosedBy, WasClosedByPartner};
-ghost use Rattle.world_keeps_streams.specs.Laws.{Programs, Streams, Lives, Worlds, WorkedCalls};
+ghost use Rattle.world_keeps_streams.specs.Laws.{Programs, Streams, Among, Lives, Worlds, WorkedCalls};
 
 use interface::Carrier;
 
@@ -31,6 +31,11 @@ pub fn programs()
 /// and how many connections of theirs are over, which both count alike.
 pub fn streams()
     ensures { Streams }
+{}
+
+/// The lives between two hosts with programs, whatever strangers do.
+pub fn among()
+    ensures { Among }
 {}
 
 /// The lives of a book, over every list of moments in which what crosses is a run of the mailboxes.

@@ -9,3 +9,4 @@ pub mod law;
 pub mod worked;
 pub mod worked_arrived;
 pub mod worked_ends;
+pub mod worked_sent;

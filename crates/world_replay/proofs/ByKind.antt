@@ -1,11 +1,17 @@
 -- The replay of events over any kind of world of which what a replay needs is known.
-use Rattle.world_replay.proofs.Common.{◌≡◌, ℕ, ◌+◌, ◌-◌, ◌<◌, zero, suc, Bool, true, false, List, [], ◌∷◌, ◌++◌, length, Option, None, Some, Result, Ok, Err, refl, ap, ap₂, sym, subst, ◌∙◌, arith, append-nil, Appends, Appends-nil, Appends-trans, Detail, Gains, Writes, output, EventEnds, mixed_stops, MixedFault, gained, EndsSeenBy, HappensBy, StopsBy, mixed_refusal, IsReplayable}
-use Rattle.std.proofs.Common.{OnOk}
+use Rattle.world_replay.proofs.Common.{◌≡◌, ℕ, ◌+◌, ◌-◌, ◌<◌, ◌≤◌, zero, suc, Bool, true, false, List, [], ◌∷◌, ◌++◌, length}
+use Rattle.world_replay.proofs.Common.{Option, None, Some, Result, Ok, Err, refl, ap, ap₂, sym, subst, ◌∙◌, arith}
+use Rattle.world_replay.proofs.Common.{append-nil, Appends, Appends-nil, Appends-trans, Detail, Gains, Writes, output}
+use Rattle.world_replay.proofs.Common.{EventEnds, mixed_stops, MixedFault, gained, HappensBy, StopsBy, mixed_refusal}
+use Rattle.world_replay.proofs.Common.{IsReplayable}
+use Rattle.std.proofs.Common.{OnOk, add-one}
+use Rattle.replay.proofs.lemmas.{one_written}
 use Rattle.replay.specs.declared.events.ReplayFault.{ReplayFault}
 use Rattle.world_replay.specs.Steps.{OneEnds}
 use Rattle.std.proofs.lemmas.List.{append_assoc}
 use Rattle.replay.specs.declared.events.ReplayFault.TheVariants as fault
-use Rattle.world_replay.specs.Kinds.{BeginsAs, HandsOn, IsSeenBy, Kind}
+use Rattle.world_replay.specs.Kinds.{BeginsAs, Kind}
+use Rattle.world_replay.specs.Seen.{AreSeenBy, CalmHandsOn, IsSeenBy, RoundPrints, RoundsPass}
 use Rattle.world_replay.specs.Output.{Shown}
 use Rattle.world_replay.specs.Steps.{Tells}
 use Rattle.world_replay.proofs.News.{output-append}
@@ -18,11 +24,25 @@ pub whether_ok : {T E Q : Type 0} (r : Result T E) → Q → OnOk r Q
 whether_ok (Ok x) q = q
 whether_ok (Err e) q = tt
 
-pub last_seen : {S E : Type 0} (kind : Kind S E) (events : List E) (e : E) (new : S) (flushed : Bool)
-    → IsSeenBy kind e new flushed → EndsSeenBy kind (events ++ e ∷ []) new flushed
-last_seen kind [] e new flushed h = h
-last_seen kind (x ∷ []) e new flushed h = h
-last_seen kind (x ∷ y ∷ events) e new flushed h = last_seen kind (y ∷ events) e new flushed h
+-- one event more
+pub one_seen : {S E W : Type 0} (kind : Kind S E) (detail : Detail) (contents : W → Option (List ℕ)) (flushed : W → Bool)
+    (old mid new : S × W) (events : List E) (e : E) → AreSeenBy kind detail contents flushed old events mid
+    → Writes detail (HappensBy kind mid.0 e new.0) (contents mid.1) (contents new.1)
+    → CalmHandsOn kind detail contents flushed (kind.rounds e) mid new
+    → AreSeenBy kind detail contents flushed old (events ++ e ∷ []) new
+one_seen kind detail contents flushed old mid new events e before goes handed =
+    let both = one_written (IsSeenBy kind detail contents flushed) (λ s. []) old mid new events e None None None
+    (record { shown = before.0; is_shown = before.1; written = tt })
+    (record { shown = goes.shown; is_shown = record { happens = goes.is_shown; printed = goes.written; handed = handed }; written = tt }) in
+    (both.shown, both.is_shown)
+
+-- one round more, which is seen if it has to be
+pub one_round_seen : {S E W : Type 0} (kind : Kind S E) (detail : Detail) (contents : W → Option (List ℕ)) (flushed : W → Bool)
+    (passed : ℕ) (old mid new : S × W) → RoundsPass (RoundPrints kind detail contents) (λ at. flushed at.1 ≡ true) passed old mid
+    → RoundPrints kind detail contents passed mid new → (64 ≤ passed → flushed new.1 ≡ true)
+    → RoundsPass (RoundPrints kind detail contents) (λ at. flushed at.1 ≡ true) (passed + 1) old new
+one_round_seen kind detail contents flushed passed old mid new before goes seen =
+    subst (λ n. RoundsPass (RoundPrints kind detail contents) (λ at. flushed at.1 ≡ true) n old new) (sym (add-one passed)) (mid, before, goes, seen)
 
 -- this many rounds have passed, and what they showed is written
 abbrev pub HaveRounds : {S E : Type 0} → Kind S E → Detail → ℕ → S → S → Option (List ℕ) → Option (List ℕ) → Type 0
@@ -217,11 +237,6 @@ module _ {S E : Type 0} (kind : Kind S E) (is : IsReplayable kind) where
       → EventEnds kind detail old (kind.calm total) (Ok tt) now a b
   all_passed detail zero total old now a b h some same = absurd (omega (arith, some))
   all_passed detail (suc n) total old now a b h some same = subst (λ (m : ℕ). Writes detail (HappensBy kind old (kind.calm m) now) a b) same h
-
-  -- a calm is handed on, or rests
-  pub calm_seen : (rounds : ℕ) (new : S) (flushed : Bool) → HandsOn (Some rounds) (kind.rests new) flushed
-      → IsSeenBy kind (kind.calm rounds) new flushed
-  calm_seen rounds new flushed h = subst (λ (o : Option ℕ). HandsOn o (kind.rests new) flushed) (sym (is.has_rounds rounds)) h
 
   -- an event that is a calm
   pub calm_event : (detail : Detail) (old : S) (e : E) (rounds : ℕ) (r : Result (Unit {0}) ReplayFault) (new : S)

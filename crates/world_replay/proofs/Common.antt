@@ -47,7 +47,7 @@ pub use Rattle.std.specs.Io.KnownBytes.{Appends}
 pub use Rattle.std.specs.List.{All}
 pub use Rattle.world_replay.specs.Driven.{Brings, Drive, Drives, Goes, IsCall, IsDriven, IsDrivenIn, IsShown, Raw, Round}
 pub use Rattle.world_replay.specs.Gains.{Gains, gained}
-pub use Rattle.world_replay.specs.Kinds.{EndsSeenBy, HappensBy, StopsBy, mixed_kind}
+pub use Rattle.world_replay.specs.Kinds.{HappensBy, StopsBy, mixed_kind}
 pub use Rattle.world_replay.specs.Output.{Noticed, Writes, mixed_refusal, notices_of, output, reports_of, shown_in_turn, shown_notices, shown_text, told_in_turn}
 pub use Rattle.world_replay.specs.Replay.{HappensInCalm, IsOfCalm, Replays, world_kind}
 pub use Rattle.world_replay.specs.Rounds.{Again, EndsAgain, EndsRepeated, Repeated, RoundOf, crosses, turns_in}

@@ -1,5 +1,5 @@
 -- The events of a script over any kind of world, and what they show. `Replay` says the same of worlds whose hosts all run the program.
-use Rattle.std.specs.Prelude.{◌≡◌, ◌⊎◌, ℕ, ◌<◌, ◌≤◌, Bool, true, false, List, [], ◌∷◌, ◌++◌, Option, Some, None, Result, Ok}
+use Rattle.std.specs.Prelude.{◌≡◌, ℕ, ◌≤◌, Bool, true, false, List, [], ◌++◌, Option, Some, None, Result, Ok}
 use Rattle.interface.specs.Calls.{Calls}
 use Rattle.net_sim.specs.Book.{Kept}
 use Rattle.net_sim.specs.Rest.{IsAtRest}
@@ -82,22 +82,6 @@ RunsOutBy kind old events new shown = EndsBy kind (StopsBy kind) old events new 
 
 abbrev pub BreaksOffBy : {S E : Type 0} → Kind S E → S → List E → S → List Shown → Type 0
 BreaksOffBy kind old events new shown = EndsBy kind (MayDoBy kind) old events new shown
-
--- ---- when what a long calm prints is handed on
-
--- a calm of more than 64 rounds has come to rest, or all that it printed is handed on
-abbrev pub HandsOn : Option ℕ → Type 0 → Bool → Type 0
-HandsOn None Rests flushed = Unit {0}
-HandsOn (Some rounds) Rests flushed = 64 < rounds → Rests ⊎ (flushed ≡ true)
-
-abbrev pub IsSeenBy : {S E : Type 0} → Kind S E → E → S → Bool → Type 0
-IsSeenBy kind e new flushed = HandsOn (kind.rounds e) (kind.rests new) flushed
-
--- so it is where events end with one
-abbrev pub EndsSeenBy : {S E : Type 0} → Kind S E → List E → S → Bool → Type 0
-EndsSeenBy kind [] new flushed = Unit {0}
-EndsSeenBy kind (e ∷ []) new flushed = IsSeenBy kind e new flushed
-EndsSeenBy kind (e ∷ next ∷ events) new flushed = EndsSeenBy kind (next ∷ events) new flushed
 
 -- ---- worlds with strangers
 

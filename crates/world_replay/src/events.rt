@@ -1,15 +1,16 @@
 //! Replaying the events of a world's script.
 
-ghost use Rattle.std.specs.Prelude.{◌≡◌, ◌≤◌, ◌<◌, Err, List, Ok, OnOk, false, length, true, ℕ};
+ghost use Rattle.std.specs.Prelude.{◌≡◌, ◌≤◌, ◌<◌, Err, List, Ok, OnOk, Some, false, length, true, ℕ};
 ghost use Rattle.interface.specs.Messages.{SafeMessages};
 ghost use Rattle.net_sim.specs.Carriers.{shown};
 ghost use Rattle.net_sim.specs.Rest.{IsAtRest};
 ghost use Rattle.net_sim.specs.World.{CalmGives};
 ghost use Rattle.replay.specs.Failing.{TellsCannotWrite};
-ghost use Rattle.world_replay.specs.Kinds.{BreaksOffBy, EndsSeenBy, IsSeenBy, ReplaysBy, RunsOutBy, mixed_kind};
+ghost use Rattle.world_replay.specs.Kinds.{BreaksOffBy, ReplaysBy, RunsOutBy, mixed_kind};
 ghost use Rattle.world_replay.specs.Output.{Shown, Writes};
 ghost use Rattle.world_replay.specs.Replay.{EndsIn, HappensInCalm, MayDo, MayStep, Replays, StopsIn, StopsInCalm};
-ghost use Rattle.world_replay.specs.Seen.{EndsSeen};
+ghost use Rattle.world_replay.specs.Replay.{world_kind};
+ghost use Rattle.world_replay.specs.Seen.{AreSeenBy, CalmHandsOn};
 ghost use Rattle.world_replay.specs.Steps.{EventEnds, OneEnds};
 
 use crate::print::{check_memory, print_news, print_refusal};
@@ -60,9 +61,8 @@ pub fn replay_events<C: Carrier, W: Output>(
     // `CannotWrite` is answered where a write failed, and nowhere else
     ensures failed { TellsCannotWrite result (W.failed writer.new) }
 
-    // where they end with a long calm that doesn't rest, all that it printed is handed on: so each of its rounds after
-    // the 64th is seen when it has passed
-    ensures seen { OnOk result (EndsSeen (shown C.calls) events.items world.new (W.flushed writer.new)) }
+    // each round of a calm after the 64th is seen when it has passed: all that was printed by then is handed on
+    ensures seen { OnOk result (AreSeenBy (world_kind (shown C.calls)) detail W.contents W.flushed (world.old, writer.old) events.items (world.new, writer.new)) }
 
     // a write failed: the event had already happened, or the rounds of a calm up to that one
     ensures cannot_write { result ≡ Err ReplayFault.CannotWrite → (lines : List Shown) × EndsIn (shown C.calls) (MayDo (shown C.calls)) world.old events.items world.new lines }
@@ -100,7 +100,7 @@ pub fn replay_mixed_events<C: Carrier, W: Output>(
     ensures failed { TellsCannotWrite result (W.failed writer.new) }
 
     // a long calm is seen, as in `replay_events`
-    ensures seen { OnOk result (EndsSeenBy (mixed_kind (shown C.calls)) events.items world.new (W.flushed writer.new)) }
+    ensures seen { OnOk result (AreSeenBy (mixed_kind (shown C.calls)) detail W.contents W.flushed (world.old, writer.old) events.items (world.new, writer.new)) }
 
     // a write failed: the event had already happened, or the rounds of a calm up to that one
     ensures cannot_write { result ≡ Err ReplayFault.CannotWrite → (lines : List Shown) × BreaksOffBy (mixed_kind (shown C.calls)) world.old events.items world.new lines }
@@ -213,7 +213,7 @@ fn replay_in_turn<R: Replayed, W: Output>(
 ) -> Result<(), ReplayFault>
     requires { W.failed writer.old ≡ false }
     ensures failed { TellsCannotWrite result (W.failed writer.new) }
-    ensures seen { OnOk result (EndsSeenBy R.kind events.items world.new (W.flushed writer.new)) }
+    ensures seen { OnOk result (AreSeenBy R.kind detail W.contents W.flushed (world.old, writer.old) events.items (world.new, writer.new)) }
     ensures replayed { OnOk result (Writes detail (ReplaysBy R.kind world.old events.items world.new) (W.contents writer.old) (W.contents writer.new)) }
     ensures memory { result ≡ Err ReplayFault.OutOfMemory → Writes detail (RunsOutBy R.kind world.old events.items world.new) (W.contents writer.old) (W.contents writer.new) }
     ensures cannot_write { result ≡ Err ReplayFault.CannotWrite → (lines : List Shown) × BreaksOffBy R.kind world.old events.items world.new lines }
@@ -236,7 +236,7 @@ fn replay_event<R: Replayed, W: Output>(
 ) -> Result<(), ReplayFault>
     requires { W.failed writer.old ≡ false }
     ensures ends { EventEnds R.kind detail world.old event result world.new (W.contents writer.old) (W.contents writer.new) }
-    ensures seen { OnOk result (IsSeenBy R.kind event world.new (W.flushed writer.new)) }
+    ensures seen { OnOk result (CalmHandsOn R.kind detail W.contents W.flushed (R.kind.rounds event) (world.old, writer.old) (world.new, writer.new)) }
     ensures failed { TellsCannotWrite result (W.failed writer.new) }
 {
     R::is_replayable();
@@ -259,7 +259,7 @@ fn replay_calm<R: Replayed, W: Output>(
     requires some { 0 < rounds }
     requires whole { W.failed writer.old ≡ false }
     ensures ends { EventEnds R.kind detail world.old (R.kind.calm rounds) result world.new (W.contents writer.old) (W.contents writer.new) }
-    ensures seen { OnOk result (IsSeenBy R.kind (R.kind.calm rounds) world.new (W.flushed writer.new)) }
+    ensures seen { OnOk result (CalmHandsOn R.kind detail W.contents W.flushed (Some rounds) (world.old, writer.old) (world.new, writer.new)) }
     ensures failed { TellsCannotWrite result (W.failed writer.new) }
 {
     R::is_replayable();

@@ -23,21 +23,27 @@ from dorydate.program import NoProgram
 WORLDS = 40  # random ones that are tried, unless another number is named
 
 
-def arguments() -> argparse.Namespace:
-    """What the command is asked for."""
-    parser = argparse.ArgumentParser(
+def parser() -> argparse.ArgumentParser:
+    """The words of the command line."""
+    made = argparse.ArgumentParser(
         prog="dorydate conformance", description="Has dialogues with a host's program that somebody else wrote."
     )
     names = [it.name for it in (*DIALOGUES, *UNDERWAY)]
-    parser.add_argument("--list", action="store_true", help="list the dialogues, and run nothing")
-    parser.add_argument("--only", action="append", metavar="NAME", choices=names, help="a dialogue; may be given again")
-    parser.add_argument("--worlds", type=int, metavar="N", help=f"random worlds to try ({WORLDS}; with --only none)")
-    parser.add_argument("--script", action="store_true", help="print what was done where that goes wrong")
-    parser.add_argument("--log", metavar="FOLDER", help="write a log of each dialogue, with the lives of the program")
-    parser.add_argument("command", nargs=argparse.REMAINDER, help="the program, which hears and answers lines")
-    asked = parser.parse_args()
+    made.add_argument("--list", action="store_true", help="list the dialogues, and run nothing")
+    made.add_argument("--only", action="append", metavar="NAME", choices=names, help="a dialogue; may be given again")
+    made.add_argument("--worlds", type=int, metavar="N", help=f"random worlds to try ({WORLDS}; with --only none)")
+    made.add_argument("--script", action="store_true", help="print what was done where that goes wrong")
+    made.add_argument("--log", metavar="FOLDER", help="write a log of each dialogue, with the lives of the program")
+    made.add_argument("command", nargs=argparse.REMAINDER, help="the program, which hears and answers lines")
+    return made
+
+
+def arguments() -> argparse.Namespace:
+    """What the command is asked for."""
+    words = parser()
+    asked = words.parse_args()
     if not asked.list and not asked.command:
-        parser.error("which program? For example: python3 examples/ncp.py")
+        words.error("which program? For example: python3 examples/ncp.py")
     if asked.worlds is None:
         asked.worlds = 0 if asked.only else WORLDS
     return asked

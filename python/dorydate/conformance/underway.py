@@ -12,6 +12,7 @@ from collections.abc import Iterator
 
 from dorydate.conformance.steps import HERE, MINE, Dialogue, Step, fits, in_words, joined
 from dorydate.conformance.trial import Finding, spelled
+from dorydate.contract import Known
 from dorydate.contract.hears import Hears, Wrong
 from dorydate.coupling import Mute, Speaks
 from dorydate.explore.pattern import Names
@@ -134,11 +135,11 @@ UNDERWAY = (
 
 
 class UnderWay:
-    """A program and a peer, and how far a dialogue is."""
+    """A program and a peer, and how far a dialogue is. Its own log is judged by what is known of it."""
 
-    def __init__(self, program: Speaks, dialogue: Dialogue) -> None:
+    def __init__(self, program: Speaks, dialogue: Dialogue, known: Known = Known()) -> None:
         self.dialogue = dialogue
-        self.mine = Hears(program, MINE)
+        self.mine = Hears(program, MINE, known)
         self.names: Names = ()
 
     def finding(self) -> Finding | None:

@@ -42,8 +42,13 @@ class Coming(State):
         heard = commands_of(act.text)
         self.begin(act.peer, pair, any(it.code in SIGNALS for it in heard))
         for at, it in enumerate(heard):
-            if act.ignored is None or at not in act.ignored or it.code not in (RTS, STR):
+            if act.ignored is not None and at in act.ignored and it.code in (RTS, STR):
+                self.ignores(it)
+            else:
                 self.hears(act.peer, pair, act.ignored, it)
+
+    def ignores(self, it: Command) -> None:
+        """A request isn't entered."""
 
     def hears(self, peer: Peer, pair: Pair, ignored: Ignored, it: Command) -> None:
         """A command is taken."""
@@ -125,13 +130,14 @@ class Coming(State):
 
     def stops(self) -> None:
         """The host stops."""
+        self.why = "stopped"
         for peer, pair in self.pairs.items():
             kept = [*pair.ends.values()]
             self.drop(pair, "stopped", "stopped")
             if "stopped" in self.lacks:
                 pair.restore(kept)
             else:
-                self.pairs[peer] = Pair("stopped")
+                self.pairs[peer] = Pair(self.why)
                 self.pairs[peer].past = pair.past
 
     def starts(self) -> None:

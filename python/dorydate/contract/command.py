@@ -17,20 +17,26 @@ from dorydate.contract.logs import BadLog, read_log
 from dorydate.contract.rules import RULES, STANDARD, Rule
 
 
-def arguments() -> argparse.Namespace:
-    """What the command is asked for."""
-    parser = argparse.ArgumentParser(
+def parser() -> argparse.ArgumentParser:
+    """The words of the command line."""
+    made = argparse.ArgumentParser(
         prog="dorydate keeps", description="Says whether each host of a log keeps the contract, by its own lines only."
     )
-    parser.add_argument("log", nargs="?", help="the log; `-` is standard input")
-    parser.add_argument("--host", metavar="H", help="only this host, as 0/2")
+    made.add_argument("log", nargs="?", help="the log; `-` is standard input")
+    made.add_argument("--host", metavar="H", help="only this host, as 0/2")
     without = "don't ask for a rule; may be given again"
-    parser.add_argument("--without", action="append", default=[], choices=[*RULES], metavar="RULE", help=without)
-    parser.add_argument("--whole", action="store_true", help="the log begins when its hosts start")
-    parser.add_argument("--rules", action="store_true", help="list the rules")
-    asked = parser.parse_args()
+    made.add_argument("--without", action="append", default=[], choices=[*RULES], metavar="RULE", help=without)
+    made.add_argument("--whole", action="store_true", help="the log begins when its hosts start")
+    made.add_argument("--rules", action="store_true", help="list the rules")
+    return made
+
+
+def arguments() -> argparse.Namespace:
+    """What the command is asked for."""
+    words = parser()
+    asked = words.parse_args()
     if not asked.rules and asked.log is None:
-        parser.error("which log?")
+        words.error("which log?")
     return asked
 
 

@@ -124,13 +124,11 @@ class Own(Going, Coming):
 
     def why_not_open(self, pair: Pair, act: Opened, there: End | None) -> str:
         """The rule by which an end isn't open that a user is notified of."""
-        if act.sockets in pair.unlinked:
-            return "links"
         if there is not None and there.partner is None and act.sockets in pair.past:
             past, why = pair.past[act.sockets]
             if past.partner is not None and why != "over" and why not in self.without:
                 return why
-        return "opens"
+        return "links" if act.sockets in pair.unlinked else "opens"
 
     def arrived(self, act: Arrived) -> None:
         end = self.at(act, "takes")

@@ -85,7 +85,7 @@ class Going(State):
         end = pair.enter(peer, (own, foreign))
         if end.gone:
             self.breaks("over", f"{it} goes, and the partner's CLS for the connection before has not come")
-        if end.asked is not None:
+        elif end.asked is not None:
             self.breaks("once", f"{named(end)} has asked before, in line {end.asked}")
         if it.code == STR:
             end.size = last

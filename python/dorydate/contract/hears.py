@@ -7,7 +7,7 @@ from typing import Protocol
 from collections.abc import Sequence
 
 from dorydate.contract.acts import Goes, Starts, Stops
-from dorydate.contract.fold import Broken
+from dorydate.contract.fold import Broken, Known
 from dorydate.contract.lines import CROSSES, DEEDS, Hearing, crossed, crossing_of
 from dorydate.contract.logs import FORMS
 from dorydate.model.bits import Bits
@@ -34,9 +34,9 @@ class Wrong(Exception):
 class Hears:
     """A program, its own log as lines, and the fold of it."""
 
-    def __init__(self, program: Speaks, host: str) -> None:
+    def __init__(self, program: Speaks, host: str, known: Known = Known()) -> None:
         self.program, self.host = program, host
-        self.hearing = Hearing(host)
+        self.hearing = Hearing(host, known=known)
         self.log: list[str] = []
         self.busy: set[tuple[str, int]] = set()  # peers and links with a message that has no answer
         self.sent: list[Goes] = []

@@ -45,6 +45,7 @@ class State:
         self.pending: list[End] = []  # with messages that came and aren't counted
         self.touched: list[Pair] = []  # with ends that the last crossing ended
         self.assumed: set[Peer] = set()  # taken as through a reset when the log began
+        self.why = "through"  # the rule by which the host is away from one whom it hasn't met
 
     def breaks(self, rule: str, why: str) -> None:
         """Something is against a rule."""
@@ -53,7 +54,7 @@ class State:
 
     def pair(self, peer: Peer) -> Pair:
         if peer not in self.pairs:
-            self.pairs[peer] = Pair()
+            self.pairs[peer] = Pair(self.why)
         return self.pairs[peer]
 
     def begin(self, peer: Peer, pair: Pair, is_signal: bool) -> None:

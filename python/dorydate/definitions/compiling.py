@@ -6,6 +6,7 @@ import re
 from collections.abc import Callable, Iterator, Sequence
 
 from dorydate.definitions.computing import (
+    NOTHING,
     Abstraction,
     Arithmetic,
     Bound,
@@ -358,7 +359,8 @@ class Compiler:
             if meaning.module == WORDS and meaning.definition.name in NATIVE:
                 self.functions[key] = Literal(NATIVE[meaning.definition.name])
             elif taken:
-                found = Lambda(taken, Running(self, meaning).run, opens=self.opening(meaning))
+                running = Running(self, meaning)
+                found = Lambda(taken, running.run, opens=self.opening(meaning, running))
                 if self.gives_statement(meaning.definition.type):
                     found.says = Delayed(Name(meaning.definition.name), meaning.module, {}, None)
                 self.functions[key] = found
@@ -371,12 +373,12 @@ class Compiler:
         assert isinstance(meaning, Defined)
         return Lambda(max(len(it.given) for it in meaning.definition.clauses), Running(self, meaning).run)
 
-    def opening(self, meaning: Defined) -> Callable[[Sequence[Expression]], Expression] | None:
-        """What opens a call of a definition that has one clause and no patterns."""
+    def opening(self, meaning: Defined, running: Running) -> Callable[[Sequence[Expression]], Expression]:
+        """What opens a call of a definition: of one that has one clause and no patterns the term that it means."""
         named = Named(self, meaning)
         names = named.plain_names()
         if names is None:
-            return None
+            return lambda arguments: Fitting(named, arguments, running)
         known = names
         return lambda arguments: Opening(named, arguments, known)
 
@@ -525,6 +527,12 @@ class Running:
         self.clauses: list[tuple[list[Pattern], Expression]] | None = None
 
     def made(self) -> list[tuple[list[Pattern], Expression]]:
+        """Its clauses: their patterns and values."""
+        if self.clauses is None:
+            self.clauses = self.compiled()
+        return self.clauses
+
+    def compiled(self) -> list[tuple[list[Pattern], Expression]]:
         found = []
         for clause in self.meaning.definition.clauses:
             names = {it.term.text for it in clause.patterns if isinstance(it, Implicit) and isinstance(it.term, Name)}
@@ -539,12 +547,11 @@ class Running:
         memory = self.compiler.memory
         if key in memory:
             return memory[key]
-        if self.clauses is None:
-            self.clauses = self.made()
+        clauses = self.made()
         self.compiler.calls += 1
         if 0 < self.compiler.most_calls < self.compiler.calls:
             raise NotComputed("too many calls")
-        for patterns, body in self.clauses:
+        for patterns, body in clauses:
             env: Env = {}
             if all([pattern.fits(it, env) for pattern, it in zip(patterns, arguments)]):
                 value = body.value(env)
@@ -553,3 +560,20 @@ class Running:
                 memory[key] = value
                 return value
         raise NotComputed(f"no clause of {self.meaning.definition.name} fits")
+
+
+class Fitting(Call):
+    """A call of a definition by clauses: the first that fits can be matched, once its patterns can be compared."""
+
+    __slots__ = ("running",)
+
+    def __init__(self, function: Named, arguments: Sequence[Expression], running: Running) -> None:
+        super().__init__(function, arguments)
+        self.running = running
+
+    def match(self, env: Env, wanted: Value) -> Iterator[None]:
+        for patterns, body in self.running.made():
+            inner: Env = {}
+            if all(pattern.fits(Delayed(NOTHING, "", env, it), inner) for pattern, it in zip(patterns, self.arguments)):
+                yield from body.ways(inner, wanted)
+                return

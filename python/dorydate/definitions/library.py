@@ -51,6 +51,7 @@ class Form:
     type: str
     name: str
     crate: str = ""
+    module: str = ""
 
 
 @dataclass(frozen=True)
@@ -172,7 +173,7 @@ class Library:
                 it = here.own[name]
                 return Defined(module, it) if isinstance(it, Definition) else Typed(module, it)
             if name in here.forms:
-                return Form(here.forms[name].name, name)
+                return Form(here.forms[name].name, name, module=module)
             if name in here.passed:
                 return self.found(here.names[name][0], here.names[name][1])
         if module == WORDS:

@@ -49,7 +49,7 @@ def terms_of(item: Definition | Structure) -> tuple[object, ...]:
     """The terms of which an item is made."""
     if isinstance(item, Structure):
         return (item.type, item.binders, item.members)
-    return (item.type, *((it.patterns, it.value) for it in item.clauses))
+    return (item.type, *((it.patterns, it.value, it.where) for it in item.clauses))
 
 
 def meanings_in(library: Library, term: object, module: str) -> Iterator[Meaning]:
@@ -67,7 +67,7 @@ def meanings_in(library: Library, term: object, module: str) -> Iterator[Meaning
         and term.of.text not in here.names
     ):
         yield from form_or_other(library, module, term.name, term.of.text)
-    elif isinstance(term, tuple):
+    elif isinstance(term, (tuple, list)):
         for it in term:
             yield from meanings_in(library, it, module)
     elif hasattr(term, "__dataclass_fields__"):

@@ -15,7 +15,8 @@ from dorydate.explain.topology import has_strangers
 from dorydate.sentences.table import TABLE, filled, pattern, sentences
 
 FAULTS = sentences("faults")
-RULES = {group: [(of, pattern(it), name) for of, it, name in TABLE[f"rules of {group}"]] for group in ("lines", "events", "words")}
+GROUPS = ("lines", "events", "users", "words")
+RULES = {group: [(of, pattern(it), name) for of, it, name in TABLE[f"rules of {group}"]] for group in GROUPS}
 SWAPPED = pattern(TABLE["swapped"])  # a host whose two numbers change places
 
 RAW_EVENTS = {name: form.split(" ") for name, form in sentences("forms").items()}
@@ -78,7 +79,8 @@ def unknown_event(word: str, raw: bool = True) -> str:
     if raw and word in ASKED:
         return filled(FAULTS["of programs"], word=word)
     events = RAW_EVENTS if raw else WORLD_EVENTS
-    hint = meant(word.lower(), [*events]) or filled(FAULTS["events"], events=", ".join(events))
+    known = by_rules(RULES["users"], word.lower(), raw) or meant(word.lower(), [*events])
+    hint = known or filled(FAULTS["events"], events=", ".join(events))
     return f"{filled(FAULTS['unknown'], word=shown(word.encode()))} {hint}"
 
 

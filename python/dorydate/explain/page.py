@@ -11,18 +11,13 @@ from pathlib import Path
 from dorydate.ending import shown_name
 from dorydate.program import NoProgram
 from dorydate.released import PAGE, octets_of
-from dorydate.where import ROOT, here, repository
+from dorydate.where import ROOT, repository
 
-USAGE = here("usage: ./explain --page [OTHER-FILE] < INPUT > page.html")
 EMPTY = '<script type="application/json" id="opened">[]</script>'  # the inputs with which a packed page opens
 
 
-def main(octets: bytes, words: list[str]) -> int:
-    """Writes the page to standard output. The exit status."""
-    others = [it for it in words if it != "--page"]
-    if words.count("--page") > 1 or len(others) > 1 or any(it.startswith("-") for it in others):
-        print(USAGE, file=sys.stderr)
-        return 1
+def main(octets: bytes, others: list[str]) -> int:
+    """Writes the page of an input and of other files to standard output. The exit status."""
     given = [(name_of_input(), octets)]
     for path in others:
         try:

@@ -23,12 +23,13 @@ import json
 import re
 import sys
 import time
-from collections.abc import Iterator
+from collections.abc import Iterator, Mapping
 from dataclasses import asdict, dataclass, fields
 from pathlib import Path
 
 from dorydate.explore.confirm import confirm
 from dorydate.explore.engine import Workers, batches_of
+from dorydate.explore.kinds import pools
 from dorydate.explore.named import SEARCHES
 from dorydate.explore.pattern import BadPattern, read
 from dorydate.explore.search import MATCHES, Job, NotKept, Progress
@@ -37,7 +38,7 @@ from dorydate.network import BadNetwork, Network
 from dorydate.program import Program
 
 RUNS = 100_000  # schedules of a search, where the table says nothing
-MOST_SEEDS = 1_000_000  # of one range
+MOST_SEEDS = 1_000_000  # of one row
 COLUMNS = ("search", "network", "raw", "carrier", "foreign", "pattern", "kinds", "seeds", "runs", "matches", "audit")
 
 
@@ -85,10 +86,13 @@ class Campaign:
     @staticmethod
     def read(table: str, out: str) -> Campaign:
         """The campaign of a table."""
-        reader = csv.DictReader(io.StringIO(table))
-        if unknown := [it for it in reader.fieldnames or () if it not in COLUMNS]:
-            raise BadTable(f"`{unknown[0]}` is no column of a campaign; there are {', '.join(COLUMNS)}")
-        tasks = [task for number, row in enumerate(reader, 1) for task in tasks_of(number, {key: value or "" for key, value in row.items()})]
+        reader = csv.DictReader(io.StringIO(table.removeprefix("\ufeff")))  # (as spreadsheets begin a file)
+        try:
+            if unknown := [it for it in reader.fieldnames or () if it not in COLUMNS]:
+                raise BadTable(f"`{unknown[0][:40]}` is no column of a campaign; there are {', '.join(COLUMNS)}")
+            tasks = [task for number, row in enumerate(reader, 1) for task in tasks_of(number, cells_of(number, row))]
+        except csv.Error as why:
+            raise BadTable(f"line {reader.line_num + 1}: {why}") from None
         if not tasks:
             raise BadTable("the table has no rows")
         return Campaign(tasks, out)
@@ -158,16 +162,26 @@ def result_of(task: Task, progress: Progress, wrong: str) -> Result:
 # ---- rows
 
 
+def cells_of(number: int, row: Mapping[str | None, str | list[str] | None]) -> dict[str, str]:
+    """The cells of a row by their columns; empty where there is none."""
+    if None in row:
+        raise BadTable(f"row {number}: it has more cells than there are columns")
+    return {str(key): str(value or "") for key, value in row.items()}
+
+
 def tasks_of(number: int, row: dict[str, str]) -> Iterator[Task]:
     """The searches of a row."""
     try:
         named = SEARCHES[row["search"]] if row.get("search") else None
+        is_yes(row.get("raw", ""))
         network = network_of(row) if row.get("network") else named.network if named else None
         pattern = row.get("pattern") or (named.pattern if named else "")
         if network is None:
             raise BadTable("it names neither a search nor a network")
         read(pattern)
         kinds = tuple(row["kinds"].split()) if row.get("kinds") else named.kinds if named else ()
+        if unknown := [it for it in kinds if it not in pools(network)]:
+            raise BadTable(f"`{unknown[0][:40]}` is no kind of event of this network; there are {', '.join(pools(network))}")
         for seed in seeds_of(row.get("seeds") or "1"):
             job = Job(network.toml(), pattern, kinds, seed, is_yes(row.get("audit", "")))
             yield Task(number, row.get("search") or row["network"], job, number_of(row.get("runs", ""), RUNS), number_of(row.get("matches", ""), MATCHES))
@@ -205,7 +219,7 @@ def seeds_of(words: str) -> list[int]:
         if not re.fullmatch(r"[0-9]{1,18}(-[0-9]{1,18})?", word):
             raise BadTable(f"`{word[:40]}` is no seed, and no range of seeds")
         many = range(int(first), int(last or first) + 1)
-        if len(many) > MOST_SEEDS:
-            raise BadTable(f"`{word}` are more than {MOST_SEEDS:,} seeds")
+        if len(seeds) + len(many) > MOST_SEEDS:
+            raise BadTable(f"`{words[:40]}` are more than {MOST_SEEDS:,} seeds")
         seeds += many
     return seeds

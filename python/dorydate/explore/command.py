@@ -48,7 +48,8 @@ WRONGS = (
 
 
 def parser() -> argparse.ArgumentParser:
-    made = argparse.ArgumentParser("explore", description="Finds a short script that prints what a pattern asks for (docs/python.md).")
+    about = "Finds a short script that prints what a pattern asks for (docs/python.md)."
+    made = argparse.ArgumentParser(here("./explore"), description=about)
     made.add_argument("name", nargs="?", help="a search with a name (--list), or a file with a topology")
     made.add_argument("--list", action="store_true", help="print the searches with names")
     made.add_argument("--find", metavar="PATTERN", help="what is looked for")

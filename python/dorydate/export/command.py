@@ -7,7 +7,7 @@ import sys
 from collections.abc import Sequence
 from pathlib import Path
 
-from dorydate import ending
+from dorydate import ending, named
 from dorydate.export import chart, pcapng, perfetto, shiviz, wire
 from dorydate.export.replayed import Replayed, replayed
 from dorydate.inside import CannotFollow, state_of
@@ -29,15 +29,24 @@ FORMATS = {
 }
 
 
+def events(word: str) -> int:
+    """A number of events."""
+    if not word.isdecimal():
+        raise argparse.ArgumentTypeError(f"{word} is no number of events")
+    return int(word)
+
+
 def parser() -> argparse.ArgumentParser:
-    made = argparse.ArgumentParser(prog=here("./export"), description=here("Writes the replay of an input in the format of another tool: ./export --pcapng < INPUT > FILE (docs/export.md)"))
+    about = "Writes the replay of an input in the format of another tool: ./export --pcapng INPUT > FILE"
+    made = argparse.ArgumentParser(here("./export"), description=f"{here(about)} (docs/export.md)")
     which = made.add_mutually_exclusive_group(required=True)
     for name, what in FORMATS.items():
         which.add_argument(f"--{name}", action="store_const", const=name, dest="format", help=what)
     of_wire = "what crossed the wire of a live network, for Wireshark; its file `wire` is the input"
     which.add_argument("--wire", action="store_const", const="wire", dest="format", help=of_wire)
     which.add_argument("--dissector", action="store_true", help="print the path of the dissector for Wireshark, which reads what --pcapng writes")
-    made.add_argument("--after", type=int, metavar="N", help="of a slide: after this many events (all of them)")
+    made.add_argument("file", nargs="?", metavar="INPUT", help="the input, else standard input")
+    made.add_argument("--after", type=events, metavar="N", help="of a slide: after this many events (all of them)")
     return made
 
 
@@ -69,6 +78,7 @@ def main(words: Sequence[str] | None = None) -> int:
     if chosen.dissector:
         print(DISSECTOR)
         return 0
+    named.open_input(chosen.file)
     if sys.stdin.isatty():
         print("export: reading from the terminal; Ctrl-D ends the input", file=sys.stderr)
     try:

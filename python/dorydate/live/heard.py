@@ -3,7 +3,9 @@
     python3 -m dorydate.live.heard ./host -q 0/2 PORT echo 1
 
 Here this end of the wire is its IMP: what the host is handed goes to it in frames, and what it says until it is silent
-is its answer. Nobody can ask its user for something, so of the dialogues those remain in which nobody does.
+is its answer. Nobody can ask its user for something, so of the dialogues those remain in which nobody does, and those
+with a server on socket 1, in which answers are held back or say that a message was lost. By the contract its own log is
+judged as far as one without deeds can be.
 """
 
 from __future__ import annotations
@@ -16,8 +18,11 @@ from contextlib import contextmanager, suppress
 
 from dorydate import ending
 from dorydate.conformance.dialogues import DIALOGUES
+from dorydate.conformance.served import SERVED
 from dorydate.conformance.steps import MINE, Dialogue
 from dorydate.conformance.trial import Finding, Trial
+from dorydate.conformance.underway import UnderWay
+from dorydate.contract import Known
 from dorydate.coupling import Mute
 from dorydate.export.leaders import crossing_of
 from dorydate.live.frames import LAST, READY, Assembly, Frame, WireFault
@@ -95,15 +100,18 @@ def started(command: Sequence[str], port: int) -> Iterator[socket.socket]:
             process.wait()
 
 
-def without_a_user(dialogues: Sequence[Dialogue]) -> list[Dialogue]:
+def on_the_wire() -> list[Dialogue]:
     """The dialogues in which nothing is asked of the host's user."""
-    return [it for it in dialogues if all(step.who != "user" for step in it.steps)]
+    return [it for it in (*DIALOGUES, *SERVED) if all(step.who != "user" for step in it.steps)]
 
 
 def had(command: Sequence[str], dialogue: Dialogue, port: int = 0, simulator: Program | None = None) -> Finding | None:
     """A dialogue with a host that is started for it: what is wrong, None where nothing is."""
     with started(command, port) as imp:
-        return Trial(Heard(imp), dialogue, simulator).finding()
+        heard = Heard(imp)
+        if dialogue in SERVED:
+            return UnderWay(heard, dialogue, Known(deeds=False)).finding()
+        return Trial(heard, dialogue, simulator).finding()
 
 
 def main() -> int:
@@ -112,7 +120,7 @@ def main() -> int:
         said = f"which host? It is {MINE}, and the word PORT is that of its IMP: ./host {MINE} PORT echo 1"
         print(f"heard: {said}", file=sys.stderr)
         return 1
-    chosen, wrong = without_a_user(DIALOGUES), 0
+    chosen, wrong = on_the_wire(), 0
     try:
         for dialogue in chosen:
             found = had(command, dialogue)
@@ -121,7 +129,8 @@ def main() -> int:
     except (Mute, NoProgram) as why:
         print(f"heard: {why}", file=sys.stderr)
         return 1
-    print(f"{len(chosen)} dialogues, {wrong} wrong; {len(DIALOGUES) - len(chosen)} need the user of the host")
+    others = len(DIALOGUES) + len(SERVED) - len(chosen)
+    print(f"{len(chosen)} dialogues, {wrong} wrong; {others} need the user of the host")
     return 1 if wrong else 0
 
 

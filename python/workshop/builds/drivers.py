@@ -23,6 +23,7 @@ USES = "bit_messages hex icp imp_channel imp_node interface leader1822 link_tabl
 # an IMP without hosts and lines has nothing to announce
 EXAMPLE = b"imp 1 0 0\nroute\n= ok\n"
 CORES = os.cpu_count() or 1
+SECONDS = 300  # for the rows of a file
 
 
 def crates_below(lines: Mapping[str, Sequence[str]], name: str) -> list[str]:
@@ -76,8 +77,11 @@ def write_case(folder: str, name: str, rows: Iterable[str]) -> None:
 
 
 def printed(program: str, rows: str) -> str:
-    """What the program prints for rows. Where it ends otherwise than it should, its words are printed last."""
-    ran = subprocess.run([program], input=rows.encode(), capture_output=True)
+    """What the program prints for rows. Where it ends otherwise than it should, or not in time, that comes last."""
+    try:
+        ran = subprocess.run([program], input=rows.encode(), capture_output=True, timeout=SECONDS)
+    except subprocess.TimeoutExpired:
+        return f"\n(it had not ended after {SECONDS} seconds)"
     if ran.returncode == 0 and not ran.stderr:
         return ran.stdout.decode()
     return f"{ran.stdout.decode()}\n(status {ran.returncode}) {ran.stderr.decode(errors='replace')[-2000:]}"

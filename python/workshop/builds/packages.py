@@ -16,7 +16,10 @@ import tarfile
 import tempfile
 from collections.abc import Mapping
 from dataclasses import dataclass
+from pathlib import Path
 
+from dorydate import completion
+from dorydate.__main__ import SHORT
 from dorydate.definitions.promise import PACKED, files_of_promise
 from workshop.builds.manual import manual
 from workshop.documents.versions import for_debian, for_python
@@ -24,7 +27,11 @@ from workshop.parts import ROOT, read_octets
 from workshop.tools import python_with
 
 LICENCES = ("LICENSE-APACHE", "LICENSE-MIT")
-BY_NODE = ("arpasim.mjs", "base85.js", "many.js", "once.js", "program.js", "released.js", "runner.js")  # of web/run
+# of web/run
+BY_NODE = (
+    "arpasim.mjs", "base85.js", "many.js", "named.js", "named.mjs", "oldest.js", "once.js", "program.js",
+    "released.js", "runner.js",
+)  # fmt: skip
 EPOCH = 315_532_800  # 1980, the first time that a zip archive can hold
 WABT = "/usr/share/wabt/wasm2c"  # where Debian's wabt has what the C needs
 SUMMARY = "the ARPANET's packet network, as a simulator that is proved"
@@ -100,7 +107,8 @@ def wheel(release: Release, folder: str) -> str:
     """Writes the wheel, which has the native program, the module and the page, and answers its name."""
     with tempfile.TemporaryDirectory() as room:
         shutil.copytree(f"{ROOT}/python/dorydate", f"{room}/dorydate", ignore=shutil.ignore_patterns("__pycache__"))
-        shutil.copyfile(f"{ROOT}/python/pyproject.toml", f"{room}/pyproject.toml")
+        for name in ("pyproject.toml", "dorydate_commands.py"):
+            shutil.copyfile(f"{ROOT}/python/{name}", f"{room}/{name}")
         for place, _, names in os.walk(room):
             os.chmod(place, 0o755)
             for name in names:
@@ -108,7 +116,7 @@ def wheel(release: Release, folder: str) -> str:
         write(f"{room}/dorydate/release", {**of_module(release), "arpasim": (release.native, 0o755)})
         write(f"{room}/dorydate/examples", {**examples(), **programs()})
         write(f"{room}/dorydate/definitions/{PACKED.name}", promised())
-        write(room, licences())
+        write(room, {**licences(), "arpasim.1": (manual(release.version).encode(), 0o644)})
         build = "import sys; from setuptools import build_meta; build_meta.build_wheel(sys.argv[1])"
         env = {**os.environ, "SOURCE_DATE_EPOCH": str(EPOCH), "PYTHONDONTWRITEBYTECODE": "1"}
         ran = subprocess.run([python_with_setuptools(), "-c", build, folder], cwd=room, env=env, capture_output=True, text=True)
@@ -140,7 +148,7 @@ def npm_package(release: Release) -> bytes:
         "license": "MIT OR Apache-2.0",
         "type": "module",
         "engines": {"node": ">=18"},
-        "bin": {"dorydate": "run/dorydate.mjs", "arpasim": "run/arpasim.mjs"},
+        "bin": {"dorydate": "run/dorydate.mjs", "arpasim": "run/named.mjs"},
     }
     files = {**of_module(release, (*BY_NODE, "dorydate.mjs")), **licences(), **below("examples", examples())}
     files["package.json"] = ((json.dumps(facts, indent=2) + "\n").encode(), 0o644)
@@ -164,33 +172,95 @@ def c_of_module(release: Release) -> bytes:
 # ---- Debian
 
 
-def debian_package(release: Release, folder: str) -> str:
-    """Writes the package for Debian and those that follow it, and answers its name."""
-    name = f"dorydate_{for_debian(release.version)}_amd64.deb"
-    packed = {
-        "usr/bin/arpasim": (release.native, 0o755),
-        "usr/share/man/man1/arpasim.1.gz": (gzip.compress(manual(release.version).encode(), 9, mtime=0), 0o644),
-        "usr/share/doc/dorydate/changelog.gz": (gzip.compress(read_octets(f"{ROOT}/CHANGELOG.md"), 9, mtime=0), 0o644),
-        "usr/share/doc/dorydate/copyright": (b"Dorydate is under MIT or Apache-2.0, as you choose.\n\n" + read_octets(f"{ROOT}/LICENSE-MIT"), 0o644),
-        "usr/share/doc/dorydate/note.json": (release.note, 0o644),
-        "usr/share/dorydate/dorydate.html": (release.page, 0o644),
-        **below("usr/share/doc/dorydate/examples", examples()),
-    }
-    size = sum(len(octets) for octets, _ in packed.values()) // 1024
-    control = f"""Package: dorydate
-Version: {for_debian(release.version)}
+OWN = "usr/lib/dorydate"  # where a Debian has the package for Python, and in it the program and the page
+BY_PYTHON = """#!/bin/sh
+# The commands of the package dorydate: dorydate --help
+at=$(readlink -f "$0") && at=${at%/bin/*}
+. "$at/lib/dorydate/python"
+exec python3 -S "$at/lib/dorydate/dorydate_commands.py" "$@"
+"""
+NAMED = """#!/bin/sh
+# Replays an input: arpasim --help
+at=$(readlink -f "$0") && at=${at%/bin/*}
+in=$at/lib/dorydate/dorydate
+exec "$in/arpasim.sh" "$in/release/arpasim" "$at/share/dorydate/examples" "$@"
+"""
+COPYRIGHT = b"Dorydate is under MIT or Apache-2.0, as you choose.\n\n"
+CONTROL = """Package: dorydate
+Version: {version}
 Architecture: amd64
 Maintainer: Dorydate maintainers <maintainers@dorydate.invalid>
 Installed-Size: {size}
+Recommends: python3 (>= 3.10)
 Section: science
 Priority: optional
-Description: {SUMMARY}
+Description: {summary}
  arpasim replays a script of events on a network of IMPs and hosts, and prints
- what crosses each interface. The workbench, a page for a browser, is
+ what crosses each interface. dorydate, which is written in Python, explains
+ what it prints. The workbench, a page for a browser, is
  /usr/share/dorydate/dorydate.html.
 """
+
+
+def package_of_python() -> Files:
+    """The package for Python, without what is made."""
+    found = sorted(Path(f"{ROOT}/python/dorydate").rglob("*"))
+    kept = [it for it in found if it.is_file() and "__pycache__" not in it.parts]
+    modes = {it: 0o755 if it.name == "arpasim.sh" else 0o644 for it in kept}
+    return {str(it.relative_to(f"{ROOT}/python")): (it.read_bytes(), modes[it]) for it in kept}
+
+
+def completed(program: bytes) -> Files:
+    """What shells complete, as they look for it."""
+    with tempfile.TemporaryDirectory() as room:
+        write(room, {"arpasim": (program, 0o755)})
+        said = subprocess.run([f"{room}/arpasim", "--help"], stdout=subprocess.PIPE, text=True, check=True).stdout
+    known = completion.commands(said, [*SHORT], [*examples()])
+    made = {it: completion.script(it, known).encode() for it in completion.SHELLS}
+    names = ("arpasim", "dorydate")
+    return {
+        **{f"usr/share/bash-completion/completions/{it}": (made["bash"], 0o644) for it in names},
+        "usr/share/zsh/vendor-completions/_dorydate": (made["zsh"], 0o644),
+        **{f"usr/share/fish/vendor_completions.d/{it}.fish": (made["fish"], 0o644) for it in names},
+    }
+
+
+def debian_files(release: Release) -> Files:
+    """What the package for Debian installs, but for the page, of which there is one file."""
+    return {
+        "usr/bin/arpasim": (NAMED.encode(), 0o755),
+        "usr/bin/dorydate": (BY_PYTHON.encode(), 0o755),
+        f"{OWN}/python": (read_octets(f"{ROOT}/tools/python"), 0o644),
+        f"{OWN}/dorydate_commands.py": (read_octets(f"{ROOT}/python/dorydate_commands.py"), 0o644),
+        **below(OWN, package_of_python()),
+        **below(f"{OWN}/dorydate/release", {"arpasim": (release.native, 0o755), "note.json": (release.note, 0o644)}),
+        **below(f"{OWN}/dorydate/definitions/{PACKED.name}", promised()),
+        **completed(release.native),
+        "usr/share/man/man1/arpasim.1.gz": (gzip.compress(manual(release.version).encode(), 9, mtime=0), 0o644),
+        "usr/share/doc/dorydate/changelog.gz": (gzip.compress(read_octets(f"{ROOT}/CHANGELOG.md"), 9, mtime=0), 0o644),
+        "usr/share/doc/dorydate/copyright": (COPYRIGHT + read_octets(f"{ROOT}/LICENSE-MIT"), 0o644),
+        **below("usr/share/dorydate/examples", {**examples(), **programs()}),
+        "usr/share/dorydate/dorydate.html": (release.page, 0o644),
+    }
+
+
+LINKS = {
+    f"{OWN}/dorydate/release/dorydate.html": "../../../../share/dorydate/dorydate.html",
+    f"{OWN}/dorydate/examples": "../../../share/dorydate/examples",
+    "usr/share/doc/dorydate/examples": "../../dorydate/examples",
+}
+
+
+def debian_package(release: Release, folder: str) -> str:
+    """Writes the package for Debian and those that follow it, and answers its name."""
+    name = f"dorydate_{for_debian(release.version)}_amd64.deb"
+    packed = debian_files(release)
+    size = sum(len(octets) for octets, _ in packed.values()) // 1024
+    control = CONTROL.format(version=for_debian(release.version), size=size, summary=SUMMARY)
     with tempfile.TemporaryDirectory() as room:
         write(room, {**packed, "DEBIAN/control": (control.encode(), 0o644)})
+        for place, other in LINKS.items():
+            os.symlink(other, f"{room}/{place}")
         for place, _, _ in os.walk(room):
             os.chmod(place, 0o755)
         env = {**os.environ, "SOURCE_DATE_EPOCH": str(EPOCH)}

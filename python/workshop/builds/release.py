@@ -1,4 +1,4 @@
-"""Makes a release of the proved program in a folder: ./release [FOLDER]
+"""Makes a release of the proved program in a folder: ./release [--gate CLONE] [FOLDER]
 
 FOLDER, else out/release, is made anew, and gets
 
@@ -19,6 +19,7 @@ what runs without a build.
 
 from __future__ import annotations
 
+import argparse
 import hashlib
 import html
 import os
@@ -37,7 +38,7 @@ from workshop.wasm.make import read_note
 from workshop.wasm.pack import title_of
 
 LESSON = re.compile(r"\]\(\.\./examples/([a-z0-9-]+)\)")
-STATIC = "the machine code of the proved program that the gate tried, linked statically with Debian's C library"
+STATIC = "the machine code of the proved program, linked statically with Debian's C library"
 PAGE = "the workbench, which holds the module that was made of the same LLVM module"
 WHEEL = "the package for pip, with both"
 
@@ -80,12 +81,12 @@ def write_lessons(folder: str) -> int:
     return len(names)
 
 
-def gate(kept: str) -> str:
-    """What the gate said when it last passed on these sources."""
+def gate(kept: str, clone: str) -> str:
+    """What the gate said when it last passed on these sources, in a clone: it is kept by their hash."""
     try:
-        return text_of(f"{os.path.dirname(kept)}/gate").strip()
+        return text_of(f"{clone}/out/{os.path.basename(os.path.dirname(kept))}/gate").strip()
     except OSError:
-        return "none has passed on these sources in this clone"
+        return "the whole gate has not passed on these sources; `rt ci` has proved each crate of them"
 
 
 def tag() -> str:
@@ -98,7 +99,7 @@ def sha256(octets: bytes) -> str:
     return hashlib.sha256(octets).hexdigest()
 
 
-def facts(kept: str) -> dict[str, object]:
+def facts(kept: str, clone: str) -> dict[str, object]:
     """What the note of a release says of all its files."""
     module = read_note(f"{kept}.wasm")
     told = {key: module[key] for key in ("sources", "toolchain", "mark", "proved")}
@@ -106,7 +107,7 @@ def facts(kept: str) -> dict[str, object]:
         **told,
         "version": version(),
         "commit": printed("git", "rev-parse", "HEAD"),
-        "gate": gate(kept),
+        "gate": gate(kept, clone),
         "linked": printed("gcc", "--version").splitlines()[0] + ", " + printed("ldd", "--version").splitlines()[0],
         "module": sha256(read_octets(f"{kept}.wasm")),
     }
@@ -202,21 +203,21 @@ def write_packages(folder: str, release: Release) -> str:
     return packages.wheel(release, folder)
 
 
-def put_programs(kept: str, folder: str) -> dict[str, object]:
+def put_programs(kept: str, folder: str, clone: str) -> dict[str, object]:
     """Puts each form of a proved program, the page and the licences into a folder. What a note says of them."""
     page = printed("tools/keep-wasm")
     static_program(kept, f"{folder}/arpasim")
     shutil.copy2(kept, f"{folder}/arpasim-dynamic")
     for name, path in {"arpasim.wasm": f"{kept}.wasm", "arpasim64.wasm": f"{kept}64.wasm", "dorydate.html": page, **{it: f"{ROOT}/{it}" for it in LICENCES}}.items():
         shutil.copyfile(path, f"{folder}/{name}")
-    return facts(kept)
+    return facts(kept, clone)
 
 
-def make(folder: str) -> None:
-    """Makes the release."""
+def make(folder: str, clone: str) -> None:
+    """Makes the release of what was proved here; the gate may have passed in another clone."""
     kept = kept_program()
     empty(folder)
-    note = put_programs(kept, folder)
+    note = put_programs(kept, folder, clone)
     count = write_lessons(f"{folder}/lessons")
     site.made(f"{folder}/site", f"{folder}/dorydate.html", kept)
     wheel = write_packages(folder, noted(folder, note))
@@ -227,14 +228,16 @@ def make(folder: str) -> None:
 
 
 def main() -> int:
-    if sys.argv[1:] in (["--help"], ["-h"]):
-        print((__doc__ or "").strip())
-        return 0
-    if len(sys.argv) > 2 or sys.argv[1:] and sys.argv[1].startswith("-"):
-        sys.exit("usage: ./release [FOLDER]")
-    folder = os.path.abspath(sys.argv[1]) if sys.argv[1:] else f"{ROOT}/out/release"
+    about, more = (__doc__ or "").strip().split("\n\n", 1)
+    plain = argparse.RawDescriptionHelpFormatter
+    words = argparse.ArgumentParser("./release", description=about, epilog=more, formatter_class=plain)
+    words.add_argument("folder", nargs="?", default=f"{ROOT}/out/release", metavar="FOLDER")
+    where = "the clone in which .ci/run passed on these sources (this one)"
+    words.add_argument("--gate", default=ROOT, metavar="CLONE", help=where)
+    asked = words.parse_args()
+    folder = os.path.abspath(asked.folder)
     try:
-        make(folder)
+        make(folder, asked.gate)
     except (Refused, NotTheSame, site.NoSite, OSError, subprocess.CalledProcessError) as why:
         print(f"release: {why}", file=sys.stderr)
         return 1

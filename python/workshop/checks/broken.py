@@ -5,7 +5,7 @@ from __future__ import annotations
 from collections.abc import Iterator
 from typing import Any
 
-from dorydate.model import arrived
+from dorydate.model import arrived, was_sent
 from dorydate.model.audit import Lives, Log, audit, match
 from dorydate.model.book import Life
 from dorydate.model.clean import unclean
@@ -58,6 +58,8 @@ def broken(world: World) -> str | None:
         return "a clean reset"
     if part := audit(log, lives):
         return part
+    if was_sent.broken(log, lives):
+        return "messages of a connection"
     if next(pairs_that_differ(log, lives), None):
         return "lives that continue and are no connection"
     if any(notice.startswith("error") for _, notice, _ in world.book.notices):

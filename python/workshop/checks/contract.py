@@ -1,10 +1,12 @@
-"""The contract of a host: its stored scripts, and the promise in random worlds of hosts that keep it (half a minute).
+"""The contract of a host: its stored scripts, and the promise in random worlds of hosts that keep it (a minute).
 
 Tries the contract (python/dorydate/contract): ./check contract [WORLDS [FIRST]], or ./check contract --power [WORLDS]
 
 Each file of without/contract has one host that lacks one rule: the promise breaks by just the clauses that it names,
-and by their own logs that host breaks that rule and the others none. Then WORLDS random worlds of each kind, from the
-seed FIRST:
+and by their own logs that host breaks that rule and the others none. The rules that the crate `host_contract` defines
+are computed over these own logs and over 150 of random worlds, which keep them or not: the first act that
+breaks one, and which it breaks, has to be what the judge says. Then WORLDS random worlds of each kind, from the seed
+FIRST:
 
   keepers     hosts that do any act that the contract allows next, and strangers, over anything that the mailboxes allow
   around      two keepers while most of a stored script happens, as far as they may
@@ -21,17 +23,23 @@ from __future__ import annotations
 import os
 import sys
 from collections import Counter
-from collections.abc import Callable
+from collections.abc import Callable, Iterator
 from functools import lru_cache
+from itertools import chain, count, islice
 
 from dorydate.contract import RULES, Broken
 from dorydate.contract.worlds.play import Acts, some_world, tally
 from dorydate.contract.worlds.programs import among, of_program, tried
 from dorydate.contract.worlds.stored import Run, Script, wrong_with
+from dorydate.definitions.deciding import Decider
+from dorydate.definitions.library import Library
+from dorydate.definitions.promise import crates_folder, deeply, sources_below
 from workshop.parts import ROOT, text_of
+from workshop.second.own_logs import Contract, by_judge, difference
+from workshop.second.random_logs import OwnLog, by_host, of_world
 
 FOLDER = f"{ROOT}/without/contract"
-WORLDS, POWER = 200, 60
+WORLDS, POWER, LOGS = 200, 60, 150
 Tried = tuple[Counter[str], list[str]]  # what worlds came to, and what is wrong
 
 
@@ -53,6 +61,30 @@ def stored() -> int:
     wrong += [f"{it.name}: no script" for it in RULES.values() if it.is_needed and it.name not in scripts()]
     print(*[f"check contract: {it}" for it in wrong], sep="\n", end="\n" if wrong else "")
     print(f"check contract: {len(scripts())} scripts, in each of which one host lacks one rule, and the promise breaks")
+    return 1 if wrong else 0
+
+
+def own_logs(first: int) -> Iterator[OwnLog]:
+    """The own logs of the stored scripts, and of random worlds."""
+    yield from (it for one in acts().values() for it in by_host(one))
+    yield from islice(chain.from_iterable(map(of_world, count(first))), LOGS)
+
+
+def defined(first: int) -> int:
+    """Whether the crate's definitions and the judge say the same of own logs. The status."""
+    contract = Contract(Decider(Library(sources_below(crates_folder()))))
+    seen: Counter[str] = Counter()
+    wrong = [f"the crate and the judge don't both have {it}" for it in sorted({*RULES} ^ {*contract.rules})]
+    for host, log in own_logs(first):
+        contract.decider.forget()
+        if why := difference(contract, host, log):
+            wrong.append(why)
+        breach = by_judge(host, log)
+        seen[breach[1][0] if breach else "kept"] += 1
+    print(*[f"check contract: {it}" for it in wrong[:1]], sep="\n", end="\n" if wrong else "")
+    total, rules = sum(seen.values()), len(seen) - ("kept" in seen)
+    kept = f"{seen['kept']} of which are kept, and {rules} rules are broken by the others"
+    print(f"check contract: {total} own logs by the definitions, {kept}; {len(wrong)} are judged otherwise", flush=True)
     return 1 if wrong else 0
 
 
@@ -88,11 +120,11 @@ KINDS: dict[str, Callable[[int], Tried]] = {
 }
 
 
-def worlds(kind: str, count: int, first: int) -> int:
+def worlds(kind: str, many: int, first: int) -> int:
     """Tries random worlds of a kind. The status."""
     come_to: Counter[str] = Counter()
     broken = 0
-    for seed in range(first, first + count):
+    for seed in range(first, first + many):
         one, wrong = KINDS[kind](seed)
         come_to += one
         if wrong:
@@ -103,12 +135,12 @@ def worlds(kind: str, count: int, first: int) -> int:
     return 1 if broken else 0
 
 
-def power(count: int) -> int:
+def power(many: int) -> int:
     """Says how often the lack of a rule is seen in random worlds."""
     for rule, script in acts().items():
-        some = sum(bool(some_world(seed, (rule,)).world.broken()) for seed in range(count))
-        near = sum(bool(some_world(seed, (rule,), [script]).world.broken()) for seed in range(count))
-        print(f"{rule}: {some} and {near} of {count}", flush=True)
+        some = sum(bool(some_world(seed, (rule,)).world.broken()) for seed in range(many))
+        near = sum(bool(some_world(seed, (rule,), [script]).world.broken()) for seed in range(many))
+        print(f"{rule}: {some} and {near} of {many}", flush=True)
     return 0
 
 
@@ -116,5 +148,5 @@ def main() -> int:
     words = sys.argv[1:]
     if words[:1] == ["--power"]:
         return power(int(words[1]) if words[1:] else POWER)
-    count, first = (int(words[at]) if words[at:] else it for at, it in enumerate((WORLDS, 0)))
-    return max([stored(), *(worlds(kind, count, first) for kind in KINDS)])
+    many, first = (int(words[at]) if words[at:] else it for at, it in enumerate((WORLDS, 0)))
+    return max([stored(), deeply(lambda: defined(first)), *(worlds(kind, many, first) for kind in KINDS)])

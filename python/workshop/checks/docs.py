@@ -1,4 +1,4 @@
-"""Each link, source, name and number in the documents is there, and what is made of them is as it is made (seconds): ./check docs [--write | --lower | --rule WORD.. | --tags]
+"""Each link, source, name and number in the documents is there, and what is made of them is as it is made (seconds): ./check docs [--write | --lower | --rule [WORD..] | --tags]
 
 Checks what the documents name: each link leads to a file, each source that is named by its path exists, and each name
 that the claims about a crate have is in the code.
@@ -7,18 +7,19 @@ crates/NAME/CLAIMS.md is about the crate in whose folder it lies. What it says b
 is proved or not. Each name there between backquotes, or its last part if it is a path, has to be declared in src/ or specs/ of
 that crate, or of one that it is built on: as a function, a type, a variant, a constant, a clause or a definition. `law::NAME` has
 to be a function of that crate's module law, and the name of a file a file of the crate or of the repository. Below that heading
-so it is with the definitions in the tables; the rows beside them have to be functions of a crate of tests, or of that crate, or
-stored inputs of cases/; and each other name has to be one of these, or that of a planted bug of the crate.
+so it is with the definitions in the tables; the rows beside them have to be functions of that crate or of one above it, stored
+calls or stored inputs of cases/; and each other name has to be one of these, or that of a planted bug of the crate.
 
 docs/PROVED.md names each clause after the path of its call, `CRATE::..::CALL`, and docs/measured/crates.md leads to the claims of each crate.
 crates.txt names for each crate only others that its sources name. The version of the program is that of the package, the citation and the change log.
 
-The drawings of docs/pictures, the page of crates, the index of rules, the page of what must be believed and that of the package in Python have to be as they are made, the numbers in drawings as the sources have them, and
+The drawings of docs/pictures, the page of crates, the page of what must be believed and that of the package in Python have to be as they are made, the numbers in drawings as the sources have them, and
 no text of a drawing over another one or over a line. Figures in prose have to be those of their tables (workshop.documents.figures), and each crate's octets of
-.antt within its budget, which a commit raises only with a line that says what for (workshop.documents.budget). No lemma
+.antt within its budget, which a commit raises only with a line that says what for (workshop.documents.budget), and walks
+over the cases of an event, a request or a refusal only become fewer (workshop.documents.walks). No lemma
 states what another lemma or one of std states, beyond those that do so already (workshop.documents.stated). Words of the house's dialect are counted against limits that can only fall
 (workshop.documents). With --write these and the page of planted bugs are made anew, and with --lower the limits are lowered to what is counted.
-With --tags a file `tags` is made, by which editors find where a name is declared. With --rule the rules in which all of the words occur are printed, each with its definition, its functions, its rows and its planted bugs.
+With --tags a file `tags` is made, by which editors find where a name is declared. With --rule the rules in which all of the words occur are printed (without words an index of all), each with its definition, its functions, its rows and its planted bugs.
 
 Each file in released/ has the hash that its note names.
 
@@ -42,7 +43,7 @@ from collections.abc import Iterator
 from workshop.checks import release
 from workshop.documents import anchors, believed, budget, clauses, common, crates_page, dead, dialect, figures
 from workshop.documents import named_crates, notebook, paragraphs, planted, reference, rules, stated, tags, tests
-from workshop.documents import versions
+from workshop.documents import versions, walks
 from workshop.drawings import pictures
 from workshop.parts import ROOT
 from workshop.rows import row_names
@@ -77,16 +78,10 @@ def missing_files() -> Iterator[str]:
                 yield f"{os.path.relpath(page, ROOT)}: no source {name}"
 
 
-def stands_on(crate: str) -> list[str]:
+def built_on(crate: str) -> list[str]:
     """The libraries that crates.txt names for a crate."""
     found = re.search(rf"^{crate}:(.*)$", text_of(f"{ROOT}/crates.txt"), re.MULTILINE)
     return found[1].split() if found else []
-
-
-@functools.cache
-def crates_of_tests() -> list[str]:
-    """The crates that hold tests only."""
-    return sorted(os.path.basename(it) for it in glob.glob(f"{ROOT}/crates/*tests"))
 
 
 @functools.cache
@@ -98,9 +93,8 @@ def declared_in(crate: str) -> tuple[set[str], set[str]]:
 
 
 def crates_with_claims() -> list[str]:
-    """The crates that have something to claim: all of crates.txt but those of tests."""
-    crates = re.findall(r"^(\w+):", text_of(f"{ROOT}/crates.txt"), re.MULTILINE)
-    return [it for it in crates if it not in crates_of_tests()]
+    """The crates, each of which has something to claim."""
+    return re.findall(r"^(\w+):", text_of(f"{ROOT}/crates.txt"), re.MULTILINE)
 
 
 def missing_claims() -> Iterator[str]:
@@ -124,8 +118,15 @@ def names_in(text: str) -> list[str]:
     return re.findall(r"`([^`\n]+)`", text)
 
 
+@functools.cache
+def with_those_above(crate: str) -> list[str]:
+    """A crate, and those that crates.txt says to use it."""
+    return [crate, *(it for it in crates_with_claims() if crate in built_on(it))]
+
+
 def is_row(name: str, crate: str) -> bool:
-    return name in row_names() or any(is_known(name, it) for it in (*crates_of_tests(), crate)) or os.path.exists(f"{ROOT}/cases/{name}")
+    is_stored = name in row_names() or any(glob.glob(f"{ROOT}/cases/{at}{name}") for at in ("", "*/"))
+    return is_stored or any(is_known(name, it) for it in with_those_above(crate))
 
 
 def is_planted_bug(name: str, crate: str) -> bool:
@@ -179,7 +180,7 @@ def is_known(name: str, crate: str) -> bool:
     names, laws = declared_in(crate)
     if first == "law" and rest:
         return rest[-1] in laws
-    below = stands_on(crate)
+    below = built_on(crate)
     is_declared = name.split("::")[-1] in names.union(*(declared_in(it)[0] for it in below))
     is_there = os.path.exists(f"{ROOT}/{name}") or os.path.isdir(f"{ROOT}/crates/{name}")
     return is_declared or name in below or is_there or name.startswith("-")
@@ -246,25 +247,26 @@ def made() -> list[str]:
     """What isn't as it is made, and what the drawings and the words of the documents have that they shouldn't."""
     print("check docs:", dialect.summary())
     print("check docs:", budget.summary())
+    print("check docs:", walks.summary())
     print("check docs:", stated.summary())
     return [
         *failed_tests(), *paragraphs.faults(), *anchors.faults(), *pictures.faults(), *crates_page.faults(),
-        *planted.faults(), *rules.faults(), *believed.faults(), *notebook.faults(), *reference.faults(),
+        *planted.faults(), *believed.faults(), *notebook.faults(), *reference.faults(),
         *figures.faults(), *budget.faults(), *common.faults(), *stated.faults(), *dialect.faults(),
         *named_crates.faults(), *versions.faults(), *release.faults(),
     ]
 
 
 def write() -> int:
-    """Makes the drawings and the pages of crates, of planted bugs, of rules, of what must be believed and of the package."""
+    """Makes the drawings and the pages of crates, of planted bugs, of what must be believed and of the package."""
     crates_page.write()
     planted.write()
-    rules.write()
     believed.write()
     notebook.write()
     figures.write()
     reference.write()
-    print(f"check docs: docs/measured/crates.md, planted.md, rules.md, promise.md, docs/experiment.ipynb, docs/reference.md and {pictures.write()} drawings are written")
+    pages = "docs/measured/crates.md, planted.md, promise.md, docs/experiment.ipynb, docs/reference.md"
+    print(f"check docs: {pages} and {pictures.write()} drawings are written")
     return 0
 
 
@@ -272,13 +274,14 @@ def main() -> int:
     parser = argparse.ArgumentParser(prog="check docs", add_help=False)
     parser.add_argument("--write", action="store_true", help="make the drawings and the pages that are made of the sources")
     parser.add_argument("--lower", action="store_true", help="lower the limits of the dialect to what is counted")
-    parser.add_argument("--rule", metavar="WORD", nargs="+", help="print the rules with these words, each with its definition and functions")
+    rule = "print the rules with these words, each with its definition and functions, or an index"
+    parser.add_argument("--rule", metavar="WORD", nargs="*", help=rule)
     parser.add_argument("--tags", action="store_true", help="make the file by which editors find where a name is declared")
     options = parser.parse_args()
     if options.tags:
         print(f"check docs: tags has {tags.write():,} names")
         return 0
-    if options.rule:
+    if options.rule is not None:
         return 0 if rules.show(options.rule) else 1
     if options.lower:
         dialect.lowered()

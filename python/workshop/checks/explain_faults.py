@@ -9,6 +9,11 @@ BAD_LINES = [
     (b"jump", "`jump` is not an event"),
     (b"tak 0/1", "Is `take` meant?"),
     (b"Take 0/1", "Is `take` meant?"),
+    (b"cut 3", "`cut` is not an event of this network. A line is cut by `enddown I L` at both of its IMPs."),
+    (b"mend 0", "mended by `endup I L`"),
+    (b"crash 1", "An IMP stops by `impdown I`, and a host by `hostdown H`."),
+    (b"receive 0/1", "A host takes what its IMP has for it by `take H`."),
+    (b"connect 0/1 0/2", "this network has `raw = true`"),
     (b"%", "A second one is not an event"),
     (b"take 0/1\r", "carriage return"),
     (b"take\t0/1", "not printable ASCII"),
@@ -64,6 +69,10 @@ BAD_LINES = [
 
 # what a terminal's user may get wrong
 BAD_LINES_OF_WORLDS = [
+    (b"cut 3", "A line is cut by `enddown I L` at both of its IMPs."),
+    (b"receive 0/1 16", "A host listens by `listen H SOCKET SIZE`"),
+    (b"connect 0/1 0/2", "Two hosts begin by `contact H P`"),
+    (b"say 0/1 hello", "types at a terminal by `type H TEXT`"),
     (b"type 0/1", "An empty line is typed by `type 0/1 `, with one space after the host"),
     (b'send 0/1 33 24 "ABC"', '"ABC" is `24 414243`'),
     (b"contact 0/1 0/2 # first", "A comment has a line of its own"),

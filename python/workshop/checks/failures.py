@@ -4,14 +4,15 @@ Runs inputs over and over: once for each allocation, each read and each write, w
 
 - A run with no failure has to print what the input's file .stdout says, whole reads and writes or short ones.
 - A run whose allocation fails has to end with status 3 and a prefix of that output.
-- A run whose read fails has to end with status 1 and no output.
+- A run whose read fails has to end with status 1 and no output, and to read no more.
 - A run whose write fails, or takes no octet, has to end with status 3 and a prefix of that output, and to write no more.
 - A read or a write that is interrupted makes no difference.
 
 Of the inputs of FIVE every read and write moves one octet, and so each octet is one at which a read and a write fail; then reads
 and writes are whole ones, as big as the program asks for. Of the other short examples reads and writes move 16 octets. Of the
 examples in LONG, whose output is longer than what the program gathers before it writes, reads and writes move 500 octets, and
-then are whole ones; not each of their allocations fails.
+then are whole ones; not each of their allocations fails. Of a network of 126 strangers each allocation fails, and reads
+and writes move 500 octets.
 
 So no refused allocation may end with status 0.
 
@@ -33,7 +34,10 @@ from concurrent.futures import ThreadPoolExecutor
 from dataclasses import dataclass
 from itertools import count
 
+from dorydate.model.runs import expected
+from dorydate.model.topology import spelled_input
 from dorydate.program import MOST_OCTETS
+from workshop.checks.limits import ODD
 from workshop.parts import ROOT, any_program
 from workshop.tools import lacking, left_out
 
@@ -47,6 +51,8 @@ FIVE = (
 )  # fmt: skip
 LONG = ("a-stream-over-a-line-that-loses-frames",)
 LONGEST = 1000  # octets of a short example
+STRANGERS = "among-126-strangers"
+HAILED = ["out 1/1 0/1 0 48 00080001000C", "calm 1", "take 1/1", "take 1/1"]
 CORES = os.cpu_count() or 1
 Ended = tuple[tuple[int, bytes], bytes]  # the status and the words of a run, and its output
 
@@ -85,7 +91,18 @@ def ways_of(name: str) -> list[Way]:
     """What fails in turn of an example."""
     if name in FIVE:
         return [Way("allocations"), *streams(1), *streams(0)]
+    if name == STRANGERS:
+        return [Way("allocations"), *streams(500)]
     return [*streams(500), *streams(0)] if name in LONG else [Way("allocations"), *streams(16)]
+
+
+def write_strangers(room: str) -> str:
+    """Writes the input of a network of 126 strangers, of whom one says RST, and what the model prints of it."""
+    _, printed, _ = expected([], ODD, [*HAILED, ""])
+    for name, octets in ((STRANGERS, spelled_input(ODD, HAILED)), (f"{STRANGERS}.stdout", printed.encode())):
+        with open(f"{room}/{name}", "wb") as file:
+            file.write(octets)
+    return f"{room}/{STRANGERS}"
 
 
 class Trial:
@@ -126,17 +143,17 @@ class Trial:
             _, *later = lines.read().splitlines()
         os.remove(told)
         if not self.is_right(way, ended, output, later):
-            self.wrong.append(f"{way.name}, {number}: {ended}, written again: {len(later)}, output: {output!r}")
+            self.wrong.append(f"{way.name}, {number}: {ended}, read or written again: {len(later)}, output: {output!r}")
         return True
 
     def is_right(self, way: Way, ended: tuple[int, bytes], output: bytes, later: list[str]) -> bool:
         """Whether a run may end so."""
         if way.how == "INTERRUPTED":
             return (ended, output) == self.whole
+        if way.kind != "allocations" and later:
+            return False
         if way.kind == "reads":
             return ended == CANNOT_READ and output == b""
-        if way.kind == "writes" and later:
-            return False
         return ended == STOPPED and self.whole[1].startswith(output)
 
     def all_of(self, way: Way, threads: ThreadPoolExecutor) -> int:
@@ -183,6 +200,7 @@ def main() -> int:
     with tempfile.TemporaryDirectory() as room, ThreadPoolExecutor(CORES) as threads:
         before = f"{room}/failing.so"
         subprocess.run([compiler, "-O1", "-shared", "-fPIC", "-o", before, f"{ROOT}/tools/failing.c", "-ldl"], check=True)
+        paths.append(write_strangers(room))
         for path in paths:
             trial = Trial(program, before, room, path)
             failed = [(trial.all_of(way, threads), way) for way in ways_of(trial.name)]

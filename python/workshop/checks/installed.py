@@ -76,7 +76,11 @@ def install_debian(file: str, room: str) -> str:
 
 
 def check_debian(file: str, room: str) -> None:
-    """Its manual page."""
+    """Its other command, which is written in Python, an input that is named, and its manual page."""
+    first = f"{room}/usr/share/dorydate/examples/first-message"
+    explained = call(f"{room}/usr/bin/dorydate", "explain", first, cwd=room)
+    if "prints: out 0/1 0/2 5 24" not in explained or "end" not in call(f"{room}/usr/bin/arpasim", first, cwd=room):
+        raise Wrong("the package for Debian doesn't explain an input that is named")
     page = f"{room}/usr/share/man/man1/arpasim.1.gz"
     if not shutil.which("man"):
         lacking("release", "the manual page", "man")

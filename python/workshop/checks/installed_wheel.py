@@ -26,7 +26,7 @@ COMMANDS = (["explain"], ["explain", "--chart"], ["explain", "--page"], ["export
 SEARCH = ("explore", "resets-in-step", "--quiet", "--runs", "1000", "--matches", "1")
 WRONG_LINE = 'net.calm("x")'
 # what a wheel and a page are built of, beside the definitions of the promise
-PARTS = ("python", "examples", "web", "docs/chronology.md", "LICENSE-APACHE", "LICENSE-MIT")
+PARTS = ("python", "examples", "web", "docs/chronology.md", "docs/program.md", "LICENSE-APACHE", "LICENSE-MIT")
 BUILD = """
 import json, sys
 from workshop.builds import packages

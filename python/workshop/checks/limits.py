@@ -1,8 +1,9 @@
 """Inputs past every limit that a library might have, against the independent models: ./check limits [--models | --write] [NAME..]
 
-Whatever grows can be refused for want of memory, and no contract can say whether memory really ran out. So a limit that somebody put into
-the code and reported as running out of memory would pass each proof. Here is one input for each thing that grows, as large as an input can ask for
-or past every limit that one might think of. How the program ends on it has to be what an independent model in Python says of it: of a script
+Whatever grows can be refused for want of memory, and no contract can say whether memory really ran out. So a limit that
+somebody put into the code and reported as running out of memory would pass each proof. Here is one input for each thing
+that grows, as large as an input can ask for or past every limit that one might think of. How the program ends on it has
+to be what an independent model in Python says of it: of a script
 python/dorydate/model/script.py, of a log python/dorydate/model/log.py, of a trace python/dorydate/model/trace.py.
 
 The models take twenty minutes, so what they say is kept in limits.json: the status, what standard error has, and the number and the digest of
@@ -14,7 +15,7 @@ import json
 import os
 import subprocess
 import sys
-from collections.abc import Callable, Iterable, Iterator
+from collections.abc import Callable, Iterable, Iterator, Mapping
 from concurrent.futures import ProcessPoolExecutor, ThreadPoolExecutor
 from functools import partial
 from typing import NamedTuple
@@ -50,12 +51,34 @@ HOSTS = [f"{host}/{imp}" for imp in range(1, 64) for host in range(4)]
 # half of all hosts are strangers, and one of two
 ODD = MANY._replace(foreign=[(imp, [1, 3]) for imp in range(1, 64)])
 STRANGE = Topology("plain", False, [(1, 2), (2, 2)], [], [(1, [1]), (2, [1])])
+# a host with a program, 0/2, beside another one and a stranger
+AMONG = Topology("plain", False, [(1, 1), (2, 1), (3, 1)], [], [(3, [0])])
 CONNECTED = ["contact 0/1 0/2", "calm 3", "openrecv 0/1 0/2 16 33", "opensend 0/2 0/1 33 16 8", "calm 3"]
-SHORT = ["contact 0/1 0/2", "calm 3", "server 0/1 7 100", "openrecv 0/1 0/2 2 1", "opensend 0/2 0/1 1 2 8", "calm 3", "grant 0/1 2 65000 1000000"]
+SHORT = ["contact 0/1 0/2", "calm 3", "server 0/1 7 100", "openrecv 0/1 0/2 2 1", "opensend 0/2 0/1 1 2 8", "calm 3"]
+SHORT += ["grant 0/1 2 65000 1000000"]
 SERVED = ["contact 0/1 0/2", "calm 3", "server 0/1 7 100", "user 0/2 0/1 7 16", "calm 40"]
 # two echo services, each connected with the other: both servers have met a user, of which the other has the sockets
-JOINED = ["contact 0/1 0/2", "calm 3", "server 0/1 7 100", "server 0/2 9 200", "openrecv 0/2 0/1 198 7", "openrecv 0/1 0/2 98 9", "calm 3", "grant 0/2 198 1 32", "grant 0/1 98 1 32", "calm 9"]
+JOINED = ["contact 0/1 0/2", "calm 3", "server 0/1 7 100", "server 0/2 9 200", "openrecv 0/2 0/1 198 7"]
+JOINED += ["openrecv 0/1 0/2 98 9", "calm 3", "grant 0/2 198 1 32", "grant 0/1 98 1 32", "calm 9"]
 JOINED += ["close 0/2 200", "close 0/2 201", "openrecv 0/2 0/1 200 101", "opensend 0/2 0/1 201 100 8", "calm 5"]
+# what a stranger says: a reset, and what is no command
+RST, NO_COMMAND = "out 0/3 0/2 0 48 00080001000C", "out 0/3 0/2 0 48 0008000100FF"
+# a reset and a connection of 0/1 and 0/2, event by event, over which 16 bits go
+GREETED = ["contact 0/1 0/2", *(ANSWERED := ["offer 0/1", "take 0/2", "offer 0/2", "take 0/1", "take 0/1", "take 0/2"])]
+BESIDE = [*GREETED, "listen 0/2 33 8", "openrecv 0/1 0/2 16 33", *ANSWERED, "grant 0/1 16 1 16", *ANSWERED[:2]]
+BESIDE += ["send 0/2 33 16 4142", *ANSWERED[2:]]
+# IMPs in a row. Message 0 goes from 0/1 to 0/3 and is answered, and then IMP 2 is cut off from 0/3
+ROW = Topology("subnet", True, [(imp, 1) for imp in (1, 2, 3)], [(1, 2), (2, 3)])
+FAR, NEAR = "out 0/1 0/3 5 0 -", "out 0/1 0/2 5 0 -"
+CUT_OFF = ["calm 2", FAR, "calm 1", "take 0/3", "calm 4", "take 0/1", "enddown 1 0", "enddown 2 0", "endup 1 0"]
+CUT_OFF += ["endup 2 0", "route 2", "deliver 0 - 0", "drop 0 - 0", "enddown 2 1"]
+# the next one, which IMP 2 drops since no route leads on, and which its source gives up
+DROPPED = [FAR, "deliver 0 + 0", "drop 0 + 0", "deliver 0 - 0", "drop 0 - 0", "giveup 0/1 0/3 5", "take 0/1"]
+# two IMPs. Message 0 is answered and its frame stays on the line; beside it the next one goes, is taken and answered
+LINE = Topology("subnet", True, [(1, 1), (2, 1)], [(1, 2)])
+BACK, LEAVES = ["deliver 0 - 0", "drop 0 - 0"] * 2, ["take 0/1", "deliver 0 + 1", "drop 0 + 1"]
+STAYS = ["calm 2", NEAR, "deliver 0 + 0", "take 0/2", *BACK, *LEAVES]
+COMES = ["deliver 0 + 1", "drop 0 + 1", "take 0/2", *BACK]
 
 
 class Limit(NamedTuple):
@@ -72,8 +95,12 @@ def ring(count: int) -> list[tuple[int, int]]:
 
 
 LIMITS: dict[str, Limit] = {
-    "messages of a life": Limit(["--book"], PAIR, [*CONNECTED, "grant 0/1 16 1200 9600", *["send 0/2 33 8 5A", "calm 2"] * 1100]),
-    "bits of a life": Limit(["--book"], PAIR, [*CONNECTED, "grant 0/1 16 200 2000000", f"send 0/2 33 1048584 {'5A' * 131073}", "calm 300"]),
+    "messages of a life": Limit(
+        ["--book"], PAIR, [*CONNECTED, "grant 0/1 16 1200 9600", *["send 0/2 33 8 5A", "calm 2"] * 1100]
+    ),
+    "bits of a life": Limit(
+        ["--book"], PAIR, [*CONNECTED, "grant 0/1 16 200 2000000", f"send 0/2 33 1048584 {'5A' * 131073}", "calm 300"]
+    ),
     "bits that wait": Limit(["--book"], PAIR, [*CONNECTED, f"send 0/2 33 2000000 {'5A' * 250000}", "calm 4"]),
     "crossings, notices and changes of lives": Limit([], PAIR, [*SHORT, *["send 0/2 1 8 5A", "calm 1"] * 34_000]),
     # in each round one life takes, another sends, and both are granted as much again: a million changes
@@ -81,24 +108,82 @@ LIMITS: dict[str, Limit] = {
     # an event for each seven octets of an input, which has more octets than one of 20 bits can count
     "events of a script": Limit([], PAIR, ["calm 0"] * 600_000),
     "peers": Limit([], MANY, [*[f"contact 0/1 {host}/{imp}" for imp in range(2, 64) for host in range(4)], "calm 6"]),
-    "requests in a row": Limit([], MANY, [*[f"contact {host}/{imp} 0/1" for imp in range(2, 64) for host in range(4)], "calm 12"]),
-    "ends": Limit(["--book"], PAIR, ["contact 0/1 0/2", "calm 3", *[f"openrecv 0/1 0/2 {2 * at} {2 * at + 1}" for at in range(1, 250)], "calm 20", *[f"opensend 0/1 0/2 {2 * at + 1} {2 * at} 8" for at in range(1, 5000)], "calm 1000"]),
-    "listeners": Limit([], PAIR, ["contact 0/1 0/2", "calm 3", *[f"listen 0/2 {at} 8" for at in range(1, 3000)], "openrecv 0/1 0/2 16 2999", "calm 4"]),
+    "requests in a row": Limit(
+        [], MANY, [*[f"contact {host}/{imp} 0/1" for imp in range(2, 64) for host in range(4)], "calm 12"]
+    ),
+    "ends": Limit(
+        ["--book"],
+        PAIR,
+        [
+            *["contact 0/1 0/2", "calm 3"],
+            *[f"openrecv 0/1 0/2 {2 * at} {2 * at + 1}" for at in range(1, 250)],
+            "calm 20",
+            *[f"opensend 0/1 0/2 {2 * at + 1} {2 * at} 8" for at in range(1, 5000)],
+            "calm 1000",
+        ],
+    ),
+    "listeners": Limit(
+        [],
+        PAIR,
+        [
+            *["contact 0/1 0/2", "calm 3"],
+            *[f"listen 0/2 {at} 8" for at in range(1, 3000)],
+            *["openrecv 0/1 0/2 16 2999", "calm 4"],
+        ],
+    ),
     "commands that wait": Limit([], PAIR, ["contact 0/1 0/2", "calm 3", *["echo 0/1 0/2 65"] * 5000, "calm 400"]),
     "a typed line": Limit([], PAIR, [*SERVED, f"type 0/2 {'A' * 20_000}", "calm 200"]),
-    "servers": Limit([], PAIR, ["contact 0/1 0/2", "calm 3", *[f"server 0/1 {2 * at + 1} {10_000 + 2 * at}" for at in range(600)], "user 0/2 0/1 1199 16", "calm 40"]),
+    "servers": Limit(
+        [],
+        PAIR,
+        [
+            *["contact 0/1 0/2", "calm 3"],
+            *[f"server 0/1 {2 * at + 1} {10_000 + 2 * at}" for at in range(600)],
+            *["user 0/2 0/1 1199 16", "calm 40"],
+        ],
+    ),
     "strangers": Limit(
         ["--book", "--texts"],
         ODD,
-        [*(f"out {host}/{imp} {host - 1}/{imp} 0 48 00080001000C" for imp in range(1, 64) for host in (1, 3)), "calm 3"],
+        [
+            *(f"out {host}/{imp} {host - 1}/{imp} 0 48 00080001000C" for imp in range(1, 64) for host in (1, 3)),
+            "calm 3",
+        ],
     ),
     "events among strangers": Limit([], STRANGE, ["calm 0"] * 600_000),
+    "messages of a stranger": Limit(
+        ["--book"], AMONG, [RST, "take 0/2", "take 0/3", *[NO_COMMAND, "take 0/2", "take 0/3"] * 70_000, *BESIDE]
+    ),
+    "answers to a stranger": Limit(
+        [],
+        AMONG,
+        [
+            *[RST, "calm 1", "take 0/3", "take 0/3"],
+            *[NO_COMMAND, "calm 1", "take 0/3", "take 0/3"] * 7_000,
+            *["contact 0/1 0/2", "calm 4294967295"],
+        ],
+    ),
+    # after 65,535 more the number of message 0 comes again, which the IMP of 0/3 keeps until it forgets it
+    "numbers of a flow": Limit([], ROW, [*CUT_OFF, *DROPPED * 65_535, FAR, "forget 3 1", FAR]),
+    # number 32,767 goes beside the frame of message 0, and number 32,768 only once that frame is gone
+    "half of the numbers of a flow": Limit(
+        [],
+        LINE,
+        [
+            *[*STAYS, *[NEAR, *COMES, *LEAVES] * 32_766],
+            *[NEAR, NEAR, *COMES, NEAR, *LEAVES, NEAR, "drop 0 + 0", NEAR, NEAR],
+        ],
+    ),
     "flows of an IMP": Limit(
         [],
         MANY._replace(carrier="subnet", raw=True),
         [f"out 0/1 {host}/{imp} {link} 0 -" for link in range(41) for imp in range(2, 64) for host in range(4)],
     ),
-    "lines of a subnet": Limit([], Topology("subnet", True, [(imp, 1) for imp in range(1, 64)], [*ring(63)]), ["calm 40", *[f"out 0/1 0/{imp} 5 8 41" for imp in range(2, 64)], "calm 60"]),
+    "lines of a subnet": Limit(
+        [],
+        Topology("subnet", True, [(imp, 1) for imp in range(1, 64)], [*ring(63)]),
+        ["calm 40", *[f"out 0/1 0/{imp} 5 8 41" for imp in range(2, 64)], "calm 60"],
+    ),
 }
 
 
@@ -182,10 +267,11 @@ def given(name: str) -> tuple[list[str], bytes]:
     return limit.options, (COMMENTS if name in COMMENTED else b"") + spelled_input(limit.network, limit.lines)
 
 
-def by_program(program: str, name: str) -> End:
-    """How the program ends on a limit."""
+def by_program(program: str, name: str, variables: Mapping[str, str] | None = None) -> End:
+    """How the program ends on a limit, with these variables."""
     options, octets = given(name)
-    ran = subprocess.run([program, *options], input=octets, capture_output=True, check=False)
+    env = {**os.environ, **(variables or {})}
+    ran = subprocess.run([program, *options], input=octets, capture_output=True, check=False, env=env)
     return end_of(ran.returncode, ran.stdout.decode("latin-1"), ran.stderr.decode("latin-1"))
 
 
@@ -229,7 +315,8 @@ def write(names: list[str]) -> int:
 
 def differing(who: str, found: dict[str, End], wanted: dict[str, End]) -> list[str]:
     """What is wrong with ends, in lines."""
-    return [f"{name}: {who} has {found[name]}; kept is {wanted.get(name)}" for name in found if found[name] != wanted.get(name)]
+    unlike = [name for name in found if found[name] != wanted.get(name)]
+    return [f"{name}: {who} has {found[name]}; kept is {wanted.get(name)}" for name in unlike]
 
 
 def main() -> int:

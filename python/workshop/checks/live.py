@@ -24,11 +24,10 @@ from concurrent.futures import ThreadPoolExecutor
 from functools import partial
 from pathlib import Path
 
-from dorydate.conformance import DIALOGUES
 from dorydate.coupling import Mute
 from dorydate.export.leaders import leader
 from dorydate.live.frames import LAST, READY, Frame
-from dorydate.live.heard import had, without_a_user
+from dorydate.live.heard import had, on_the_wire
 from dorydate.live.reverse import network_of as network_of_one
 from dorydate.model.runs import log_of, opened, with_texts
 from dorydate.model.script import EVERYTHING, read_line
@@ -51,9 +50,14 @@ SEEDS = 20
 SECONDS = 45.0  # after which no weather begins any more
 MOST_MEMORY = 200_000  # kB of a session
 # what is written in place of what in the host in C, the dialogue that finds it, and by which words
+RULE = "breaks the rule `{}`".format
 PLANTED = [
     ("pair->owes = true;", "pair->owes = false;", "reset", "says nothing, and right is `RRP`"),
     ("used = wrong ? count :", "used = wrong ? 1 :", "no such code", "ERP 1"),
+    ("if (any) return false;", "if (pair->busy[0]) return false;", "is reset while its socket is out", RULE("idle")),
+    ("(!it->count && !pair->busy[it->link])", "!it->count", "serves", RULE("drained")),
+    ("} else if (was == READY && !pair->owes) {", "} else if (was == CLOSED) {", "its socket fails", RULE("failed")),
+    ("!end->messages || pair->busy[link]", "pair->busy[link]", "serves without an allocation", RULE("within")),
 ]
 LENGTHS = (1, 10, 10, 9, 8, 4, 8, 2, 2, 2, 2, 12, 1, 1)
 
@@ -224,7 +228,7 @@ def modelled(room: Room, running: Running) -> Iterator[str]:
 def conformance(room: Room) -> Iterator[str]:
     """The host in C is right in each dialogue that needs no user, and each planted fault is found by its dialogue."""
     simulator = Program(room.program)
-    chosen = without_a_user(DIALOGUES)
+    chosen = on_the_wire()
     found = {it.name: had([room.host, "-q", "0/2", "PORT", "echo", "1"], it, simulator=simulator) for it in chosen}
     yield from (f"conformance: {name}: {why}" for name, why in found.items() if why)
     for number, (old, new, name, words) in enumerate(PLANTED):

@@ -17,6 +17,7 @@ from typing import NamedTuple
 
 from workshop.checks.broken import broken, pairs_that_differ
 from workshop.checks.toward import CLAUSES, STRONGER, Clause, Watching, broken_toward
+from dorydate.model import was_sent
 from dorydate.model.audit import audit
 from dorydate.model.chance.strangers import mixed_script
 from dorydate.model.crossings import Passed
@@ -48,6 +49,8 @@ def broken_among(world: MixedWorld) -> str | None:
         return "the mailboxes"
     if part := audit(log, lives):
         return part
+    if was_sent.broken(log, lives):
+        return "messages of a connection"
     if next(pairs_that_differ(log, lives), None):
         return "lives that continue and are no connection"
     peers = {notice.split(" ")[1] for _, notice, _ in world.book.notices if notice.startswith("error ")}

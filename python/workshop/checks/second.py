@@ -8,6 +8,9 @@ searched, and no rule of the network. It computes the worked rows of all crates,
 those that speak of all values of a type are counted. And it judges 1,000 logs, by hand, of the examples and of random
 books with strangers and without, as `--audit` does: each part has to be the same.
 
+./check second --laws has Agda check the laws of streams and of resets, each lemma from the same text (three minutes of
+the processor). It is no part of the gate: `./check release` does it before a release.
+
 ./check second --mutants changes each definition of the promise in one word, in 20 ways, and prints which of these
 changes no row notices (an hour; no part of the gate).
 """
@@ -20,8 +23,9 @@ from collections import Counter
 
 from dorydate.definitions.promise import BOOK, BOOK_AMONG, Judge, deeply
 from workshop.documents import believed
-from workshop.second import agda, mutants, rows
+from workshop.second import agda, laws, mutants, rows
 from workshop.second.beside import beside_audit
+from workshop.tools import lacking
 
 LOGS = 1_000
 MOST_UNREAD = 30  # rows of what a program reads and writes, and of calms, which have words that are not read yet
@@ -41,9 +45,7 @@ def in_agda() -> list[str]:
     all_ = f"{both.definitions} with those among strangers, and {both.types} types of Rust"
     what = f"{of_page} definitions of the promise, {all_}"
     if not shutil.which("agda"):
-        print(
-            f"check second: agda is not installed, so it did not read the {what} (apt-get install agda-bin)", flush=True
-        )
+        lacking("second", f"Agda over the {what}", "Agda")
         return wrong
     said = agda.said_of(both, "Promise")
     print(
@@ -69,6 +71,11 @@ def judge(count: int) -> list[str]:
 
 
 def main() -> int:
+    if sys.argv[1:] == ["--laws"]:
+        wrong = laws.faults()
+        print(*wrong, sep="\n", end="\n" if wrong else "")
+        print("check second: laws are refused" if wrong else "check second: the laws are proved a second time")
+        return 1 if wrong else 0
     if sys.argv[1:] == ["--mutants"]:
         print(*deeply(mutants.table), sep="\n")
         return 0

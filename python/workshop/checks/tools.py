@@ -1,22 +1,27 @@
-"""The tools that checks use where they are there (seconds): ./check tools [--install]
+"""The tools that checks use where they are there (seconds): ./check tools [--install | --packages]
 
 Names those that lack. With --install apt-get installs these, where that may be done: as root, on Debian. What a check
-then leaves out it says itself, and the gate says it again at its end.
+then leaves out it says itself, and the gate says it again at its end. --packages prints their packages only.
 """
 
 from __future__ import annotations
 
-import sys
+import argparse
 
 from workshop.tools import TOOLS, installed
 
 
 def main() -> int:
-    if sys.argv[1:] not in ([], ["--install"]):
-        print("usage: ./check tools [--install]", file=sys.stderr)
-        return 1
+    words = argparse.ArgumentParser(prog="check tools")
+    how = words.add_mutually_exclusive_group()
+    how.add_argument("--install", action="store_true", help="install those that lack")
+    how.add_argument("--packages", action="store_true", help="print Debian's packages of those that lack")
+    asked = words.parse_args()
     lacking = [it for it in TOOLS if not it.is_there()]
-    if lacking and sys.argv[1:]:
+    if asked.packages:
+        print(*(it.packages for it in lacking))
+        return 0
+    if lacking and asked.install:
         if why := installed(lacking):
             print(f"check tools: nothing was installed: {why}")
         lacking = [it for it in lacking if not it.is_there()]

@@ -25,9 +25,9 @@ MOST_LINES = 563  # without comments, imports and empty lines: what the clauses 
 READING = ("host_pairs", "ncp_control", "bit_messages")  # crates whose definitions say how texts are read
 HEAD = """# What must be believed
 
-`./check docs --write` makes this page from the sources. It has all that [the promise](../headline.md) says of a book without speaking of a program: the clauses of `headline::book_of` but `lawful`, and every definition that they use, each before those that it uses. These are {definitions} definitions of {files} files, in {lines} lines without comments; `./check docs` wants at most {most}. No host program, packet, route or buffer occurs in them, and no other line of any `specs/` changes what is promised.
+`./check docs --write` makes this page from the sources. It has all that [the promise](../headline.md) says of a book without speaking of a program: the clauses of `headline::book_of` but `lawful` and `value`, and every definition that they use, each before those that it uses. These are {definitions} definitions of {files} files, in {lines} lines without comments; `./check docs` wants at most {most}. No host program, packet, route or buffer occurs in them, and no other line of any `specs/` changes what is promised, but for two records, `Kept` and `Seen`.
 
-In a clause, `result` is what `book_of` gives of a world: its `book`, in `handed` the bits that were handed over to be sent in each of the lives, and in `fates` the fate of each. `(C.calls.seen world.now.carrier).hosts` are the hosts of its network.
+In a clause, `result` is what `book_of` gives of a world: its `book`, in `handed` the bits that were handed over to be sent in each of the lives, and in `fates` the fate of each (`crates/net_sim/specs/Book.antt`). `(C.calls.seen world.now.carrier).hosts` are the hosts of its network (`crates/interface/specs/Calls.antt`).
 
 Logs are read newest first, and all other lists oldest first. Words that definitions share with Rust are [below](#the-types), and so are [those of the language](#the-words-of-the-language), and [a book to try it on](#a-book-to-try-it-on).
 """

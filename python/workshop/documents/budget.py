@@ -13,8 +13,9 @@ import json
 import os
 import re
 from collections.abc import Iterator, Mapping, Sequence
-from dataclasses import dataclass, field
+from dataclasses import dataclass, field, replace
 
+from workshop.documents import walks
 from workshop.documents.crates_page import needs
 from workshop.parts import ROOT, text_of
 
@@ -27,11 +28,13 @@ More = tuple[str, int, str]  # a crate, octets, and what they are for
 
 @dataclass(frozen=True)
 class Budget:
-    """What there may be: octets of each crate, what some may have besides, and wide lines of each kind of source."""
+    """What there may be: octets of each crate, what some may have besides, and wide lines of each kind of source,
+    and walks over each enum."""
 
     octets: Mapping[str, int] = field(default_factory=dict)
     more: Sequence[More] = ()
     wide: Mapping[str, int] = field(default_factory=dict)
+    walks: Mapping[str, walks.Counts] = field(default_factory=dict)
 
     def of(self, crate: str) -> int:
         return self.octets.get(crate, 0) + sum(many for name, many, _ in self.more if name == crate)
@@ -49,12 +52,14 @@ class Budget:
     def lowered(self, octets: Mapping[str, int], columns: Mapping[str, int]) -> Budget:
         """The budget without what isn't used; what a crate may have besides stays. One without a budget gets what it has."""
         first = {it: min(self.octets[it], many - self.of(it) + self.octets[it]) if it in self.octets else many for it, many in octets.items()}
-        return Budget(first, self.more, {kind: min(many, self.wide.get(kind, many)) for kind, many in columns.items()})
+        return replace(self, octets=first, wide={kind: min(many, self.wide.get(kind, many)) for kind, many in columns.items()})
 
     def written(self) -> str:
         octets = ",\n".join(f"  {json.dumps(crate)}: {many}" for crate, many in self.octets.items())
         more = ",".join(f"\n  {json.dumps(it)}" for it in self.more)
-        return f'{{\n "octets": {{\n{octets}\n }},\n "more": [{more}\n ],\n "wide": {json.dumps(self.wide)}\n}}\n'
+        cases = ",".join(f"\n  {json.dumps(enum)}: {json.dumps(counts)}" for enum, counts in self.walks.items())
+        wide_lines = json.dumps(self.wide)
+        return f'{{\n "octets": {{\n{octets}\n }},\n "more": [{more}\n ],\n "wide": {wide_lines},\n "walks": {{{cases}\n }}\n}}\n'
 
 
 def sources(pattern: str) -> list[str]:
@@ -81,11 +86,13 @@ def kept() -> Budget:
     if not os.path.exists(KEPT):
         return Budget()
     found = json.loads(text_of(KEPT))
-    return Budget(found["octets"], [(crate, many, what) for crate, many, what in found["more"]], found["wide"])
+    more = [(crate, many, what) for crate, many, what in found["more"]]
+    return Budget(found["octets"], more, found["wide"], found.get("walks", {}))
 
 
 def faults() -> list[str]:
-    return [*kept().over(counted(), wide())]
+    may = kept()
+    return [*may.over(counted(), wide()), *walks.over(walks.counted(), may.walks)]
 
 
 def summary() -> str:
@@ -97,5 +104,6 @@ def summary() -> str:
 def lower() -> None:
     """Writes what is used as what may be, where that is less."""
     found = kept().lowered(counted(), wide())
+    found = replace(found, walks=walks.lowered(walks.counted(), found.walks))
     with open(KEPT, "w", encoding="utf-8") as file:
         file.write(found.written())

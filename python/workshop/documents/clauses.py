@@ -1,6 +1,7 @@
-"""What each function promises, clause by clause, in two revisions: python3 python clauses BEFORE [AFTER]
+"""What functions promise and ask, and each definition, in two revisions: python3 python clauses BEFORE [AFTER]
 
-Without AFTER it is compared with the files as they are. A law with clauses that are longer than a line is a record of
+Without AFTER it is compared with the files as they are. A clause of `requires` is named so. A definition of specs/ is
+compared by its words, wherever it is in its crate. A law with clauses that are longer than a line is a record of
 specs/Laws, whose fields are the clauses. So a clause may move into a field, and into a definition or out of one, but
 its statement stays: each clause is compared by the words of its statement, each with the module that declares it.
 `./check docs` counts the clauses that are only names for statements of specs/Laws.
@@ -8,6 +9,7 @@ its statement stays: each clause is compared by the words of its statement, each
 
 from __future__ import annotations
 
+import argparse
 import glob
 import os
 import re
@@ -18,6 +20,8 @@ from dataclasses import dataclass, field
 
 from workshop.parts import ROOT
 
+KINDS = ("ensures", "requires")
+DEFINITION = re.compile(r"^(?:abbrev pub|unfoldable pub|pub record|pub data) ([^\s:]+)")
 FUNCTION = re.compile(r"^( *)(?:pub(?:\(\w+\))? )?(?:const )?fn (\w+)", re.MULTILINE)
 OWNER = re.compile(r"^impl(?:<[^>]*>)? (?:.* for )?(\w+)|^pub trait (\w+)", re.MULTILINE)
 IMPORT = re.compile(r"^(?:ghost )?use (Rattle\.[^\s{;]+?)(?:\.\{([^}]*)\})?(?: as (\w+))?;?$", re.MULTILINE)
@@ -106,16 +110,16 @@ def filled(statement: Statement, given: list[str], names: Names) -> str:
     return words(statement.text, said)
 
 
-def clauses_in(whole: str) -> list[tuple[str, str]]:
-    """The clauses of a function, each with its name."""
+def clauses_in(whole: str, kind: str = "ensures") -> list[tuple[str, str]]:
+    """The clauses of a kind that a function has, each with its name."""
     found, lines = [], iter(whole.split("\n"))
     for line in lines:
-        if not line.strip().startswith("ensures"):
+        if not line.strip().startswith(kind):
             continue
         said = line.strip()
         while said.count("{") > said.count("}") and (more := next(lines, None)) is not None:
             said += " " + more.strip()
-        if one := re.match(r"ensures (?:(\w+) )?\{(.*)\};?$", said):
+        if one := re.match(kind + r" (?:(\w+) )?\{(.*)\};?$", said):
             found.append((one[1] or "", one[2].strip()))
     return found
 
@@ -132,15 +136,36 @@ def promised(crate: str) -> dict[str, str]:
             owners = [one or other for one, other in OWNER.findall(text[: start.start()])] if start[1] else []
             module = os.path.basename(path).removesuffix(".rt")
             call = "::".join([os.path.basename(crate), module, *owners[-1:], start[2]])
-            for name, said in clauses_in(text[start.start() : end]):
-                first = said.split()[0] if said else ""
-                if first in laws.records and not name:
-                    given = arguments(said)
-                    found |= {f"{call} {it}": filled(law, given, names) for it, law in laws.records[first].items()}
-                elif first in laws.named:
-                    found[f"{call} {name}"] = filled(laws.named[first], arguments(said), names)
-                else:
-                    found[f"{call} {name}"] = words(said, names)
+            for kind in KINDS:
+                of = call if kind == "ensures" else f"{call} {kind}"
+                for name, said in clauses_in(text[start.start() : end], kind):
+                    found |= {f"{of} {it}".strip(): law for it, law in stated(laws, name, said, names).items()}
+    return found
+
+
+def stated(laws: Laws, name: str, said: str, names: Names) -> Names:
+    """What a clause states, by its name; or, where it is a record of statements, by the names of its fields."""
+    first = said.split()[0] if said else ""
+    if first in laws.records and not name:
+        given = arguments(said)
+        return {it: filled(law, given, names) for it, law in laws.records[first].items()}
+    if first in laws.named:
+        return {name: filled(laws.named[first], arguments(said), names)}
+    return {name: words(said, names)}
+
+
+def defined(crate: str) -> dict[str, str]:
+    """Each definition of a crate's specs by its name: its words, without comments."""
+    found: dict[str, str] = {}
+    for path in sorted(glob.glob(f"{crate}/specs/**/*.antt", recursive=True)):
+        bare = re.sub(r"(?m)^ *--.*\n", "", read(path))
+        for block in re.split(r"\n(?=\S)", bare):
+            if name := DEFINITION.match(block):
+                place = f"{os.path.basename(crate)} defines {name[1]}"
+                found[place if place not in found else f"{place} ({os.path.basename(path)})"] = " ".join(block.split())
+            elif found and not block.startswith(("use", "pub", "mod")):
+                last = next(reversed(found))
+                found[last] += " " + " ".join(block.split())
     return found
 
 
@@ -165,7 +190,10 @@ def tree(revision: str, folder: str) -> str:
 
 
 def all_promised(crates: str) -> dict[str, str]:
-    return {key: said for crate in sorted(glob.glob(f"{crates}/*")) for key, said in promised(crate).items()}
+    found: dict[str, str] = {}
+    for crate in sorted(glob.glob(f"{crates}/*")):
+        found |= {**promised(crate), **defined(crate)}
+    return found
 
 
 def compared(before: dict[str, str], after: dict[str, str]) -> list[str]:
@@ -178,12 +206,17 @@ def compared(before: dict[str, str], after: dict[str, str]) -> list[str]:
 
 
 def main() -> int:
-    if not 2 <= len(sys.argv) <= 3:
-        print("usage: python3 python clauses BEFORE [AFTER]", file=sys.stderr)
-        return 1
+    words = argparse.ArgumentParser(prog="python3 python clauses", description=(__doc__ or "").split("\n\n")[0])
+    words.add_argument("before", metavar="BEFORE", help="a revision")
+    words.add_argument("after", nargs="?", metavar="AFTER", help="another one, else the files as they are")
+    asked = words.parse_args()
     with tempfile.TemporaryDirectory() as one, tempfile.TemporaryDirectory() as other:
-        before = all_promised(tree(sys.argv[1], one))
-        after = all_promised(tree(sys.argv[2], other) if len(sys.argv) > 2 else f"{ROOT}/crates")
+        try:
+            before = all_promised(tree(asked.before, one))
+            after = all_promised(tree(asked.after, other) if asked.after else f"{ROOT}/crates")
+        except subprocess.CalledProcessError as why:
+            print(f"clauses: {why.stderr.decode().strip()}", file=sys.stderr)
+            return 1
     found = compared(before, after)
     print(*found, sep="\n", end="\n" if found else "")
     kinds = {"gone": "gone", "more": "more", "otherwise": "say otherwise"}

@@ -1,9 +1,9 @@
-"""docs/measured/rules.md: from each definition that a contract cites to the function, the rows and the planted bugs, each with its place.
+"""The index of rules (`./check docs --rule`): from definitions that contracts cite to functions, rows and planted bugs.
 
 Read from the sources: definitions of specs/ with the comment above them, the clauses `ensures` of functions in src/ and the
 fields of those that are records of specs/Laws, the tables of rows in CLAIMS.md, and the edits of wrong-bodies/ by
 the function that they change. `./check docs --rule WORD..` prints the rules that have these words, each with its definition and its functions; of a definition that no contract cites, the functions whose contracts
-cite one that uses it, by the shortest way.
+cite one that uses it, by the shortest way. Without a word it prints an index of all, with links as a page of docs/measured.
 """
 
 from __future__ import annotations
@@ -19,7 +19,6 @@ from workshop.parts import ROOT
 from workshop.drawings.repository import layers
 from workshop.rows import row_names
 
-PAGE = f"{ROOT}/docs/measured/rules.md"
 HEAD = """# From a rule to its code
 
 `./check docs --write` makes this page from the sources, and `./check docs` compares it. It has each definition that the contract of a function cites, with the comment above it or else its name in words, the function, the rows that fail if the definition is read otherwise, and the bugs that are planted in the function. Each name leads to its line. `./check docs --rule WORD..` prints the rules with these words, with the text of the definition and of its functions; those too that contracts cite only by way of other definitions.
@@ -221,17 +220,15 @@ def functions(crate: str) -> list[Function]:
 
 
 @functools.cache
-def tests() -> dict[str, Place]:
-    """The functions of the crates of tests and the stored rows, by their names."""
-    found = {name: Place(*place) for name, place in row_names().items()}
-    for layer in layers():
-        for crate in (it for it, kind in layer.crates.items() if kind == "tests"):
-            found |= {it.name: it.place for it in functions(crate)}
-    return found
+def stored() -> dict[str, Place]:
+    """The stored calls and the tables of stored inputs, by their names."""
+    paths = [os.path.relpath(it, ROOT) for it in glob.glob(f"{ROOT}/cases/*.rows")]
+    tables = {os.path.basename(it).removesuffix(".rows"): Place(it) for it in paths}
+    return tables | {name: Place(*place) for name, place in row_names().items()}
 
 
 def rows(crate: str) -> dict[str, str]:
-    """The rows that a crate's claims name for its definitions, the tests among them as links."""
+    """The rows that a crate's claims name for its definitions, those that are stored as links."""
     path = f"{ROOT}/crates/{crate}/CLAIMS.md"
     found: dict[str, str] = {}
     if os.path.exists(path):
@@ -240,7 +237,7 @@ def rows(crate: str) -> dict[str, str]:
             cell = cell.replace("the same", last, 1) if last and cell.startswith("the same") else cell
             last = row[0] if (row := re.search(r"`\w+`", cell)) else last
             for name in re.findall(r"`([\w'-]+)`", names):
-                found.setdefault(name, re.sub(r"`(\w+)`", lambda it: tests()[it[1]].link(it[1]) if it[1] in tests() else it[0], cell.strip()))
+                found.setdefault(name, re.sub(r"`(\w+)`", lambda it: stored()[it[1]].link(it[1]) if it[1] in stored() else it[0], cell.strip()))
     return found
 
 
@@ -274,28 +271,6 @@ def page() -> str:
         if made := [row_of(it) for it in rules(crate)]:
             parts.append(f"\n## {crate}\n\n| Rule | Definition | Function | Rows | Planted bugs |\n|---|---|---|---|---|\n" + "\n".join(made) + "\n")
     return "".join(parts)
-
-
-def write() -> None:
-    text = page()
-    with open(PAGE, "w", encoding="utf-8") as file:
-        file.write(text)
-
-
-def differing(stored: str, made: str) -> list[str]:
-    """The first line in which the page isn't as it is made, and how many there are."""
-    old, new = stored.split("\n"), set(made.split("\n"))
-    gone = [it for it in old if it not in new]
-    missing = [it for it in made.split("\n") if it not in set(old)]
-    first = next((re.search(r"\| (\[`[^|]*) \|", it) for it in [*gone, *missing]), None)
-    named = f", first {first[1]}" if first else ""
-    return [f"docs/measured/rules.md: {len(gone)} lines aren't as they are made, {len(missing)} are missing{named} (./check docs --write)"]
-
-
-def faults() -> list[str]:
-    """Whether the page is as it is made."""
-    stored, made = read(PAGE) if os.path.exists(PAGE) else "", page()
-    return [] if stored == made else differing(stored, made)
 
 
 def named(crate: str, file: str, words: Iterable[str]) -> set[tuple[str, str]]:
@@ -353,7 +328,11 @@ def shown(definition: Definition, way: list[str], calls: list[Function], guarded
 
 
 def show(words: list[str]) -> int:
-    """Prints the rules in which all of these words occur, those with them in their names first, and returns how many there are."""
+    """Prints the rules in which all of these words occur, those with them in their names first, or without words the
+    index of all, and returns how many there are."""
+    if not words:
+        print(page(), end="")
+        return len(crates())
     ways = Ways()
     found = []
     for (crate, name), it in ways.found.items():

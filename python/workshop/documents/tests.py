@@ -9,7 +9,7 @@ import tempfile
 import unittest
 from unittest import mock
 
-from workshop.documents import anchors, believed, believed_words, budget, clauses, common, crates_page, dead, dialect
+from workshop.documents import anchors, believed, believed_words, budget, clauses, common, crates_page, dead, dialect, walks
 from workshop.documents import figures, named_crates, paragraphs, rules, stated, tags
 from workshop.drawings import facts, formats, hosts, network, pictures, repository
 from workshop.drawings.svg import Drawing
@@ -211,10 +211,6 @@ class Rules(unittest.TestCase):
         self.assertEqual(ways.shortest(("b", "near")), ([], [call]))
         self.assertEqual(ways.shortest(("a", "none")), ([], []))
 
-    def test_a_page_that_isnt_as_it_is_made_is_named(self) -> None:
-        (fault,) = rules.differing("| a | [`count`](x#L5) |", "| a | [`count`](x#L6) |\n| b | [`more`](x#L9) |")
-        self.assertIn("1 lines aren't as they are made, 2 are missing, first [`count`](x#L5)", fault)
-
 
 BELIEVED = """use Rattle.b.specs.B.{two}
 use Rattle.b.specs.declared.thing.Thing.TheVariants as thing
@@ -294,6 +290,64 @@ class Budget(unittest.TestCase):
         more = [("a", 2, "a law")]
         found = budget.Budget({"a": 10, "b": 4}, more, {".rt": 3}).lowered({"a": 9, "b": 5, "c": 3}, {".rt": 2})
         self.assertEqual(found, budget.Budget({"a": 7, "b": 4, "c": 3}, more, {".rt": 2}))
+
+
+WALKED = """-- Deliver Drop
+step : E → ℕ
+step (event.A x) = 1
+step B = 2
+step C = 2
+step D = 2
+step E = 2
+step (F x) = 3
+other A = 1
+other B = A + C + D + E + F
+"""
+MATCHED = """pub enum Event {
+    A,
+    /// B says more.
+    B { x: u32 },
+    C,
+    D,
+    E,
+    F(u32),
+}
+
+impl Event {
+    fn first(self) -> u32
+        ensures other { A ≢ B }
+    {
+        self.x
+    }
+}
+"""
+
+
+class Walks(unittest.TestCase):
+    def test_cases_are_those_of_the_enum(self) -> None:
+        self.assertEqual(walks.cases_of("Event", MATCHED, "A"), walks.Cases("Event", ("A", "B", "C", "D", "E", "F"), ("A",)))
+
+    def test_a_walk_names_six_cases_in_its_clauses(self) -> None:
+        event = walks.cases_of("Event", MATCHED)
+        self.assertEqual(event.walks_of("a.antt", WALKED), ["step"])
+        self.assertEqual(event.walks_of("a.antt", WALKED.replace("step C = 2\n", "")), [])
+        self.assertEqual(event.walks_of("a.rt", MATCHED), ["Event"])
+
+    def test_a_case_is_there_by_its_name_or_its_word(self) -> None:
+        source = walks.Source("a.rt", "", frozenset(("giveup", "Ask")))
+        self.assertEqual([source.has(it) for it in ("GiveUp", "Ask", "Give")], [True, True, False])
+
+    def test_what_has_become_more_is_named_and_what_is_less_is_taken_off(self) -> None:
+        may = {"Event": {"walks": 2, "A": 5}}
+        self.assertEqual([*walks.over({"Event": {"walks": 2, "A": 4}}, may)], [])
+        self.assertEqual(
+            [*walks.over({"Event": {"walks": 3, "A": 6}}, may)],
+            [
+                "Event: 3 walks over its cases, and there may be 2 (docs/measured/budget.json)",
+                "Event: A is in 6 sources of crates, and there may be 5 (docs/measured/budget.json)",
+            ],
+        )
+        self.assertEqual(walks.lowered({"Event": {"walks": 3, "A": 4, "B": 1}}, may), {"Event": {"walks": 2, "A": 4, "B": 1}})
 
 
 class Dead(unittest.TestCase):

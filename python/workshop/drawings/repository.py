@@ -29,7 +29,7 @@ def layers() -> list[Layer]:
         named = re.findall(r"\w+", coded[1]) if coded else []
         kinds = {}
         for crate in re.findall(r"^(\w+):", lines, re.MULTILINE):
-            kind = "tests" if crate.endswith("tests") else "code" if "All" in named or crate in named else "laws"
+            kind = "code" if "All" in named or crate in named else "laws"
             kinds[crate] = kind
         found.append(Layer(name, words.split(". ")[0].removesuffix("."), kinds))
     return found
@@ -43,7 +43,7 @@ def purpose_of(layer: Layer) -> str:
     return words
 
 
-KINDS = {"code": "blue", "laws": "purple", "tests": "plain"}
+KINDS = {"code": "blue", "laws": "purple"}
 
 
 def layers_drawing() -> Drawing:
@@ -82,7 +82,7 @@ def layers_drawing() -> Drawing:
                 drawing.text(x + wide / 2, y + 36.5 + 28 * at, crate, "ink mono", size=12)
                 x += wide + 6
         y += high + 6
-    for x, kind, words in ((16, "code", "with code"), (180, "laws", "laws only"), (330, "tests", "tests")):
+    for x, kind, words in ((16, "code", "with code"), (180, "laws", "laws only")):
         drawing.box(x, y + 8, 16, 16, KINDS[kind], round_by=3)
         drawing.text(x + 22, y + 16, f"{words}: {counts[kind]}", "soft", at="start")
     return drawing

@@ -60,6 +60,7 @@ BUILT_IN = {
     "ℕ",
     "⊥",
 }
+FORMS = {"zero", "suc", "true", "false", "None", "Some", "Ok", "Err", "inl", "inr", "refl", "tt"}
 KEYWORDS = {
     "field",
     "open",
@@ -104,6 +105,11 @@ def mangled(name: str) -> str:
     """A name as Agda may have it."""
     found = name.replace("_", "-")
     return f"{found}′" if found in KEYWORDS else found
+
+
+def variable(name: str) -> str:
+    """A name that a clause gives, which a form may have in Agda."""
+    return f"{name}′" if name in FORMS else mangled(name)
 
 
 @dataclass
@@ -226,7 +232,7 @@ class Writer:
         here = self.library.module(module)
         if isinstance(term, Name):
             if term.text in local:
-                return mangled(term.text)
+                return variable(term.text)
             if term.text in here.own or term.text in here.forms or term.text in here.names:
                 return self.of_meaning(self.library.meaning(module, term.text), module, term.text)
             return self.built_in(term.text)
@@ -271,7 +277,7 @@ class Writer:
 
     def form(self, meaning: Form) -> str:
         """A constructor, with its type before it."""
-        owner = next((self.name_of(*key) for key in self.owners if key[1] == meaning.type), None)
+        owner = next((self.name_of(*key) for key in self.owners if key == (meaning.module, meaning.type)), None)
         if owner:
             return f"{owner}.{mangled(meaning.name)}"
         self.rust.write(meaning.type, meaning.crate)
@@ -333,9 +339,9 @@ class Writer:
             names = [it.pattern.text for it in term.parameters if isinstance(it.pattern, Name)]
             if len(names) < len(term.parameters):
                 raise NotWritten("a function of a pattern")
-            return f"(λ {' '.join(map(mangled, names))} → {self.term(term.body, module, local | {*names})})"
+            return f"(λ {' '.join(map(variable, names))} → {self.term(term.body, module, local | {*names})})"
         if isinstance(term, Let) and isinstance(term.pattern, Name):
-            name, value = mangled(term.pattern.text), self.term(term.value, module, local)
+            name, value = variable(term.pattern.text), self.term(term.value, module, local)
             return f"(let {name} = {value} in {self.term(term.body, module, local | {term.pattern.text})})"
         raise NotWritten(f"a {type(term).__name__}")
 
@@ -343,7 +349,7 @@ class Writer:
         type_ = self.term(binder.type, module, local)
         if not binder.names:
             return type_
-        said = f"{' '.join(map(mangled, binder.names))} : {type_}"
+        said = f"{' '.join(map(variable, binder.names))} : {type_}"
         return f"{{{said}}}" if binder.implicit else f"({said})"
 
     def product(self, parts: Sequence[tuple[str | None, Term]], module: str, local: frozenset[str]) -> str:
@@ -353,7 +359,7 @@ class Writer:
             is_last = at == 3 and len(parts) > 4
             text = self.product(parts[3:], module, local) if is_last else self.term(type_, module, local)
             found.append(f"(λ {' '.join(names)} → {text})" if names else text)
-            names.append(mangled(name) if name else "_")
+            names.append(variable(name) if name else "_")
             local = local | {name} if name else local
         return f"(Sig{len(found)} {' '.join(found)})"
 
@@ -377,7 +383,7 @@ class Writer:
             if self.is_form(term.text, module):
                 return self.term(term, module, frozenset())
             local.add(term.text)
-            return mangled(term.text)
+            return variable(term.text)
         raise NotWritten("a pattern of another kind")
 
     def is_form(self, name: str, module: str) -> bool:

@@ -3,7 +3,8 @@
 from __future__ import annotations
 
 import dataclasses
-from collections.abc import Iterator
+import time
+from collections.abc import Collection, Iterator
 from dataclasses import dataclass, replace
 from typing import Union
 
@@ -12,10 +13,24 @@ from dorydate.definitions.files import Definition, Structure
 from dorydate.definitions.library import WORDS, Defined, Library, Typed
 from dorydate.definitions.promise import BOOK, Judge
 from dorydate.definitions.reach import Reach, meanings_in, terms_of
-from dorydate.definitions.terms import Field, If, Implicit, Name, Number, Operation, Term
+from dorydate.definitions.terms import (
+    Both,
+    Case,
+    Field,
+    ForAll,
+    Function,
+    If,
+    Implicit,
+    Let,
+    Name,
+    Number,
+    Operation,
+    Term,
+)
+from workshop.second.agda import BUILT_IN
 from workshop.second.rows import Row, computed, files, rows_of, sources
 
-MOST_ROWS = 60  # that are tried of each definition: those that lead to the fewest others
+MOST_SECONDS = 4  # of the processor for each change: the rows that lead to the fewest definitions come first
 MOST_CALLS = 60_000  # of definitions in a row: a changed one may never end
 WAYS = 20  # how many changes of each definition are tried at most
 NAMES = {
@@ -86,61 +101,82 @@ class Change:
     item: Union[Definition, Structure]
 
 
-LOCAL = {"own", "partner", "foreign", "from", "to", "a", "b", "receiver", "sender", "mine", "yours", "h", "peer", "server", "user"}
-
-
-def names_in(term: object) -> set[str]:
-    """The names in a term, and those that its binders give."""
+def bound_in(term: object) -> set[str]:
+    """The names that a pattern gives."""
     if isinstance(term, Name):
         return {term.text}
-    if isinstance(term, str):
-        return {term}
     if isinstance(term, tuple):
-        return {name for it in term for name in names_in(it)}
-    return names_in(tuple(vars(term).values())) if dataclasses.is_dataclass(term) else set()
+        return {name for it in term for name in bound_in(it)}
+    return bound_in(tuple(vars(term).values())) if dataclasses.is_dataclass(term) else set()
 
 
-def changed(term: object) -> Iterator[tuple[str, object]]:
-    """A term with one word changed, in each way, with what that is."""
-    if isinstance(term, Implicit):
-        return
-    if isinstance(term, Name) and term.text in NAMES:
-        yield f"{term.text} → {NAMES[term.text]}", Name(NAMES[term.text])
-    elif isinstance(term, Number):
-        yield f"{term.value} → {term.value + 1}", Number(term.value + 1)
-    elif isinstance(term, Operation) and term.word in WORDS_OF:
-        yield f"{term.word} → {WORDS_OF[term.word]}", Operation(WORDS_OF[term.word], term.left, term.right)
-    elif isinstance(term, Field) and term.name in FIELDS:
-        yield f".{term.name} → .{FIELDS[term.name]}", Field(term.of, FIELDS[term.name])
-    elif isinstance(term, If):
-        yield "then ↔ else", If(term.condition, term.otherwise, term.then)
-    if isinstance(term, tuple):
-        for at, it in enumerate(term):
-            yield from ((what, (*term[:at], other, *term[at + 1 :])) for what, other in changed(it))
-    elif dataclasses.is_dataclass(term) and not isinstance(term, type):
-        for one in dataclasses.fields(term):
-            for what, other in changed(getattr(term, one.name)):
-                yield what, replace(term, **{one.name: other})
+def inner_names(term: object, field: str) -> set[str]:
+    """The names that a term gives to what one of its fields has."""
+    if isinstance(term, ForAll) and field == "body":
+        return {*term.binder.names}
+    if isinstance(term, Function) and field == "body":
+        return bound_in(tuple(it.pattern for it in term.parameters))
+    if isinstance(term, (Let, Case)) and field == "body":
+        return bound_in(term.pattern)
+    return {it.name for it in term.parts if it.name} if isinstance(term, Both) else set()
 
 
-def in_scope(term: object, known: set[str]) -> Iterator[tuple[str, object]]:
-    """The changes of a term that name nothing unknown."""
-    for what, other in changed(term):
-        if not names_in(other) & LOCAL - known:
-            yield what, other
+@dataclass(frozen=True)
+class Changer:
+    """Changes terms of a module by one word, to words that it has."""
+
+    library: Library
+    module: str
+
+    def has(self, name: str, local: frozenset[str]) -> bool:
+        """Whether a name means something here."""
+        here, words = self.library.module(self.module), self.library.module(WORDS)
+        known: list[Collection[str]] = [local, here.own, here.forms, here.names, words.own, BUILT_IN]
+        return any(name in it for it in known)
+
+    def changed(self, term: object, local: frozenset[str]) -> Iterator[tuple[str, object]]:
+        """A term with one word changed, in each way, with what that is."""
+        if isinstance(term, Implicit):
+            return
+        yield from self.word(term, local)
+        if isinstance(term, tuple):
+            for at, it in enumerate(term):
+                yield from ((what, (*term[:at], other, *term[at + 1 :])) for what, other in self.changed(it, local))
+        elif dataclasses.is_dataclass(term) and not isinstance(term, type):
+            for one in dataclasses.fields(term):
+                inner = local | inner_names(term, one.name)
+                for what, other in self.changed(getattr(term, one.name), inner):
+                    yield what, replace(term, **{one.name: other})
+
+    def word(self, term: object, local: frozenset[str]) -> Iterator[tuple[str, object]]:
+        """What the first word of a term may be instead."""
+        if isinstance(term, Name) and term.text in NAMES:
+            other = NAMES[term.text]
+            if (term.text in local) == (other in local) and self.has(other, local):
+                yield f"{term.text} → {other}", Name(other)
+        elif isinstance(term, Number):
+            yield f"{term.value} → {term.value + 1}", Number(term.value + 1)
+        elif isinstance(term, Operation) and term.word in WORDS_OF:
+            yield f"{term.word} → {WORDS_OF[term.word]}", Operation(WORDS_OF[term.word], term.left, term.right)
+        elif isinstance(term, Field) and term.name in FIELDS:
+            yield f".{term.name} → .{FIELDS[term.name]}", Field(term.of, FIELDS[term.name])
+        elif isinstance(term, If):
+            yield "then ↔ else", If(term.condition, term.otherwise, term.then)
 
 
-def changes(key: Key, item: Definition | Structure) -> Iterator[Change]:
+def changes(library: Library, key: Key, item: Definition | Structure) -> Iterator[Change]:
     """The changes of a definition: of the values of its clauses, or of what its fields say."""
-    known = names_in(terms_of(item))
+    changer = Changer(library, key[0])
     if isinstance(item, Structure):
+        local = frozenset(name for it in item.binders for name in it.names)
         for at, member in enumerate(item.members):
-            for what, type_ in in_scope(member.type, known):
+            for what, type_ in changer.changed(member.type, local):
                 members = (*item.members[:at], replace(member, type=as_term(type_)), *item.members[at + 1 :])
                 yield Change(key, f"{member.name}: {what}", replace(item, members=members))
+            local |= {member.name}
         return
     for at, clause in enumerate(item.clauses):
-        for what, value in in_scope(clause.value, names_in((clause.patterns, clause.value))):
+        for what, value in changer.changed(clause.value, frozenset(bound_in(clause.patterns))):
             clauses = [*item.clauses[:at], replace(clause, value=as_term(value)), *item.clauses[at + 1 :]]
             yield Change(key, f"clause {at + 1}: {what}", replace(item, clauses=clauses))
 
@@ -193,10 +229,10 @@ class Rows:
     def of(self, key: Key) -> list[Row]:
         """Those that lead to a definition, the shortest first."""
         found = [(len(below), at, row) for at, (row, below) in enumerate(self.rows) if key in below]
-        return [row for _, _, row in sorted(found, key=lambda it: it[:2])][:MOST_ROWS]
+        return [row for _, _, row in sorted(found, key=lambda it: it[:2])]
 
     def notices(self, change: Change) -> str:
-        """The row that notices a change; nothing where none does."""
+        """What a row that notices a change comes to: it fails, or can't be computed; nothing where none does."""
         own = self.library.module(change.key[0]).own
         before = own[change.key[1]]
         own[change.key[1]] = change.item
@@ -204,7 +240,14 @@ class Rows:
         try:
             decider = Decider(self.library)
             decider.compiler.most_calls = MOST_CALLS
-            return next((row.called for row in self.of(change.key) if computed(decider, row) == "fails"), "")
+            end = time.process_time() + MOST_SECONDS
+            for row in self.of(change.key):
+                found = computed(decider, row)
+                if found == "fails" or found.startswith("isn't"):
+                    return found
+                if time.process_time() > end:
+                    break
+            return ""
         finally:
             own[change.key[1]] = before
             self.library.meanings.clear()
@@ -215,7 +258,7 @@ def table(most: int = WAYS) -> Iterator[str]:
     rows = Rows()
     tried = missed = 0
     for key, it in sorted(page().items()):
-        found = spread([*changes(key, it.item)], most)
+        found = spread([*changes(rows.library, key, it.item)], most)
         left = [change.what for change in found if not rows.notices(change)]
         tried, missed = tried + len(found), missed + len(left)
         yield f"{key[0].removeprefix('Rattle.')}.{key[1]}: {len(found)} tried{f', not noticed: {left}' if left else ''}"

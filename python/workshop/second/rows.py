@@ -23,7 +23,7 @@ OTHERS = {
     "hex/specs/Hex.antt": "hex.txt",
     "toml/specs/Data.antt": "toml.txt",
 }  # what rows name of the toolchain's crates
-WORKED = ("worked_", "unsafe_")
+WORKED = "worked"  # begins the names of functions of rows, or of the file that has them
 GENERIC = ("C",)  # what a generic function is about
 
 
@@ -50,7 +50,12 @@ def sources() -> Sources:
 
 def files() -> list[str]:
     found = glob.glob(f"{CRATES}/*/src/**/*.rt", recursive=True)
-    return sorted(os.path.relpath(it, CRATES) for it in found if "\npub fn worked_" in text_of(it))
+    return sorted(os.path.relpath(it, CRATES) for it in found if is_worked(it) or f"\npub fn {WORKED}_" in text_of(it))
+
+
+def is_worked(file: str) -> bool:
+    """Whether all functions of a file are of rows."""
+    return os.path.basename(file).startswith(WORKED)
 
 
 def rows_of(library: Library, names: Iterable[str]) -> Iterator[Row]:
@@ -60,7 +65,7 @@ def rows_of(library: Library, names: Iterable[str]) -> Iterator[Row]:
         module = f"rows of {file}"
         library.modules[module] = Module(module, uses_of(text))
         for it in clauses_of(text):
-            if it.function.startswith(WORKED):
+            if it.function.startswith(WORKED) or is_worked(file):
                 yield Row(file, it.function, it.name, term_of(it.text, it.line), module)
 
 

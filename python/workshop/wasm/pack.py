@@ -32,6 +32,7 @@ EXPORT_LIST = re.compile(r"^export\s+\{([^}]*)\};[ ]*$", re.MULTILINE)
 COMMENT = re.compile(r"/\*\*.*?\*/", re.DOTALL)  # where types are
 TEXT_OR_COMMENT = re.compile(r"""("(?:[^"\\\n]|\\.)*"|'(?:[^'\\\n]|\\.)*'|`[^`\n]*`)|/\*\*.*?\*/""", re.DOTALL)
 DOCUMENTATION = re.compile(r"^[ ]*/\*\*(?:[^*]|\*(?!/))*\*/[ ]*\n", re.MULTILINE)
+IMPORTED = re.compile(r'^@import "([^"]*)";$', re.MULTILINE)
 OF_STYLE = re.compile(r"/\*(?:[^*]|\*(?!/))*\*/")
 BLANK = re.compile(r"^\s+", re.MULTILINE)  # indents, and lines with nothing
 SPACES = re.compile(r"\s*([{};])\s*|(?<=:)\s+")  # of a style, but for those that part words
@@ -85,6 +86,12 @@ def tight(text: str) -> str:
     """A script without the spaces at signs, line by line. A line in which they may count stays as it is."""
     lines = text.splitlines(keepends=True)
     return "".join(line if MAY_COUNT.search(line) else SPACED.sub(r"\1\2", line) for line in lines)
+
+
+def style_of(path: str) -> str:
+    """A style, with those that it imports in their places."""
+    folder = os.path.dirname(path)
+    return IMPORTED.sub(lambda it: style_of(f"{folder}/{it[1]}"), read(path))
 
 
 def bare_style(text: str) -> str:
@@ -198,7 +205,7 @@ def hash_of(text: str) -> str:
 
 def page(folder: str, module: bytes) -> str:
     """The page, whole."""
-    style, script = f"\n{bare_style(read(f'{folder}/page.css'))}", f"\n{joined(f'{folder}/main.js')}"
+    style, script = f"\n{bare_style(style_of(f'{folder}/page.css'))}", f"\n{joined(f'{folder}/main.js')}"
     if "</style" in style or "</script" in script:
         raise Refused("the style or the script would end too early")
     policy = f"default-src 'none'; script-src {hash_of(script)} 'wasm-unsafe-eval'; style-src {hash_of(style)}; worker-src blob:; base-uri 'none'; form-action 'none'"

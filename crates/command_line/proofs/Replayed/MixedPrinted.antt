@@ -5,7 +5,7 @@ use Rattle.command_line.proofs.Common.{MixedFields, MixedWorldEvent, ShowsBook, 
 use Rattle.command_line.proofs.Common.{map, shown, subnet_calls, subnet_of, ungranted}
 use Rattle.std.proofs.Common.{◌&&◌, ◌==◌}
 use Rattle.std.proofs.lemmas.Bool.{false≢true}
-use Rattle.std.specs.Prelude.{None, Some, if◌then◌else◌, is_some}
+use Rattle.std.specs.Prelude.{None, Some, ◌||◌}
 use Rattle.interface.proofs.lemmas.{contains_head}
 use Rattle.interface.specs.Host.{is_host}
 use Rattle.interface.specs.Mailboxes.{IsRun}
@@ -154,11 +154,10 @@ untold strange m lives source destination off book = elim book.told.0 [
   | inr control ↦ false≢true (sym off ∙ control)
 ]
   where
-    by : (a b : Bool) → a ≡ false → b ≡ false
-        → is_some (if a then Some m.flow.source else (if b then Some m.flow.destination else None)) ≡ false
+    by : (a b : Bool) → a ≡ false → b ≡ false → (a || b) ≡ false
     by false false p q = refl
-    by true b p q = absurd (false≢true (sym p))
     by false true p q = absurd (false≢true (sym q))
+    by true b p q = absurd (false≢true (sym p))
 
 pub no_notice : (strange : Host → Bool) (life : Life) (lives : List Life)
     → AreOneBookAmong strange [] (life ∷ lives) → ⊥

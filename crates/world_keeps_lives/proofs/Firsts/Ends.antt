@@ -1,5 +1,5 @@
 -- The ends of lives that aren't over, each on its link. What is asked of two programs together is `Together`.
-use Rattle.world_keeps_lives.proofs.Common.{◌≡◌, ◌⊎◌, inr, ℕ, ◌<◌, ◌≤◌, ◌==◌, Bool, true, false, if◌then◌else◌, List, [], ◌∷◌, map, drop, length, Some, refl, ap, sym, subst, ◌∙◌, arith, eq-eqb, Contains, max-le, eqb-true, Host, Flow, Crossing, HostMessage, IsCommand, is_receive_socket, Command, Legal, Order, orders_of, is_link, is_mine_on, is_open, is_receiving, sends_on, Parcel, Entry, both, text_good, AreOrders, IsOrder, pair_with, AreInOrder, message_for, next_in, Peer, HaveAddresses, CrossedAt, coming, going, request, texts_for, Name, before, own_request, receives, Asked, Crossed, IsNext, Moment, places, program, IsTimeline, crossings_of, kept_in, notices_by, Life, begun, HasOpenEnd}
+use Rattle.world_keeps_lives.proofs.Common.{◌≡◌, ◌⊎◌, inr, ℕ, ◌<◌, ◌≤◌, ◌==◌, Bool, true, false, if◌then◌else◌, List, [], ◌∷◌, map, drop, length, Some, refl, ap, sym, subst, ◌∙◌, arith, eq-eqb, Contains, max-le, eqb-true, Host, Flow, Crossing, HostMessage, IsCommand, is_receive_socket, Command, Legal, Order, orders_of, is_link, is_mine_on, is_open, is_receiving, sends_on, Parcel, Entry, both, text_good, AreOrders, IsOrder, pair_with, AreInOrder, message_for, next_in, Peer, HaveAddresses, CrossedAt, coming, going, request, texts_for, Name, before, own_request, receives, Asked, Crossed, IsNext, Moment, places, program, crossings_of, notices_by, Life, begun, HasOpenEnd}
 use Rattle.std.proofs.lemmas.Option.{same_Some}
 use Rattle.interface.specs.Mailboxes as mail
 use Rattle.interface.specs.declared.crossing.Crossing.TheVariants as crossing
@@ -14,21 +14,25 @@ use Rattle.world_keeps_lives.proofs.Firsts.Lists.{Pairwise, each_all, life_of}
 use Rattle.world_keeps_lives.proofs.Begun.{alone_on, one_is}
 use Rattle.world_keeps_lives.proofs.Grounds.{Grounded, Nothing, May, crossed_below, grounds}
 use Rattle.world_keeps_lives.proofs.Laws.{live}
-use Rattle.world_keeps_lives.proofs.Linked.{HasRequests, IsFirst, IsSentIn, Linked}
+use Rattle.world_keeps_lives.proofs.Firsts.Linked.{HasRequests, IsFirst, IsSentIn, Linked}
 use Rattle.world_keeps_lives.proofs.Walk.Rules.{Begins, Each, Goes, Hears, MayTell, Rules, each_in, each_of}
 use Rattle.world_keeps_lives.proofs.Stamps.{Due, open_back}
-use Rattle.world_keeps_lives.proofs.Texts.{IsFull}
-use Rattle.reset_law.specs.Network.{all_ours}
-use Rattle.net_sim.proofs.lemmas.AllOurs.{happened}
+use Rattle.world_keeps_lives.proofs.Firsts.Texts.{IsFull}
+use Rattle.reset_law.specs.Network.{AreOurs, Network}
+use Rattle.net_sim.specs.Mixed.{Happened, mixed_kept}
+use Rattle.world_keeps_pairing.specs.Laws.Worlds.{among}
+use Rattle.world_keeps_pairing.proofs.lemmas.{in_book}
 
-abbrev pub Lawful : List Host → List Moment → Type 0
-Lawful hosts ms = HaveAddresses hosts × mail.IsRun hosts (crossings_of ms) × IsTimeline hosts ms
+-- what happened in a network, whatever its strangers did, where what crossed is a run of the mailboxes
+abbrev pub Lawful : Network → List Moment → Type 0
+Lawful hosts ms = HaveAddresses hosts.all × mail.IsRun hosts.all (crossings_of ms) × Happened hosts ms
 
 abbrev pub ends_in : Host → Host → List Moment → List Entry
 ends_in a b ms = (pair_with b (program a ms).peers).entries
 
-abbrev pub lives_in : List Moment → List Life
-lives_in ms = (kept_in ms).book.lives
+-- the lives between two hosts with programs
+abbrev pub lives_in : Network → List Moment → List Life
+lives_in hosts ms = among hosts ms
 
 -- ---- an RTS names no link 0
 
@@ -45,13 +49,15 @@ not_zero link e = by (link == 0) refl where
   by true f = absurd (let r : is_connection_link 0 ≡ true = subst (λ (n : ℕ). is_connection_link n ≡ true) (eqb-true link 0 f) e in let t : false ≡ true = r in cc)
   by false f = refl
 
-rts_off : (text : List Bool) (own foreign link : ℕ) → is_receive_socket own ≡ true → Contains (orders_of text) (Legal (request own foreign link)) → (link == 0) ≡ false
+rts_off : (text : List Bool) (own foreign link : ℕ) → is_receive_socket own ≡ true
+    → Contains (orders_of text) (Legal (request own foreign link)) → (link == 0) ≡ false
 rts_off text own foreign link even there =
     let c : request own foreign link ≡ command.Rts own foreign link = ap (λ (b : Bool). if b then command.Rts own foreign link else command.Str own foreign link) even in
     let ok : IsCommand (command.Rts own foreign link) = order_there text (command.Rts own foreign link) (subst (λ (d : Command). Contains (orders_of text) (Legal d)) c there) in
     not_zero link ok.4
 
-pub str_foreign : (text : List Bool) (own foreign size : ℕ) → is_receive_socket own ≡ false → Contains (orders_of text) (Legal (request own foreign size)) → is_receive_socket foreign ≡ true
+pub str_foreign : (text : List Bool) (own foreign size : ℕ) → is_receive_socket own ≡ false
+    → Contains (orders_of text) (Legal (request own foreign size)) → is_receive_socket foreign ≡ true
 str_foreign text own foreign size odd there =
     let c : request own foreign size ≡ command.Str own foreign size = ap (λ (b : Bool). if b then command.Rts own foreign size else command.Str own foreign size) odd in
     let ok : IsCommand (command.Str own foreign size) = order_there text (command.Str own foreign size) (subst (λ (d : Command). Contains (orders_of text) (Legal d)) c there) in
@@ -59,10 +65,12 @@ str_foreign text own foreign size odd there =
 
 pub linked_off : (log : List Crossing) (p : Linked) → HasRequests log p → (p.link == 0) ≡ false
 linked_off log p f = by (receives p.life) refl where
-  own_is : (b : Bool) → receives p.life ≡ b → Contains (orders_of f.own.message.text) (Legal (request p.life.socket p.life.foreign (if b then p.link else f.size)))
+  own_is : (b : Bool) → receives p.life ≡ b
+      → Contains (orders_of f.own.message.text) (Legal (request p.life.socket p.life.foreign (if b then p.link else f.size)))
   own_is b e = subst (λ (v : Bool). Contains (orders_of f.own.message.text) (Legal (request p.life.socket p.life.foreign (if v then p.link else f.size)))) e f.own.holds
 
-  partner_is : (b : Bool) → receives p.life ≡ b → Contains (orders_of f.partner.message.text) (Legal (request p.life.foreign p.life.socket (if b then f.size else p.link)))
+  partner_is : (b : Bool) → receives p.life ≡ b
+      → Contains (orders_of f.partner.message.text) (Legal (request p.life.foreign p.life.socket (if b then f.size else p.link)))
   partner_is b e = subst (λ (v : Bool). Contains (orders_of f.partner.message.text) (Legal (request p.life.foreign p.life.socket (if v then f.size else p.link)))) e f.partner.holds
 
   by : (b : Bool) → receives p.life ≡ b → (p.link == 0) ≡ false
@@ -71,22 +79,29 @@ linked_off log p f = by (receives p.life) refl where
 
 -- ---- what two programs do together
 
-pub record HasOwner (a b : Host) (ms : List Moment) (e : Entry) : Type 0 where
+pub record HasOwner (hosts : Network) (a b : Host) (ms : List Moment) (e : Entry) : Type 0 where
   pub life : Life
-  pub there : Contains (lives_in ms) life
+  pub there : Contains (lives_in hosts ms) life
   pub host : life.host ≡ a
   pub peer : life.peer ≡ b
   pub goes : life.ended ≡ false
   pub socket : life.socket ≡ e.own
 
-pub record Together (hosts : List Host) : Type 0 where
+pub record Together (hosts : Network) : Type 0 where
   -- of the ends of a host with a peer at most one sends on a link
-  pub one_sender : (ms : List Moment) → Lawful hosts ms → (a b : Host) (link : ℕ) → (link == 0) ≡ false → (e f : Entry) → Contains (ends_in a b ms) e → Contains (ends_in a b ms) f → sends_on link e ≡ true → sends_on link f ≡ true → e ≡ f
+  pub one_sender : (ms : List Moment) → Lawful hosts ms → (a b : Host) → AreOurs hosts a b → (link : ℕ)
+      → (link == 0) ≡ false → (e f : Entry) → Contains (ends_in a b ms) e → Contains (ends_in a b ms) f
+      → sends_on link e ≡ true → sends_on link f ≡ true → e ≡ f
   -- an open end has a life
-  pub owner : (ms : List Moment) → Lawful hosts ms → (a b : Host) (e : Entry) → Contains (ends_in a b ms) e → e.mine ≡ true → is_open e ≡ true → HasOwner a b ms e
+  pub owner : (ms : List Moment) → Lawful hosts ms → (a b : Host) → AreOurs hosts a b → (e : Entry)
+      → Contains (ends_in a b ms) e → e.mine ≡ true → is_open e ≡ true → HasOwner hosts a b ms e
   -- data that come to an open end arrive
-  pub arrives : (ms : List Moment) (m : HostMessage) → Lawful hosts (Crossed (crossing.In m) ∷ ms) → (x : Life) → Contains (lives_in ms) x → receives x ≡ true → x.ended ≡ false → x.host ≡ m.flow.destination → x.peer ≡ m.flow.source
-      → (o : HasOpenEnd (program x.host ms) x) → is_open o.end ≡ true → o.end.link ≡ Some m.flow.link.0 → (m.flow.link.0 == 0) ≡ false → notices_by (Crossed (crossing.In m)) ms ≡ notice.Arrived x.socket (drop 40 m.text) ∷ []
+  pub arrives : (ms : List Moment) (m : HostMessage) → Lawful hosts (Crossed (crossing.In m) ∷ ms) → (x : Life)
+      → Contains (lives_in hosts ms) x → receives x ≡ true → x.ended ≡ false → x.host ≡ m.flow.destination
+      → x.peer ≡ m.flow.source
+      → (o : HasOpenEnd (program x.host ms) x) → is_open o.end ≡ true → o.end.link ≡ Some m.flow.link.0
+      → (m.flow.link.0 == 0) ≡ false
+      → notices_by (Crossed (crossing.In m)) ms ≡ notice.Arrived x.socket (drop 40 m.text) ∷ []
 
 -- ---- a life's end, which has its link. While it is open this holds
 
@@ -119,9 +134,14 @@ module _ (x : Life) (link : ℕ) (N : Type 0) where
     str = λ own foreign size e there odd o f h mine o2 asked partner. absurd (let s : stamp ≡ x.own_stamp = same_Some stamp x.own_stamp asked in omega (arith, s, below));
   }
 
-  pub held_may : (y : Moment) (moments : List Moment) → (a b : Host) → ((m : HostMessage) → y ≡ Crossed (crossing.Out m) → IsNext (program m.flow.source moments) m) → x.own_stamp < places moments → x.partner_stamp < places moments → May Held Nothing a b (held_rules b) y moments
-  held_may (Crossed (crossing.Out m)) moments a b story below later = (may, λ from. story m refl) where
-    may : (g : Peer) (z : Parcel) → a ≡ m.flow.source → b ≡ m.flow.destination → next_in (program a moments).peers ≡ Some (g, z) → AreInOrder (program a moments).peers → m ≡ message_for (program a moments).own g z → MayTell Held Nothing b (held_rules b) (places moments) z (pair_with b (program a moments).peers)
+  pub held_may : (y : Moment) (moments : List Moment) → (a b : Host)
+      → ((m : HostMessage) → y ≡ Crossed (crossing.Out m) → a ≡ m.flow.source → IsNext (program m.flow.source moments) m)
+      → x.own_stamp < places moments → x.partner_stamp < places moments → May Held Nothing a b (held_rules b) y moments
+  held_may (Crossed (crossing.Out m)) moments a b story below later = (may, λ from. story m refl from) where
+    may : (g : Peer) (z : Parcel) → a ≡ m.flow.source → b ≡ m.flow.destination
+        → next_in (program a moments).peers ≡ Some (g, z) → AreInOrder (program a moments).peers
+        → m ≡ message_for (program a moments).own g z
+        → MayTell Held Nothing b (held_rules b) (places moments) z (pair_with b (program a moments).peers)
     may g parcel.Reset from to next order is = tt
     may g parcel.Reply from to next order is = tt
     may g (parcel.Commands count) from to next order is = held_goes (places moments) _ below
@@ -135,12 +155,13 @@ module _ (x : Life) (link : ℕ) (N : Type 0) where
 pub record Tracked (ms : List Moment) (p : Linked) : Type 0 where
   pub first : IsFirst (crossings_of ms) p
   pub other : (p.link == 0) ≡ false
-  pub held : p.life.ended ≡ false → Each (Held p.life p.link (IsFull (crossings_of ms) p.life p.link)) (ends_in p.life.host p.life.peer ms)
+  pub held : p.life.ended ≡ false
+      → Each (Held p.life p.link (IsFull (crossings_of ms) p.life p.link)) (ends_in p.life.host p.life.peer ms)
 
 -- a life with its link that was there before, with the same requests
-pub record Was (ms : List Moment) (p : Linked) : Type 0 where
+pub record Was (hosts : Network) (ms : List Moment) (p : Linked) : Type 0 where
   pub one : Linked
-  pub there : Contains (lives_in ms) one.life
+  pub there : Contains (lives_in hosts ms) one.life
   pub tracked : Tracked ms one
   pub link : p.link ≡ one.link
   pub host : p.life.host ≡ one.life.host
@@ -152,9 +173,9 @@ pub record Was (ms : List Moment) (p : Linked) : Type 0 where
   pub goes : p.life.ended ≡ false → one.life.ended ≡ false
 
 -- each life was there before the last moment, or one of its requests crossed in that
-abbrev pub IsGrown : List Moment → Linked → Type 0
-IsGrown [] p = ⊥
-IsGrown (y ∷ ms) p = Was ms p ⊎ (begun p.life ≡ length (crossings_of ms))
+abbrev pub IsGrown : Network → List Moment → Linked → Type 0
+IsGrown hosts [] p = ⊥
+IsGrown hosts (y ∷ ms) p = Was hosts ms p ⊎ (begun p.life ≡ length (crossings_of ms))
 
 -- of two sending lives on one flow the earlier one is over, or the later one is and has nothing
 abbrev pub Apart : List Crossing → Linked → Linked → Type 0
@@ -162,20 +183,23 @@ Apart log p q =
     receives p.life ≡ false → receives q.life ≡ false → flow_of p.life p.link ≡ flow_of q.life q.link
     → ((q.life.messages ≡ 0) × (q.life.ended ≡ true)) ⊎ ((p.life.ended ≡ true) × (p.life.messages ≤ length (texts_for p.life p.link (before (begun q.life) log))))
 
-pub record Good (ms : List Moment) : Type 0 where
+pub record Good (hosts : Network) (ms : List Moment) : Type 0 where
   pub links : List Linked
-  pub all : map life_of links ≡ lives_in ms
+  pub all : map life_of links ≡ lives_in hosts ms
   pub tracked : Each (Tracked ms) links
-  pub grown : Each (IsGrown ms) links
+  pub grown : Each (IsGrown hosts ms) links
   pub apart : Pairwise (Apart (crossings_of ms)) links
-  pub sent : (place : ℕ) (m : HostMessage) → CrossedAt place (crossing.Out m) (crossings_of ms) → (m.flow.link.0 == 0) ≡ false → (p : Linked) × Contains links p × IsSentIn (crossings_of ms) place m p
+  pub sent : (place : ℕ) (m : HostMessage) → AreOurs hosts m.flow.source m.flow.destination
+      → CrossedAt place (crossing.Out m) (crossings_of ms) → (m.flow.link.0 == 0) ≡ false
+      → (p : Linked) × Contains links p × IsSentIn (crossings_of ms) place m p
 
 abbrev on_link : Flow → ℕ
 on_link f = f.link.0
 
 pub flow_link : (x : Life) (link : ℕ) → (flow_of x link).link.0 ≡ link
 flow_link x link = by (receives x) where
-  by : (b : Bool) → on_link (if b then record { source = x.peer; destination = x.host; link = record { 0 = link } } else record { source = x.host; destination = x.peer; link = record { 0 = link } }) ≡ link
+  by : (b : Bool)
+      → on_link (if b then record { source = x.peer; destination = x.host; link = record { 0 = link } } else record { source = x.host; destination = x.peer; link = record { 0 = link } }) ≡ link
   by true = refl
   by false = refl
 
@@ -193,9 +217,9 @@ module _ (ms : List Moment) (p : Linked) (t : Tracked ms p) where
       max-le (omega (arith, a)) (omega (arith, b))
 
 -- the life of an open end
-pub record Owner (a b : Host) (ms : List Moment) (e : Entry) : Type 0 where
+pub record Owner (hosts : Network) (a b : Host) (ms : List Moment) (e : Entry) : Type 0 where
   pub life : Life
-  pub there : Contains (lives_in ms) life
+  pub there : Contains (lives_in hosts ms) life
   pub host : life.host ≡ a
   pub peer : life.peer ≡ b
   pub goes : life.ended ≡ false
@@ -219,23 +243,33 @@ pub record AtEnd (ms : List Moment) (p : Linked) : Type 0 where
 
 -- ---- in lawful moments
 
-module _ (hosts : List Host) (given : Together hosts) where
+module _ (hosts : Network) (given : Together hosts) where
   module _ (ms : List Moment) (l : Lawful hosts ms) where
+    -- each of them is in the book, and between two such hosts
+    pub ours : (x : Life) → Contains (lives_in hosts ms) x → AreOurs hosts x.host x.peer
+    ours x there = (in_book hosts (mixed_kept hosts.strange ms).book.lives x there).1
+
+    -- the end of one that isn't over
+    pub live_now : (x : Life) → Contains (lives_in hosts ms) x → x.ended ≡ false → HasOpenEnd (program x.host ms) x
+    live_now x there goes = live hosts ms l.0 l.1 l.2 x (ours x there).0 (in_book hosts (mixed_kept hosts.strange ms).book.lives x there).0 goes
+
     -- the one end of a life that isn't over
-    pub is_end : (x : Life) (o : HasOpenEnd (program x.host ms) x) (e : Entry) → Contains (ends_in x.host x.peer ms) e → e.mine ≡ true → e.own ≡ x.socket → e ≡ o.end
+    pub is_end : (x : Life) (o : HasOpenEnd (program x.host ms) x) (e : Entry) → Contains (ends_in x.host x.peer ms) e
+        → e.mine ≡ true → e.own ≡ x.socket → e ≡ o.end
     is_end x o e there mine own = each_in (λ (f : Entry). f.mine ≡ true → f.own ≡ x.socket → f ≡ o.end) (ends_in x.host x.peer ms) e there (alone_on x.socket (ends_in x.host x.peer ms) o.end o.one) mine own
 
-    pub owned : (a b : Host) (e : Entry) → Contains (ends_in a b ms) e → is_open e ≡ true → Owner a b ms e
-    owned a b e there opened = from (given.owner ms l a b e there mine opened) where
+    pub owned : (a b : Host) → AreOurs hosts a b → (e : Entry) → Contains (ends_in a b ms) e → is_open e ≡ true
+        → Owner hosts a b ms e
+    owned a b two e there opened = from (given.owner ms l a b two e there mine opened) where
       ground : Grounded a b (crossings_of ms) e
-      ground = each_in (Grounded a b (crossings_of ms)) (ends_in a b ms) e there (grounds (all_ours hosts) l.0 ms l.1 (happened hosts ms l.2) a b (refl, refl))
+      ground = each_in (Grounded a b (crossings_of ms)) (ends_in a b ms) e there (grounds hosts l.0 ms l.1 l.2 a b two)
 
       mine : e.mine ≡ true
       mine = open_mine e ground.refusing opened
 
-      from : HasOwner a b ms e → Owner a b ms e
+      from : HasOwner hosts a b ms e → Owner hosts a b ms e
       from w =
-          let o : HasOpenEnd (program w.life.host ms) w.life = live hosts ms l.0 l.1 l.2 w.life w.there w.goes in
+          let o : HasOpenEnd (program w.life.host ms) w.life = live_now w.life w.there w.goes in
           let here : Contains (ends_in w.life.host w.life.peer ms) e = subst (λ (g : Host). Contains (ends_in g w.life.peer ms) e) (sym w.host) (subst (λ (g : Host). Contains (ends_in a g ms) e) (sym w.peer) there) in
           let is : e ≡ o.end = is_end w.life o e here mine (sym w.socket) in
           record {
@@ -252,14 +286,15 @@ module _ (hosts : List Host) (given : Together hosts) where
           }
 
     -- so each open end has a life of its own request
-    pub all_due : (a b : Host) → Each (Due (lives_in ms) (places ms)) (ends_in a b ms)
-    all_due a b = each_all (Due (lives_in ms) (places ms)) (ends_in a b ms) (λ e there opened u v asked partner.
-        (let w : Owner a b ms e = owned a b e there opened in
+    pub all_due : (a b : Host) → AreOurs hosts a b → Each (Due (lives_in hosts ms) (places ms)) (ends_in a b ms)
+    all_due a b two = each_all (Due (lives_in hosts ms) (places ms)) (ends_in a b ms) (λ e there opened u v asked partner.
+        (let w : Owner hosts a b ms e = owned a b two e there opened in
         inr (inr (record { life = w.life; there = w.there; place = same_Some w.life.own_stamp u (sym w.asked ∙ asked); socket = sym w.socket; foreign_is = sym w.foreign }))))
 
-    abbrev pub at_end : (p : Linked) → Contains (lives_in ms) p.life → Tracked ms p → p.life.ended ≡ false → AtEnd ms p
+    abbrev pub at_end : (p : Linked) → Contains (lives_in hosts ms) p.life → Tracked ms p → p.life.ended ≡ false
+        → AtEnd ms p
     at_end p there t goes =
-        let o : HasOpenEnd (program p.life.host ms) p.life = live hosts ms l.0 l.1 l.2 p.life there goes in
+        let o : HasOpenEnd (program p.life.host ms) p.life = live_now p.life there goes in
         let i : Contains (ends_in p.life.host p.life.peer ms) o.end × (is_mine_on p.life.socket o.end ≡ true) =
         one_is (λ e. Contains (ends_in p.life.host p.life.peer ms) e) p.life.socket (ends_in p.life.host p.life.peer ms) o.end o.one (each_of (ends_in p.life.host p.life.peer ms)) in
         let parts : (o.end.mine ≡ true) × ((o.end.own == p.life.socket) ≡ true) = both o.end.mine (o.end.own == p.life.socket) i.1 in
@@ -269,15 +304,18 @@ module _ (hosts : List Host) (given : Together hosts) where
         record { end = o.end; there = i.0; mine = parts.0; own = own; foreign = o.foreign; asked = o.own; partner = o.partner; link = h.0; full = h.1 }
 
     -- two sending lives on one flow that aren't over are one
-    pub sends_at : (p : Linked) → AtEnd ms p → receives p.life ≡ false → (link : ℕ) → p.link ≡ link → (e : Entry) → e.own ≡ p.life.socket → e.link ≡ Some p.link → sends_on link e ≡ true
+    pub sends_at : (p : Linked) → AtEnd ms p → receives p.life ≡ false → (link : ℕ) → p.link ≡ link → (e : Entry)
+        → e.own ≡ p.life.socket → e.link ≡ Some p.link → sends_on link e ≡ true
     sends_at p i kind link is e own linked =
         let k : is_receiving e ≡ false = ap is_receive_socket own ∙ kind in
         let s : is_link link e.link ≡ true = ap (is_link link) linked ∙ eq-eqb p.link link is in
         rw (k, s) refl
 
-    ends_same : (p q : Linked) → (i : AtEnd ms p) → (j : AtEnd ms q) → (p.link == 0) ≡ false → receives p.life ≡ false → receives q.life ≡ false → p.life.host ≡ q.life.host → p.life.peer ≡ q.life.peer → p.link ≡ q.link → i.end ≡ j.end
-    ends_same p q i j other kind like host peer link =
-        given.one_sender ms l p.life.host p.life.peer p.link other i.end j.end i.there
+    ends_same : (p q : Linked) → AreOurs hosts p.life.host p.life.peer → (i : AtEnd ms p) → (j : AtEnd ms q)
+        → (p.link == 0) ≡ false → receives p.life ≡ false → receives q.life ≡ false → p.life.host ≡ q.life.host
+        → p.life.peer ≡ q.life.peer → p.link ≡ q.link → i.end ≡ j.end
+    ends_same p q two i j other kind like host peer link =
+        given.one_sender ms l p.life.host p.life.peer two p.link other i.end j.end i.there
         (subst (λ (g : Host). Contains (ends_in g p.life.peer ms) j.end) (sym host) (subst (λ (g : Host). Contains (ends_in q.life.host g ms) j.end) (sym peer) j.there))
         (sends_at p i kind p.link refl i.end i.own i.link) (sends_at q j like p.link (sym link) j.end j.own j.link)
 
@@ -288,13 +326,15 @@ module _ (hosts : List Host) (given : Together hosts) where
     sends_out : (x : Life) (link : ℕ) → receives x ≡ false → flow_of x link ≡ sending_flow x link
     sends_out x link kind = ap (λ (b : Bool). if b then record { source = x.peer; destination = x.host; link = record { 0 = link } } else sending_flow x link) kind
 
-    pub never_two : (p q : Linked) → Contains (lives_in ms) p.life → Contains (lives_in ms) q.life → Tracked ms p → Tracked ms q → receives p.life ≡ false → receives q.life ≡ false → flow_of p.life p.link ≡ flow_of q.life q.link
+    pub never_two : (p q : Linked) → Contains (lives_in hosts ms) p.life → Contains (lives_in hosts ms) q.life
+        → Tracked ms p → Tracked ms q → receives p.life ≡ false → receives q.life ≡ false
+        → flow_of p.life p.link ≡ flow_of q.life q.link
         → p.life.ended ≡ false → q.life.ended ≡ false → own_request p.life ≡ own_request q.life
     never_two p q here there t u kind like flow goes also =
         let f : sending_flow p.life p.link ≡ sending_flow q.life q.link = sym (sends_out p.life p.link kind) ∙ flow ∙ sends_out q.life q.link like in
         let i : AtEnd ms p = at_end p here t goes in
         let j : AtEnd ms q = at_end q there u also in
-        let same : i.end ≡ j.end = ends_same p q i j t.other kind like (ap (λ (g : Flow). g.source) f) (ap (λ (g : Flow). g.destination) f) (ap (λ (g : Flow). g.link.0) f) in
+        let same : i.end ≡ j.end = ends_same p q (ours p.life here) i j t.other kind like (ap (λ (g : Flow). g.source) f) (ap (λ (g : Flow). g.destination) f) (ap (λ (g : Flow). g.link.0) f) in
         let place : p.life.own_stamp ≡ q.life.own_stamp = same_Some p.life.own_stamp q.life.own_stamp (sym i.asked ∙ ap (λ (e : Entry). e.asked) same ∙ j.asked) in
         let own : p.life.socket ≡ q.life.socket = sym i.own ∙ ap (λ (e : Entry). e.own) same ∙ j.own in
         let foreign : p.life.foreign ≡ q.life.foreign = sym i.foreign ∙ ap (λ (e : Entry). e.foreign) same ∙ j.foreign in

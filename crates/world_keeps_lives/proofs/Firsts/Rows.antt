@@ -1,8 +1,8 @@
 -- Books whose messages that went out are those of lives, and books whose aren't.
-use Rattle.world_keeps_lives.proofs.Common.{◌≡◌, ◌⊎◌, inl, inr, ℕ, ◌<◌, ◌≤◌, ◌==◌, Bool, true, false, List, [], ◌∷◌, drop, length, Option, Some, None, refl, ap, sym, subst, ◌∙◌, arith, Contains, option_map, Flow, Crossing, HostMessage, CrossedAt, texts_on, before, receives, Life, eight_sent, AreApart, FirstBook, IsSentIn, flow_on, texts_before, gave, sent_log, took, two_log}
+use Rattle.world_keeps_lives.proofs.Common.{◌≡◌, inl, inr, ℕ, ◌<◌, ◌≤◌, ◌==◌, true, false, List, [], ◌∷◌, drop, length, Option, Some, refl, ap, sym, subst, ◌∙◌, arith, Contains, option_map, Crossing, HostMessage, CrossedAt, texts_on, before, receives, Life, eight_sent, AreApart, IsSentIn, gave, sent_log, took, two_log}
 use Rattle.interface.specs.declared.crossing.Crossing.TheVariants as crossing
 use Rattle.promise.specs.Formed.{flow_of, link_of}
-use Rattle.world_keeps_lives.specs.Firsts.{ShareFlow}
+use Rattle.world_keeps_lives.specs.Firsts.{FirstBook, texts_before}
 use Rattle.world_keeps_lives.specs.WorkedFormed.{zeros_sent}
 use Rattle.world_keeps_lives.proofs.FormedRows.{rts_named}
 use Rattle.world_keeps_lives.proofs.Walk.Rules.{Each, each_in}

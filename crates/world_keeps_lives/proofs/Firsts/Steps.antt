@@ -1,6 +1,9 @@
 -- The messages of each life are the first on its link, and each message that goes out is one of a life: from one moment to the next.
-use Rattle.world_keeps_lives.proofs.Common.{Kept, ◌≡◌, ◌⊎◌, inl, inr, ℕ, suc, ◌+◌, ◌<◌, ◌≤◌, ◌==◌, ◌&&◌, max, not, Bool, true, false, List, [], ◌∷◌, ◌++◌, map, length, Some, refl, ap, sym, subst, ◌∙◌, arith, eq-eqb, Contains, max-le, eqb-true, map-append, Contains-append_left, Host, same_host, Crossing, HostMessage, same_host-refl, same_host-true, is_mine_on, is_open, Entry, both, carried, changed_when, lives_at, where_it, CrossedAt, coming, data_in, going, text_of, texts_for, AreTwo, Name, SafePartners, before, own_request, receives, Asked, Crossed, IsNext, Moment, places, program, crossings_of, Amount, Life, Coupled, coupled, places_same, queued_commands, safe_partners, served_in, begun, HasOpenEnd, mine_on}
-use Rattle.reset_law.specs.Network.{all_ours}
+use Rattle.world_keeps_lives.proofs.Common.{◌≡◌, ◌⊎◌, inl, inr, ℕ, suc, ◌+◌, ◌<◌, ◌≤◌, ◌==◌, ◌&&◌, max, not, Bool, true, false, List, [], ◌∷◌, ◌++◌, map, length, Some, refl, ap, sym, subst, ◌∙◌, arith, eq-eqb, Contains, max-le, eqb-true, map-append, Contains-append_left, Host, same_host, Crossing, HostMessage, same_host-refl, same_host-true, is_mine_on, is_open, Entry, both, carried, changed_when, lives_at, where_it, CrossedAt, coming, data_in, going, text_of, texts_for, AreTwo, Name, SafePartners, before, own_request, receives, Asked, Crossed, IsNext, Moment, places, program, crossings_of, Amount, Life, Coupled, places_same, begun, HasOpenEnd, mine_on}
+use Rattle.reset_law.specs.Network.{AreOurs, Network}
+use Rattle.net_sim.specs.Mixed.{mixed_kept}
+use Rattle.net_sim.proofs.lemmas.{coupled}
+use Rattle.world_keeps_pairing.proofs.lemmas.{in_book, queued_commands, safe_partners, served_in, two_in_book}
 use Rattle.std.proofs.Math.Nat.{le-max_left, le-max_right}
 use Rattle.std.proofs.lemmas.List.Elements.{Contains-append_right}
 use Rattle.interface.specs.declared.crossing.Crossing.TheVariants as crossing
@@ -8,16 +11,14 @@ use Rattle.promise.specs.Formed.{flow_of}
 use Rattle.world_keeps_lives.proofs.Facts.{no}
 use Rattle.world_keeps_lives.proofs.Calms.{Born, Calm, kept_as, kept_so}
 use Rattle.world_keeps_lives.proofs.Firsts.Lists.{After, AreDistinct, From, Pairwise, after_all, all_distinct, each_changed, each_two, from_map, life_of, map_life, mapped, pairs_all, pairs_append, pairs_both, pairs_changed, two_in}
-use Rattle.world_keeps_lives.proofs.Firsts.Ends.{Apart, Together, Good, Held, IsGrown, Lawful, Owner, Tracked, answered_before, asked_before, at_end, begun_before, ends_in, held_begins, held_may, held_rules, is_end, linked_off, lives_in, never_two, owned}
+use Rattle.world_keeps_lives.proofs.Firsts.Ends.{Apart, Together, Good, Held, IsGrown, Lawful, Owner, Tracked, answered_before, asked_before, at_end, begun_before, ends_in, held_begins, held_may, held_rules, is_end, linked_off, live_now, lives_in, never_two, ours, owned}
 use Rattle.world_keeps_lives.proofs.Begun.{Begun, Bound, begins, in_filter, mine_true, nobody}
 use Rattle.world_keeps_lives.proofs.Grounds.{Nothing, crossed_below, step_ends}
-use Rattle.world_keeps_lives.proofs.Laws.{live}
-use Rattle.world_keeps_lives.proofs.Linked.{HasRequests, IsFirst, IsSentIn, Linked, all_data}
+use Rattle.world_keeps_lives.proofs.Firsts.Linked.{IsFirst, IsSentIn, Linked, all_data}
 use Rattle.world_keeps_lives.proofs.Walk.Rules.{Each, each_append, each_in, each_of, each_weaker}
 use Rattle.world_keeps_lives.proofs.Stamps.{HasLife, Now}
-use Rattle.world_keeps_lives.proofs.Texts.{IsFull, before_all, before_here, before_still, first_more, first_still, full_more, take_whole, texts_none, texts_same}
+use Rattle.world_keeps_lives.proofs.Firsts.Texts.{IsFull, before_all, before_here, before_still, first_more, first_still, full_more, take_whole, texts_none, texts_same}
 use Rattle.interface.proofs.lemmas.{not_true, contains_head, contains_tail}
-use Rattle.net_sim.proofs.lemmas.AllOurs.{happened, kept_same}
 
 -- ---- one moment more
 
@@ -40,7 +41,9 @@ length_now : (y : Moment) (ms : List Moment) → length (crossings_of (y ∷ ms)
 length_now (Crossed c) ms = omega arith
 length_now (Asked h r) ms = omega arith
 
-full_later : (y : Moment) (ms : List Moment) (p : Linked) → ((d : Crossing) → y ≡ Crossed d → text_of (receives p.life) (flow_of p.life p.link) d ≡ []) → IsFull (crossings_of ms) p.life p.link → IsFull (crossings_of (y ∷ ms)) p.life p.link
+full_later : (y : Moment) (ms : List Moment) (p : Linked)
+    → ((d : Crossing) → y ≡ Crossed d → text_of (receives p.life) (flow_of p.life p.link) d ≡ [])
+    → IsFull (crossings_of ms) p.life p.link → IsFull (crossings_of (y ∷ ms)) p.life p.link
 full_later (Crossed c) ms p quiet f = f ∙ ap length (sym (texts_same (receives p.life) (flow_of p.life p.link) p.life.own_stamp p.life.partner_stamp c (crossings_of ms) (quiet c refl)))
 full_later (Asked h r) ms p quiet f = f
 
@@ -56,43 +59,57 @@ abbrev put : List Bool → ℕ → Amount → Amount → Bool → Life → Life
 put bits messages granted returned ended x =
     record x { bits = bits; messages = messages; granted = granted; returned = returned; ended = ended }
 
-module _ (hosts : List Host) (given : Together hosts) (y : Moment) (ms : List Moment) (l : Lawful hosts ms) (late : Lawful hosts (y ∷ ms)) (story : (m : HostMessage) → y ≡ Crossed (crossing.Out m) → IsNext (program m.flow.source ms) m) (g : Good ms) where
-  life_there : (p : Linked) → Contains g.links p → Contains (lives_in ms) p.life
+module _ (hosts : Network) (given : Together hosts) (y : Moment) (ms : List Moment) (l : Lawful hosts ms)
+    (late : Lawful hosts (y ∷ ms))
+    (story : (m : HostMessage) → y ≡ Crossed (crossing.Out m) → hosts.strange m.flow.source ≡ false → IsNext (program m.flow.source ms) m)
+    (g : Good hosts ms) where
+  life_there : (p : Linked) → Contains g.links p → Contains (lives_in hosts ms) p.life
   life_there p there = subst (λ (xs : List Life). Contains xs p.life) g.all (mapped life_of g.links p there)
 
   -- what holds of each life with its link
   abbrev Known : Linked → Type 0
-  Known p = Contains (lives_in ms) p.life × Tracked ms p
+  Known p = Contains (lives_in hosts ms) p.life × Tracked ms p
 
   all_known : Each Known g.links
   all_known = each_two (λ p. Contains g.links p) (Tracked ms) Known g.links (λ p there t. (life_there p there, t)) (each_of g.links) g.tracked
 
-  partners : SafePartners (crossings_of (y ∷ ms)) (lives_in (y ∷ ms))
-  partners = let c : Coupled (all_ours hosts) (y ∷ ms) = coupled hosts late.0 (y ∷ ms) late.1 late.2 in safe_partners hosts (y ∷ ms) c.story c.run late.1 (served_in hosts (y ∷ ms) late.2)
+  partners : SafePartners (crossings_of (y ∷ ms)) (lives_in hosts (y ∷ ms))
+  partners =
+      let c : Coupled hosts (y ∷ ms) = coupled hosts late.0 (y ∷ ms) late.1 late.2 in
+      safe_partners hosts (y ∷ ms) c.story c.run late.1 (served_in hosts (y ∷ ms) late.2) (lives_in hosts (y ∷ ms))
+      (in_book hosts (mixed_kept hosts.strange (y ∷ ms)).book.lives) (two_in_book hosts (mixed_kept hosts.strange (y ∷ ms)).book.lives)
 
   -- ---- a life's end
 
-  module _ (p : Linked) (there : Contains (lives_in ms) p.life) (t : Tracked ms p) where
+  module _ (p : Linked) (there : Contains (lives_in hosts ms) p.life) (t : Tracked ms p) where
+    two : AreOurs hosts p.life.host p.life.peer
+    two = ours hosts given ms l p.life there
+
     below : (p.life.own_stamp < places ms) × (p.life.partner_stamp < places ms)
     below = (
       subst (λ (n : ℕ). p.life.own_stamp < n) (sym (places_same ms)) (asked_before ms p t),
       subst (λ (n : ℕ). p.life.partner_stamp < n) (sym (places_same ms)) (answered_before ms p t),
     )
 
-    held_on : (N : Type 0) → (goes : p.life.ended ≡ false) → (is_open (at_end hosts given ms l p there t goes).end ≡ true → N) → Each (Held p.life p.link N) (ends_in p.life.host p.life.peer (y ∷ ms))
+    held_on : (N : Type 0) → (goes : p.life.ended ≡ false)
+        → (is_open (at_end hosts given ms l p there t goes).end ≡ true → N)
+        → Each (Held p.life p.link N) (ends_in p.life.host p.life.peer (y ∷ ms))
     held_on N goes shows =
-        step_ends (Held p.life p.link N) Nothing p.life.host p.life.peer (held_rules p.life p.link N p.life.peer) (held_begins p.life p.link N) y ms (queued_commands hosts ms l.0 l.1 l.2 p.life.host p.life.peer)
-        (held_may p.life p.link N y ms p.life.host p.life.peer story below.0 below.1)
+        step_ends (Held p.life p.link N) Nothing p.life.host p.life.peer (held_rules p.life p.link N p.life.peer) (held_begins p.life p.link N) y ms (queued_commands hosts ms l.0 l.1 l.2 p.life.host p.life.peer two)
+        (held_may p.life p.link N y ms p.life.host p.life.peer (λ m is from. story m is (subst (λ (g : Host). hosts.strange g ≡ false) from two.0)) below.0 below.1)
         (each_two (λ e. Contains (ends_in p.life.host p.life.peer ms) e) (Held p.life p.link (IsFull (crossings_of ms) p.life p.link)) (Held p.life p.link N) (ends_in p.life.host p.life.peer ms)
         (λ e in_ends h mine own asked partner. (
           (h mine own asked partner).0,
-          λ o. shows (subst (λ (f : Entry). is_open f ≡ true) (is_end hosts given ms l p.life (live hosts ms l.0 l.1 l.2 p.life there goes) e in_ends mine own) o),
+          λ o. shows (subst (λ (f : Entry). is_open f ≡ true) (is_end hosts given ms l p.life (live_now hosts given ms l p.life there goes) e in_ends mine own) o),
         ))
         (each_of (ends_in p.life.host p.life.peer ms)) (t.held goes))
 
     -- the life after the moment
-    tracked_as : (bits : List Bool) (messages : ℕ) (granted returned : Amount) (ended : Bool) → (p.life.ended ≡ true → ended ≡ true) → IsFirst (crossings_of (y ∷ ms)) (record p { life = put bits messages granted returned ended p.life })
-        → ((goes : p.life.ended ≡ false) → is_open (at_end hosts given ms l p there t goes).end ≡ true → messages ≡ length (texts_for p.life p.link (crossings_of (y ∷ ms)))) → Tracked (y ∷ ms) (record p { life = put bits messages granted returned ended p.life })
+    tracked_as : (bits : List Bool) (messages : ℕ) (granted returned : Amount) (ended : Bool)
+        → (p.life.ended ≡ true → ended ≡ true)
+        → IsFirst (crossings_of (y ∷ ms)) (record p { life = put bits messages granted returned ended p.life })
+        → ((goes : p.life.ended ≡ false) → is_open (at_end hosts given ms l p there t goes).end ≡ true → messages ≡ length (texts_for p.life p.link (crossings_of (y ∷ ms))))
+        → Tracked (y ∷ ms) (record p { life = put bits messages granted returned ended p.life })
     tracked_as bits messages granted returned ended still first full = record {
       first = first;
       other = t.other;
@@ -108,7 +125,8 @@ module _ (hosts : List Host) (given : Together hosts) (y : Moment) (ms : List Mo
         → IsFirst (crossings_of (y ∷ ms)) (record p { life = kept_as granted returned ended p.life })
     first_kept granted returned ended f = record { asked = record { size = f.asked.size; own = f.asked.own; partner = f.asked.partner }; enough = f.enough; bits = f.bits }
 
-  sent_as : (place : ℕ) (m : HostMessage) (p : Linked) (bits : List Bool) (messages : ℕ) (granted returned : Amount) (ended : Bool) → place < length (crossings_of ms) → p.life.messages ≤ messages → IsSentIn (crossings_of ms) place m p
+  sent_as : (place : ℕ) (m : HostMessage) (p : Linked) (bits : List Bool) (messages : ℕ) (granted returned : Amount) (ended : Bool)
+      → place < length (crossings_of ms) → p.life.messages ≤ messages → IsSentIn (crossings_of ms) place m p
       → IsSentIn (crossings_of (y ∷ ms)) place m (record p { life = put bits messages granted returned ended p.life })
   sent_as place m p bits messages granted returned ended less more s = record {
     sending = s.sending;
@@ -130,9 +148,10 @@ module _ (hosts : List Host) (given : Together hosts) (y : Moment) (ms : List Mo
       → (((q.life.messages ≡ 0) × (q.life.ended ≡ true)) ⊎ ((p.life.ended ≡ true) × (p.life.messages ≤ length (texts_for p.life p.link (before (begun q.life) (crossings_of (y ∷ ms)))))))
       ⊎ ((q.life.messages ≡ 0) × (p.life.messages ≤ length (texts_for p.life p.link (before (begun q.life) (crossings_of (y ∷ ms))))))
 
-  finish : (links : List Linked) → map life_of links ≡ lives_in (y ∷ ms) → Each (Tracked (y ∷ ms)) links
-      → Each (IsGrown (y ∷ ms)) links → Pairwise Pre links
-      → ((place : ℕ) (m : HostMessage) → CrossedAt place (crossing.Out m) (crossings_of (y ∷ ms)) → (m.flow.link.0 == 0) ≡ false → (p : Linked) × Contains links p × IsSentIn (crossings_of (y ∷ ms)) place m p) → Good (y ∷ ms)
+  finish : (links : List Linked) → map life_of links ≡ lives_in hosts (y ∷ ms) → Each (Tracked (y ∷ ms)) links
+      → Each (IsGrown hosts (y ∷ ms)) links → Pairwise Pre links
+      → ((place : ℕ) (m : HostMessage) → AreOurs hosts m.flow.source m.flow.destination → CrossedAt place (crossing.Out m) (crossings_of (y ∷ ms)) → (m.flow.link.0 == 0) ≡ false → (p : Linked) × Contains links p × IsSentIn (crossings_of (y ∷ ms)) place m p)
+      → Good hosts (y ∷ ms)
   finish links all tracked grown pairs sent = record {
     links = links;
     all = all;
@@ -142,7 +161,7 @@ module _ (hosts : List Host) (given : Together hosts) (y : Moment) (ms : List Mo
     sent = sent;
   } where
     Now_known : Linked → Type 0
-    Now_known p = Contains (lives_in (y ∷ ms)) p.life × Tracked (y ∷ ms) p
+    Now_known p = Contains (lives_in hosts (y ∷ ms)) p.life × Tracked (y ∷ ms) p
 
     known : Each Now_known links
     known = each_two (λ p. Contains links p) (Tracked (y ∷ ms)) Now_known links (λ p there t. (subst (λ (xs : List Life). Contains xs p.life) all (mapped life_of links p there), t)) (each_of links) tracked
@@ -156,7 +175,8 @@ module _ (hosts : List Host) (given : Together hosts) (y : Moment) (ms : List Mo
       | inl a ↦ a
       | inr n ↦ by n p.life.ended q.life.ended refl refl
     ] where
-      by : (q.life.messages ≡ 0) × (p.life.messages ≤ length (texts_for p.life p.link (before (begun q.life) (crossings_of (y ∷ ms))))) → (v w : Bool) → p.life.ended ≡ v → q.life.ended ≡ w
+      by : (q.life.messages ≡ 0) × (p.life.messages ≤ length (texts_for p.life p.link (before (begun q.life) (crossings_of (y ∷ ms)))))
+          → (v w : Bool) → p.life.ended ≡ v → q.life.ended ≡ w
           → ((q.life.messages ≡ 0) × (q.life.ended ≡ true)) ⊎ ((p.life.ended ≡ true) × (p.life.messages ≤ length (texts_for p.life p.link (before (begun q.life) (crossings_of (y ∷ ms))))))
       by n v true e f = inl (n.0, f)
       by n true false e f = inr (e, n.1)
@@ -164,9 +184,9 @@ module _ (hosts : List Host) (given : Together hosts) (y : Moment) (ms : List Mo
 
   -- ---- a moment of no data
 
-  module _ (c : Calm (lives_in ms) (places ms) (crossings_of (y ∷ ms)) (lives_in ms) (lives_in (y ∷ ms)))
-      (quiet : (p : Linked) → (there : Contains (lives_in ms) p.life) → (t : Tracked ms p) → (goes : p.life.ended ≡ false) → is_open (at_end hosts given ms l p there t goes).end ≡ true → (d : Crossing) → y ≡ Crossed d → text_of (receives p.life) (flow_of p.life p.link) d ≡ [])
-      (control : (m : HostMessage) → y ≡ Crossed (crossing.Out m) → (m.flow.link.0 == 0) ≡ true) where
+  module _ (c : Calm (lives_in hosts ms) (places ms) (crossings_of (y ∷ ms)) (lives_in hosts ms) (lives_in hosts (y ∷ ms)))
+      (quiet : (p : Linked) → (there : Contains (lives_in hosts ms) p.life) → (t : Tracked ms p) → (goes : p.life.ended ≡ false) → is_open (at_end hosts given ms l p there t goes).end ≡ true → (d : Crossing) → y ≡ Crossed d → text_of (receives p.life) (flow_of p.life p.link) d ≡ [])
+      (control : (m : HostMessage) → y ≡ Crossed (crossing.Out m) → AreOurs hosts m.flow.source m.flow.destination → (m.flow.link.0 == 0) ≡ true) where
     abbrev calm_one : Linked → Linked
     calm_one p = record p { life = kept_so c.given c.back c.over p.life }
 
@@ -196,25 +216,26 @@ module _ (hosts : List Host) (given : Together hosts) (y : Moment) (ms : List Mo
           | inr i ↦ omega (arith, top, right, i)
         ]
 
-    module _ (x : Life) (more : Contains c.more x) (b : Born (lives_in ms) (places ms) (crossings_of (y ∷ ms)) x) where
-      there : Contains (lives_in (y ∷ ms)) x
-      there = subst (λ (xs : List Life). Contains xs x) (sym c.is) (Contains-append_right (map (kept_so c.given c.back c.over) (lives_in ms)) c.more x more)
+    module _ (x : Life) (more : Contains c.more x)
+        (b : Born (lives_in hosts ms) (places ms) (crossings_of (y ∷ ms)) x) where
+      there : Contains (lives_in hosts (y ∷ ms)) x
+      there = subst (λ (xs : List Life). Contains xs x) (sym c.is) (Contains-append_right (map (kept_so c.given c.back c.over) (lives_in hosts ms)) c.more x more)
 
       made : Begun (y ∷ ms) x
-      made = begins (all_ours hosts) late.0 (y ∷ ms) late.1 (happened hosts (y ∷ ms) late.2) x (refl, refl) (subst (λ (k : Kept). Contains k.book.lives x) (sym (kept_same (y ∷ ms))) there) b.2
+      made = begins hosts late.0 (y ∷ ms) late.1 late.2 x (ours hosts given (y ∷ ms) late x there) (in_book hosts (mixed_kept hosts.strange (y ∷ ms)).book.lives x there).0 b.2
 
       -- no life has its own request yet
-      name_is : (w : HasLife (lives_in ms) (places ms) x.socket x.foreign x.own_stamp)
+      name_is : (w : HasLife (lives_in hosts ms) (places ms) x.socket x.foreign x.own_stamp)
           → own_request w.life ≡ own_request x
       name_is w = ap (λ (n : ℕ). name n w.life.socket w.life.foreign) w.place ∙ ap (λ (n : ℕ). name x.own_stamp n w.life.foreign) w.socket ∙ ap (λ (n : ℕ). name x.own_stamp x.socket n) w.foreign_is where
         name : ℕ → ℕ → ℕ → Name
         name place own foreign = record { place = place; own = own; foreign = foreign }
 
-      unknown : HasLife (lives_in ms) (places ms) x.socket x.foreign x.own_stamp → ⊥
+      unknown : HasLife (lives_in hosts ms) (places ms) x.socket x.foreign x.own_stamp → ⊥
       unknown w =
           partners.own_once (kept_so c.given c.back c.over w.life) x
           (subst (λ (xs : List Life). AreTwo xs (kept_so c.given c.back c.over w.life) x) (sym c.is)
-          (two_in (map (kept_so c.given c.back c.over) (lives_in ms)) c.more (kept_so c.given c.back c.over w.life) x (mapped (kept_so c.given c.back c.over) (lives_in ms) w.life w.there) more)) (name_is w)
+          (two_in (map (kept_so c.given c.back c.over) (lives_in hosts ms)) c.more (kept_so c.given c.back c.over w.life) x (mapped (kept_so c.given c.back c.over) (lives_in hosts ms) w.life w.there) more)) (name_is w)
 
       just : begun x ≡ length (crossings_of ms)
       just =
@@ -222,7 +243,7 @@ module _ (hosts : List Host) (given : Together hosts) (y : Moment) (ms : List Mo
           let d : x.partner_stamp < length (crossings_of (y ∷ ms)) = crossed_below x.partner_stamp (coming b.2.partner.message) (crossings_of (y ∷ ms)) b.2.partner.crossed in
           let n : length (crossings_of (y ∷ ms)) ≤ suc (length (crossings_of ms)) = length_now y ms in
           latest x.own_stamp x.partner_stamp (length (crossings_of ms)) (omega (arith, a, n)) (omega (arith, d, n)) (which b.3) where
-            which : Now (lives_in ms) (places ms) x.socket x.foreign x.own_stamp x.partner_stamp
+            which : Now (lives_in hosts ms) (places ms) x.socket x.foreign x.own_stamp x.partner_stamp
                 → (x.own_stamp ≡ length (crossings_of ms)) ⊎ (x.partner_stamp ≡ length (crossings_of ms))
             which (inl e) = inl (e ∙ places_same ms)
             which (inr (inl e)) = inr (e ∙ places_same ms)
@@ -266,7 +287,7 @@ module _ (hosts : List Host) (given : Together hosts) (y : Moment) (ms : List Mo
       newest : Each Newest ones
 
     all_begin : (xs : List Life) → ((x : Life) → Contains xs x → Contains c.more x)
-        → Each (Born (lives_in ms) (places ms) (crossings_of (y ∷ ms))) xs → AllBegun xs
+        → Each (Born (lives_in hosts ms) (places ms) (crossings_of (y ∷ ms))) xs → AllBegun xs
     all_begin [] in_more born = record { ones = []; are = refl; tracked = tt; newest = tt }
     all_begin (x ∷ xs) in_more born =
         let one : Newly x = begins_so x (in_more x (contains_head x xs)) born.0 in
@@ -292,7 +313,7 @@ module _ (hosts : List Host) (given : Together hosts) (y : Moment) (ms : List Mo
     new_pair : (p q : Linked) → Newest p → Newest q → Pre p q
     new_pair p q m n kind like flow = let e : p.life.messages ≡ 0 = m.0 in inr (n.0, omega (arith, e))
 
-    calm_grown : (p : Linked) → Known p → IsGrown (y ∷ ms) (calm_one p)
+    calm_grown : (p : Linked) → Known p → IsGrown hosts (y ∷ ms) (calm_one p)
     calm_grown p k = inl (record {
       one = p;
       there = k.0;
@@ -313,44 +334,46 @@ module _ (hosts : List Host) (given : Together hosts) (y : Moment) (ms : List Mo
     abbrev calm_links : List Linked
     calm_links = map calm_one g.links ++ new.ones
 
-    calm_all : map life_of (map calm_one g.links ++ new.ones) ≡ lives_in (y ∷ ms)
+    calm_all : map life_of (map calm_one g.links ++ new.ones) ≡ lives_in hosts (y ∷ ms)
     calm_all =
         map-append life_of (map calm_one g.links) new.ones
         ∙ ap (λ (xs : List Life). xs ++ map life_of new.ones) (map_life calm_one (kept_so c.given c.back c.over) (λ p. refl) g.links ∙ ap (map (kept_so c.given c.back c.over)) g.all)
-        ∙ ap (λ (xs : List Life). map (kept_so c.given c.back c.over) (lives_in ms) ++ xs) new.are ∙ sym c.is
+        ∙ ap (λ (xs : List Life). map (kept_so c.given c.back c.over) (lives_in hosts ms) ++ xs) new.are ∙ sym c.is
 
-    calm_sent : (place : ℕ) (m : HostMessage) → CrossedAt place (crossing.Out m) (crossings_of (y ∷ ms)) → (m.flow.link.0 == 0) ≡ false → (p : Linked) × Contains (map calm_one g.links ++ new.ones) p × IsSentIn (crossings_of (y ∷ ms)) place m p
-    calm_sent place m i off = elim (crossed_now y ms place m i) [
-      | inl now ↦ no (m.flow.link.0 == 0) (control m now.0) off
+    calm_sent : (place : ℕ) (m : HostMessage) → AreOurs hosts m.flow.source m.flow.destination
+        → CrossedAt place (crossing.Out m) (crossings_of (y ∷ ms)) → (m.flow.link.0 == 0) ≡ false
+        → (p : Linked) × Contains (map calm_one g.links ++ new.ones) p × IsSentIn (crossings_of (y ∷ ms)) place m p
+    calm_sent place m between i off = elim (crossed_now y ms place m i) [
+      | inl now ↦ no (m.flow.link.0 == 0) (control m now.0 between) off
       | inr was ↦
-          (let s : (p : Linked) × Contains g.links p × IsSentIn (crossings_of ms) place m p = g.sent place m was off in (
+          (let s : (p : Linked) × Contains g.links p × IsSentIn (crossings_of ms) place m p = g.sent place m between was off in (
             calm_one s.0,
             Contains-append_left (map calm_one g.links) new.ones (calm_one s.0) (mapped calm_one g.links s.0 s.1),
             sent_as place m s.0 s.0.life.bits s.0.life.messages (c.given s.0.life) (c.back s.0.life) (c.over s.0.life) (crossed_below place (crossing.Out m) (crossings_of ms) was) (omega arith) s.2,
           ))
     ]
 
-    pub good_calm : Good (y ∷ ms)
+    pub good_calm : Good hosts (y ∷ ms)
     good_calm =
         finish calm_links calm_all
         (each_append (Tracked (y ∷ ms)) (map calm_one g.links) new.ones (each_changed Known (Tracked (y ∷ ms)) calm_one g.links calm_tracked all_known) new.tracked)
-        (each_append (IsGrown (y ∷ ms)) (map calm_one g.links) new.ones (each_changed Known (IsGrown (y ∷ ms)) calm_one g.links calm_grown all_known) (each_weaker Newest (IsGrown (y ∷ ms)) new.ones (λ q n. inr n.1) new.newest))
+        (each_append (IsGrown hosts (y ∷ ms)) (map calm_one g.links) new.ones (each_changed Known (IsGrown hosts (y ∷ ms)) calm_one g.links calm_grown all_known) (each_weaker Newest (IsGrown hosts (y ∷ ms)) new.ones (λ q n. inr n.1) new.newest))
         (pairs_append Pre (map calm_one g.links) new.ones (pairs_changed (Apart (crossings_of ms)) Pre Known calm_one g.links old_pair all_known g.apart) (pairs_all Pre Newest new.ones new_pair new.newest)
         (each_changed Known (λ p. After Pre p new.ones) calm_one g.links (λ p k. after_all Pre Newest (calm_one p) new.ones (λ q n. cross_pair p q k n) new.newest) all_known)) calm_sent
 
   -- ---- a message of data
 
-  module _ (d : Crossing) (is : y ≡ Crossed d) (h b : Host) (e : Entry) (text bits : List Bool)
+  module _ (d : Crossing) (is : y ≡ Crossed d) (h b : Host) (between : AreOurs hosts h b) (e : Entry) (text bits : List Bool)
       (at : Contains (ends_in h b ms) e) (opened : is_open e ≡ true)
-      (lives_are : lives_in (y ∷ ms) ≡ where_it (lives_at h e.own) (carried bits) (lives_in ms))
+      (lives_are : lives_in hosts (y ∷ ms) ≡ where_it (lives_at h e.own) (carried bits) (lives_in hosts ms))
       (hit : (x : Life) (link : ℕ) → x.host ≡ h → x.peer ≡ b → x.socket ≡ e.own → e.link ≡ Some link → (text_of (receives x) (flow_of x link) d ≡ text ∷ []) × (data_in (receives x) text ≡ Some bits))
-      (missed : (p : Linked) → (there : Contains (lives_in ms) p.life) → (t : Tracked ms p) → (goes : p.life.ended ≡ false) → is_open (at_end hosts given ms l p there t goes).end ≡ true → lives_at h e.own p.life ≡ false → text_of (receives p.life) (flow_of p.life p.link) d ≡ [])
+      (missed : (p : Linked) → (there : Contains (lives_in hosts ms) p.life) → (t : Tracked ms p) → (goes : p.life.ended ≡ false) → is_open (at_end hosts given ms l p there t goes).end ≡ true → lives_at h e.own p.life ≡ false → text_of (receives p.life) (flow_of p.life p.link) d ≡ [])
       (sends_now : (m : HostMessage) → d ≡ crossing.Out m → (x : Life) (link : ℕ) → x.host ≡ h → x.peer ≡ b → x.socket ≡ e.own → e.link ≡ Some link → (receives x ≡ false) × (m.flow ≡ flow_of x link)) where
     abbrev data_one : Linked → Linked
     data_one p = record p { life = changed_when (lives_at h e.own p.life) (carried bits) p.life }
 
-    owner : Owner h b ms e
-    owner = owned hosts given ms l h b e at opened
+    owner : Owner hosts h b ms e
+    owner = owned hosts given ms l h b between e at opened
 
     -- a life that takes part in it
     record Part (p : Linked) : Type 0 where
@@ -381,8 +404,8 @@ module _ (hosts : List Host) (given : Together hosts) (y : Moment) (ms : List Mo
         let socket : p.life.socket ≡ e.own = eqb-true p.life.socket e.own here.1 in
         let goes : p.life.ended ≡ false = goes_at p.life f in
         let among : Contains (ends_in p.life.host b ms) e = subst (λ (x : Host). Contains (ends_in x b ms) e) host at in
-        let peer : p.life.peer ≡ b = peer_at p.life (live hosts ms l.0 l.1 l.2 p.life k.0 goes) among socket in
-        let same : e ≡ (at_end hosts given ms l p k.0 k.1 goes).end = is_end hosts given ms l p.life (live hosts ms l.0 l.1 l.2 p.life k.0 goes) e (subst (λ (x : Host). Contains (ends_in p.life.host x ms) e) (sym peer) among) owner.mine (sym socket) in
+        let peer : p.life.peer ≡ b = peer_at p.life (live_now hosts given ms l p.life k.0 goes) among socket in
+        let same : e ≡ (at_end hosts given ms l p k.0 k.1 goes).end = is_end hosts given ms l p.life (live_now hosts given ms l p.life k.0 goes) e (subst (λ (x : Host). Contains (ends_in p.life.host x ms) e) (sym peer) among) owner.mine (sym socket) in
         record {
           goes = goes;
           host = sym host;
@@ -427,15 +450,19 @@ module _ (hosts : List Host) (given : Together hosts) (y : Moment) (ms : List Mo
       by false i kind like flow =
           elim (apart kind like flow) [ inl a ↦ inl (inl a) | inr a ↦ inl (inr (a.0, count a.1)) ]
 
-    data_all : map life_of (map data_one g.links) ≡ lives_in (y ∷ ms)
+    data_all : map life_of (map data_one g.links) ≡ lives_in hosts (y ∷ ms)
     data_all = map_life data_one (λ x. changed_when (lives_at h e.own x) (carried bits) x) (λ p. refl) g.links ∙ ap (map (λ x. changed_when (lives_at h e.own x) (carried bits) x)) g.all ∙ sym lives_are
 
-    sent_one : (place : ℕ) (m : HostMessage) (p : Linked) → place < length (crossings_of ms) → IsSentIn (crossings_of ms) place m p → (v : Bool) → IsSentIn (crossings_of (y ∷ ms)) place m (record p { life = changed_when v (carried bits) p.life })
+    sent_one : (place : ℕ) (m : HostMessage) (p : Linked) → place < length (crossings_of ms)
+        → IsSentIn (crossings_of ms) place m p → (v : Bool)
+        → IsSentIn (crossings_of (y ∷ ms)) place m (record p { life = changed_when v (carried bits) p.life })
     sent_one place m p less s true = sent_as place m p (p.life.bits ++ bits) (p.life.messages + 1) p.life.granted p.life.returned p.life.ended less (omega arith) s
     sent_one place m p less s false =
         sent_as place m p p.life.bits p.life.messages p.life.granted p.life.returned p.life.ended less (omega arith) s
 
-    now_one : (m : HostMessage) → y ≡ Crossed (crossing.Out m) → (p : Linked) → Known p → (v : Bool) → lives_at h e.own p.life ≡ v → v ≡ true → IsSentIn (crossings_of (y ∷ ms)) (length (crossings_of ms)) m (record p { life = changed_when v (carried bits) p.life })
+    now_one : (m : HostMessage) → y ≡ Crossed (crossing.Out m) → (p : Linked) → Known p → (v : Bool)
+        → lives_at h e.own p.life ≡ v → v ≡ true
+        → IsSentIn (crossings_of (y ∷ ms)) (length (crossings_of ms)) m (record p { life = changed_when v (carried bits) p.life })
     now_one m same p k false f t = no false t refl
     now_one m same p k true f t =
         let w : Part p = part p k f in
@@ -449,8 +476,10 @@ module _ (hosts : List Host) (given : Together hosts) (y : Moment) (ms : List Mo
               let log : length (texts_for p.life p.link (before (length (crossings_of ms)) (crossings_of (y ∷ ms)))) ≡ length (texts_for p.life p.link (crossings_of ms)) = ap (λ (l : List Crossing). length (texts_for p.life p.link l)) (before_now y ms) in omega (arith, n, log));
         }
 
-    data_sent : (place : ℕ) (m : HostMessage) → CrossedAt place (crossing.Out m) (crossings_of (y ∷ ms)) → (m.flow.link.0 == 0) ≡ false → (p : Linked) × Contains (map data_one g.links) p × IsSentIn (crossings_of (y ∷ ms)) place m p
-    data_sent place m i off = elim (crossed_now y ms place m i) [
+    data_sent : (place : ℕ) (m : HostMessage) → AreOurs hosts m.flow.source m.flow.destination
+        → CrossedAt place (crossing.Out m) (crossings_of (y ∷ ms)) → (m.flow.link.0 == 0) ≡ false
+        → (p : Linked) × Contains (map data_one g.links) p × IsSentIn (crossings_of (y ∷ ms)) place m p
+    data_sent place m between i off = elim (crossed_now y ms place m i) [
       | inl now ↦
           (let f : From life_of g.links owner.life = from_map life_of g.links owner.life (subst (λ (xs : List Life). Contains xs owner.life) (sym g.all) owner.there) in
           let k : Known f.one = (life_there f.one f.there, each_in (Tracked ms) g.links f.one f.there g.tracked) in
@@ -460,7 +489,7 @@ module _ (hosts : List Host) (given : Together hosts) (y : Moment) (ms : List Mo
             subst (λ (n : ℕ). IsSentIn (crossings_of (y ∷ ms)) n m (data_one f.one)) (sym now.1) (now_one m now.0 f.one k (lives_at h e.own f.one.life) refl at_it),
           ))
       | inr was ↦
-          (let s : (p : Linked) × Contains g.links p × IsSentIn (crossings_of ms) place m p = g.sent place m was off in (
+          (let s : (p : Linked) × Contains g.links p × IsSentIn (crossings_of ms) place m p = g.sent place m between was off in (
             data_one s.0,
             mapped data_one g.links s.0 s.1,
             sent_one place m s.0 (crossed_below place (crossing.Out m) (crossings_of ms) was) s.2 (lives_at h e.own s.0.life),
@@ -473,12 +502,12 @@ module _ (hosts : List Host) (given : Together hosts) (y : Moment) (ms : List Mo
           rw (a, s, owner.goes) refl
 
     one_grown : (p : Linked) → Known p → (v : Bool)
-        → IsGrown (y ∷ ms) (record p { life = changed_when v (carried bits) p.life })
+        → IsGrown hosts (y ∷ ms) (record p { life = changed_when v (carried bits) p.life })
     one_grown p k true = inl (record { one = p; there = k.0; tracked = k.1; link = refl; host = refl; peer = refl; socket = refl; foreign = refl; own = refl; partner = refl; goes = λ e. e })
     one_grown p k false = inl (record { one = p; there = k.0; tracked = k.1; link = refl; host = refl; peer = refl; socket = refl; foreign = refl; own = refl; partner = refl; goes = λ e. e })
 
-    pub good_data : Good (y ∷ ms)
+    pub good_data : Good hosts (y ∷ ms)
     good_data =
         finish (map data_one g.links) data_all (each_changed Known (Tracked (y ∷ ms)) data_one g.links (λ p k. one_tracked p k (lives_at h e.own p.life) refl) all_known)
-        (each_changed Known (IsGrown (y ∷ ms)) data_one g.links (λ p k. one_grown p k (lives_at h e.own p.life)) all_known)
+        (each_changed Known (IsGrown hosts (y ∷ ms)) data_one g.links (λ p k. one_grown p k (lives_at h e.own p.life)) all_known)
         (pairs_changed (Apart (crossings_of ms)) Pre Known data_one g.links (λ p q j k a. pair_one p q j k a (lives_at h e.own p.life) (lives_at h e.own q.life) refl refl) all_known g.apart) data_sent

@@ -1,9 +1,8 @@
 -- What holds of each end of a pair, by rules that take all changes alike that name no request: for the walk of Leaves.antt.
-use Rattle.world_keeps_lives.proofs.Common.{◌≡◌, ℕ, zero, suc, ◌*◌, ◌<◌, Bool, false, if◌then◌else◌, List, [], ◌∷◌, ◌++◌, map, filter, find, take, length, slice_index_or, Some, None, refl, subst, arith, Contains, Host, is_receive_socket, is_send_socket, Command, asked_on_link, asked_with_size, Legal, Order, changed_first, closed_by_partner, closed_when, has_cls, is_ending, is_open, refused_end, PairState, Parcel, asked_at, cls_sent, Entry, Notice, both}
+use Rattle.world_keeps_lives.proofs.Common.{◌≡◌, ℕ, zero, suc, ◌*◌, ◌<◌, Bool, false, if◌then◌else◌, List, [], ◌∷◌, ◌++◌, map, filter, find, take, length, slice_index_or, Some, None, refl, subst, arith, Contains, Host, is_receive_socket, is_send_socket, Command, asked_on_link, asked_with_size, Legal, Order, changed_first, closed_by_partner, closed_when, has_cls, is_ending, is_open, refused_end, PairState, Parcel, asked_at, cls_sent, Entry, Notice}
 use Rattle.std.proofs.Common.{true}
 use Rattle.ncp_control.specs.declared.command.Command.TheVariants as command
 use Rattle.host_pairs.specs.Parcels as parcel
-use Rattle.host_pairs.specs.declared.entry.Closing.TheVariants as closing
 use Rattle.host_pairs.specs.declared.notice.Notice.TheVariants as notice
 use Rattle.interface.proofs.lemmas.{contains_head, contains_tail}
 use Rattle.host_keeps_pairing.proofs.lemmas.{due_still}
@@ -22,7 +21,8 @@ pub each_weaker : {A : Type 0} (Q R : A → Type 0) (xs : List A) → ((x : A) �
 each_weaker Q R [] k h = tt
 each_weaker Q R (x ∷ xs) k h = (k x h.0, each_weaker Q R xs k h.1)
 
-pub each_map : {A : Type 0} (Q : A → Type 0) (change : A → A) (xs : List A) → ((x : A) → Q x → Q (change x)) → Each Q xs → Each Q (map change xs)
+pub each_map : {A : Type 0} (Q : A → Type 0) (change : A → A) (xs : List A) → ((x : A) → Q x → Q (change x)) → Each Q xs
+    → Each Q (map change xs)
 each_map Q change [] k h = tt
 each_map Q change (x ∷ xs) k h = (k x h.0, each_map Q change xs k h.1)
 
@@ -49,10 +49,12 @@ each_first {A} Q R test change (x ∷ xs) stays k h =
       by true t l rest = (l x refl t h.0, each_weaker Q R xs stays h.1)
       by false t l rest = (stays x h.0, rest l)
 
-pub each_changed : {A : Type 0} (Q : A → Type 0) (test : A → Bool) (change : A → A) (xs : List A) → ((x : A) → test x ≡ true → Q x → Q (change x)) → Each Q xs → Each Q (changed_first test change xs)
+pub each_changed : {A : Type 0} (Q : A → Type 0) (test : A → Bool) (change : A → A) (xs : List A)
+    → ((x : A) → test x ≡ true → Q x → Q (change x)) → Each Q xs → Each Q (changed_first test change xs)
 each_changed Q test change xs k h = each_first Q Q test change xs (λ x i. i) (λ x f t i. k x t i) h
 
-pub each_at : {A : Type 0} (Q : A → Type 0) (xs : List A) (x : A) (i : ℕ) → i < length xs → slice_index_or xs i x ≡ x → Each Q xs → Q x
+pub each_at : {A : Type 0} (Q : A → Type 0) (xs : List A) (x : A) (i : ℕ) → i < length xs → slice_index_or xs i x ≡ x
+    → Each Q xs → Q x
 each_at Q [] x i less is h = absurd (omega (arith, less))
 each_at Q (y ∷ xs) x zero less is h = subst Q is h.0
 each_at Q (y ∷ xs) x (suc i) less is h = each_at Q xs x i (omega (arith, less)) is h.1
@@ -64,7 +66,8 @@ pub each_of : {A : Type 0} (xs : List A) → Each (λ (x : A). Contains xs x) xs
 each_of [] = tt
 each_of {A} (x ∷ xs) = (contains_head x xs, each_weaker (λ (y : A). Contains xs y) (λ (y : A). Contains (x ∷ xs) y) xs (λ y there. contains_tail x xs y there) (each_of xs))
 
-pub found_in : {A : Type 0} (Q : A → Type 0) (test : A → Bool) (xs : List A) (x : A) → find test xs ≡ Some x → Each Q xs → Q x
+pub found_in : {A : Type 0} (Q : A → Type 0) (test : A → Bool) (xs : List A) (x : A) → find test xs ≡ Some x → Each Q xs
+    → Q x
 found_in Q test [] x is h = absurd (let both : None ≡ Some x = is in cc)
 found_in {A} Q test (y ∷ xs) x is h = by (test y) refl (λ k. found_in Q test xs x k h.1) where
   by : (b : Bool) → test y ≡ b → (find test xs ≡ Some x → Q x) → Q x
@@ -102,7 +105,8 @@ IsOther n = Unit {0}
 pub record Rules (P : Entry → Type 0) (N : Notice → Type 0) (peer : Host) : Type 0 where
   pub quiet : (e f : Entry) → Quiet e f → P e → P f
   pub others : (n : Notice) → IsOther n → N n
-  pub opens : (e : Entry) (a b : ℕ) → P e → e.asked ≡ Some a → e.partner ≡ Some b → is_ending e ≡ false → N (notice.Opened e.own peer e.foreign a b)
+  pub opens : (e : Entry) (a b : ℕ) → P e → e.asked ≡ Some a → e.partner ≡ Some b → is_ending e ≡ false
+      → N (notice.Opened e.own peer e.foreign a b)
   pub returns : (e : Entry) (messages bits : ℕ) → P e → is_open e ≡ true → N (notice.Returned e.own messages bits)
 
 -- what holds of an end where it begins
@@ -113,13 +117,19 @@ pub record Begins (P : Entry → Type 0) : Type 0 where
 -- a request of the peer is taken at this place
 pub record Hears (P : Entry → Type 0) (stamp : ℕ) (orders : List Order) : Type 0 where
   pub begins : Begins P
-  pub rts : (own foreign link : ℕ) (e : Entry) → Contains orders (Legal (command.Rts foreign own link)) → is_receive_socket foreign ≡ true → is_send_socket own ≡ true → e.own ≡ own → e.foreign ≡ foreign → P e → P (asked_on_link stamp link e)
-  pub str : (own foreign size : ℕ) (e : Entry) → Contains orders (Legal (command.Str foreign own size)) → is_send_socket foreign ≡ true → is_receive_socket own ≡ true → e.own ≡ own → e.foreign ≡ foreign → P e → P (asked_with_size stamp size e)
+  pub rts : (own foreign link : ℕ) (e : Entry) → Contains orders (Legal (command.Rts foreign own link))
+      → is_receive_socket foreign ≡ true → is_send_socket own ≡ true → e.own ≡ own → e.foreign ≡ foreign → P e
+      → P (asked_on_link stamp link e)
+  pub str : (own foreign size : ℕ) (e : Entry) → Contains orders (Legal (command.Str foreign own size))
+      → is_send_socket foreign ≡ true → is_receive_socket own ≡ true → e.own ≡ own → e.foreign ≡ foreign → P e
+      → P (asked_with_size stamp size e)
 
 -- a request of the host itself goes out at this place
 pub record Goes (P : Entry → Type 0) (stamp : ℕ) (cs : List Command) : Type 0 where
-  pub rts : (own foreign link : ℕ) (e : Entry) → Contains cs (command.Rts own foreign link) → is_receive_socket own ≡ true → e.own ≡ own → e.foreign ≡ foreign → P e → P (asked_at stamp e)
-  pub str : (own foreign size : ℕ) (e : Entry) → Contains cs (command.Str own foreign size) → is_send_socket own ≡ true → e.own ≡ own → e.foreign ≡ foreign → P e → P (asked_at stamp e)
+  pub rts : (own foreign link : ℕ) (e : Entry) → Contains cs (command.Rts own foreign link)
+      → is_receive_socket own ≡ true → e.own ≡ own → e.foreign ≡ foreign → P e → P (asked_at stamp e)
+  pub str : (own foreign size : ℕ) (e : Entry) → Contains cs (command.Str own foreign size) → is_send_socket own ≡ true
+      → e.own ≡ own → e.foreign ≡ foreign → P e → P (asked_at stamp e)
 
 pub quiet_sent : (e : Entry) → Quiet e (cls_sent e)
 quiet_sent e = record { own = refl; foreign = refl; mine = refl; asked = refl; partner = refl; link = refl; closing = λ c. refl; off = λ c. c }

@@ -1,12 +1,13 @@
 -- Data whose sender got RFNM have arrived where they came for a receiving life.
-use Rattle.world_keeps_streams.proofs.Common.{◌≡◌, ℕ, Bool, true, false, List, [], ◌∷◌, ◌++◌, length, refl, ap, sym, subst, ◌∙◌, Seen, Host, same_host, box_of, SinceLastOut, taken_in, went_out, Flow, Crossing, HostMessage, same_flow-true, waits_with, IsLawful, Asked, Crossed, Moment, crossings_of, WorldState, book_run}
+use Rattle.world_keeps_streams.proofs.Common.{◌≡◌, ℕ, Bool, true, false, List, [], ◌∷◌, ◌++◌, length, refl, ap, sym, subst, ◌∙◌, Seen, Host, same_host, box_of, SinceLastOut, taken_in, went_out, Flow, Crossing, HostMessage, same_flow-true, waits_with, IsLawful, Asked, Crossed, Moment, crossings_of, WorldState, Network, AreOurs}
+use Rattle.reset_law.specs.Network.{all_ours}
 use Rattle.interface.specs.Mailboxes.{Box, Empty, Fits, IsRun, Taken, Waiting, fetched, same_flow}
 use Rattle.interface.specs.declared.crossing.Answer.TheVariants as answer
 use Rattle.interface.specs.declared.crossing.Crossing.TheVariants as crossing
 use Rattle.world_keeps_streams.specs.Answered.{AllAnswered, HasArrived}
 use Rattle.world_keeps_streams.proofs.Books.Arrives.{arrives, rest_lawful}
-use Rattle.world_keeps_streams.proofs.Books.Run.{below}
-use Rattle.world_keeps_streams.proofs.Requests.Sides.{Lawful}
+use Rattle.world_keeps_streams.proofs.Requests.Sides.{Lawful, below, book_lawful}
+use Rattle.world_keeps_streams.proofs.Ours.{ours_of}
 
 -- ---- a message that waits
 
@@ -38,10 +39,10 @@ text_waits p q s t e = ap text_in e where
   text_in (Waiting place text) = text
   text_in (Taken place text) = []
 
-not_empty : {X : Type 0} (p : ℕ) (s : List Bool) → Empty ≡ Waiting p s → X
+pub not_empty : {X : Type 0} (p : ℕ) (s : List Bool) → Empty ≡ Waiting p s → X
 not_empty p s e = absurd (cc)
 
-not_fetched : {X : Type 0} (p : ℕ) (s : List Bool) (box : Box) → fetched box ≡ Waiting p s → X
+pub not_fetched : {X : Type 0} (p : ℕ) (s : List Bool) (box : Box) → fetched box ≡ Waiting p s → X
 not_fetched p s Empty e = absurd (cc)
 not_fetched p s (Waiting q t) e = absurd (cc)
 not_fetched p s (Taken q t) e = absurd (cc)
@@ -148,11 +149,12 @@ same_message : (m n : HostMessage) → m.flow ≡ n.flow → m.text ≡ n.text �
 same_message m n flow text =
     ap (λ (g : Flow). let k : HostMessage = record { flow = g; text = m.text } in k) flow ∙ ap (λ (t : List Bool). let k : HostMessage = record { flow = n.flow; text = t } in k) text
 
-pub answered : (hosts : List Host) (ms : List Moment) (f : Flow) → Lawful hosts (Crossed (crossing.Answer answer.Rfnm f) ∷ ms) → HasArrived f ms
-answered hosts ms f l =
+pub answered : (hosts : Network) (ms : List Moment) (f : Flow) → AreOurs hosts f.source f.destination
+    → Lawful hosts (Crossed (crossing.Answer answer.Rfnm f) ∷ ms) → HasArrived f ms
+answered hosts ms f ours l =
     let older : Lawful hosts ms = below hosts (Crossed (crossing.Answer answer.Rfnm f)) ms l in
     let t : (place : ℕ) × (text : List Bool) × (box_of f (crossings_of ms) ≡ Taken place text) = fits (box_of f (crossings_of ms)) l.1.0.1 in
-    let w : WasTaken f ms = taken hosts f ms older.1 t.0 t.1 t.2 in
+    let w : WasTaken f ms = taken hosts.all f ms older.1 t.0 t.1 t.2 in
     let k : Lawful hosts (Crossed (crossing.In w.message) ∷ w.before) = rest_lawful hosts w.since (Crossed (crossing.In w.message) ∷ w.before) (subst (λ (ns : List Moment). Lawful hosts ns) w.is older) in
     record {
       message = w.message;
@@ -164,12 +166,14 @@ answered hosts ms f l =
       untaken = w.out.untaken;
       last = w.last;
       once = w.once;
-      arrives = λ x c. arrives hosts k.0 w.message w.before k.1 k.2 x c;
+      arrives = λ x c. arrives hosts k.0 w.message w.before k.1 k.2 x (ours_of hosts x f.destination f.source (ours.1, ours.0) (c.host ∙ ap (λ (g : Flow). g.destination) (sym w.flow), c.peer ∙ ap (λ (g : Flow). g.source) (sym w.flow))) c;
     }
 
-all_answered : (hosts : List Host) (ms : List Moment) → Lawful hosts ms → AllAnswered ms
-all_answered hosts ms l f later earlier is off =
-    answered hosts earlier f (rest_lawful hosts later (Crossed (crossing.Answer answer.Rfnm f) ∷ earlier) (subst (λ (ns : List Moment). Lawful hosts ns) is l))
+all_answered : (hosts : Network) (ms : List Moment) → Lawful hosts ms → (f : Flow) (later earlier : List Moment)
+    → ms ≡ later ++ Crossed (crossing.Answer answer.Rfnm f) ∷ earlier → AreOurs hosts f.source f.destination
+    → HasArrived f earlier
+all_answered hosts ms l f later earlier is ours =
+    answered hosts earlier f ours (rest_lawful hosts later (Crossed (crossing.Answer answer.Rfnm f) ∷ earlier) (subst (λ (ns : List Moment). Lawful hosts ns) is l))
 
 pub world_answered : {C : Type 0} (seen : C → Seen) (hosts : List Host) (w : WorldState C) → (lawful : IsLawful seen hosts w) → AllAnswered lawful.whole.moments
-world_answered seen hosts w lawful = all_answered hosts lawful.whole.moments (lawful.addresses, book_run seen hosts w lawful, lawful.whole.timeline)
+world_answered seen hosts w lawful f later earlier is off = all_answered (all_ours hosts) lawful.whole.moments (book_lawful seen hosts w lawful) f later earlier is (refl, refl)

@@ -1,7 +1,6 @@
 -- Data that are taken where they come for a receiving life whose end is open, or which no user of its host has closed, arrive there.
-use Rattle.world_keeps_streams.proofs.Common.{◌≡◌, inl, inr, ◌==◌, ◌&&◌, not, ℕ, Bool, true, false, List, [], ◌∷◌, ◌++◌, length, filter, find, drop, Option, Some, is_some, refl, ap, sym, subst, ◌∙◌, eq-eqb, eqb-true, Contains, Seen, Host, same_host, HostMessage, same_host-refl, data_bits, header_of, is_receive_socket, DataHeader, covers, Inv, some_is, waits_of, found_in, arrived_if, data_found, data_of, data_taken, is_acceptable, DeskState, desk_of, has_cls, is_link, is_mine_on, is_open, receives_on, message_taken, Entry, both, AreReceiver, HasReceiver, IsReceiver, HasClosed, name_now, numbered, receiver_now, accept_same, bits_there, closed_first, accepted, turn_of, NcpState, pair_with, HaveAddresses, IsLawful, Crossed, Moment, events_of, places, program, IsTimeline, crossings_of, WorldState, program_own, HasOpenEnd, held, book_run, mail_below, Arrives, ComesFor, own_calls}
+use Rattle.world_keeps_streams.proofs.Common.{◌≡◌, inl, inr, ◌==◌, ◌&&◌, not, ℕ, Bool, true, false, List, [], ◌∷◌, ◌++◌, length, filter, find, drop, Option, Some, is_some, refl, ap, sym, subst, ◌∙◌, eq-eqb, eqb-true, Contains, Seen, Host, same_host, HostMessage, same_host-refl, data_bits, header_of, is_receive_socket, DataHeader, covers, Inv, some_is, waits_of, found_in, arrived_if, data_found, data_of, data_taken, is_acceptable, DeskState, desk_of, has_cls, is_link, is_mine_on, is_open, receives_on, message_taken, Entry, both, AreReceiver, HasReceiver, IsReceiver, HasClosed, name_now, numbered, receiver_now, accept_same, bits_there, closed_first, accepted, turn_of, NcpState, pair_with, HaveAddresses, IsLawful, Crossed, Moment, events_of, places, program, crossings_of, WorldState, program_own, HasOpenEnd, mail_below, Arrives, ComesFor, own_calls, Happened, Network, AreOurs}
 use Rattle.reset_law.specs.Network.{all_ours}
-use Rattle.net_sim.proofs.lemmas.AllOurs.{happened}
 use Rattle.interface.specs.Mailboxes as mail
 use Rattle.interface.specs.declared.crossing.Crossing.TheVariants as crossing
 use Rattle.interface.specs.declared.crossing.Inbound.TheVariants as inbound
@@ -20,15 +19,15 @@ use Rattle.promise.specs.Safe.{receives}
 use Rattle.promise.specs.declared.life.Life.{Life}
 use Rattle.world_keeps_streams.specs.Arrivals.{AllArrive, IsUnclosed}
 use Rattle.world_keeps_streams.proofs.Books.Lies.{Boxed, lies_there}
-use Rattle.world_keeps_streams.proofs.Books.Run.{below}
 use Rattle.world_keeps_streams.proofs.Deeds.Effects.{Among, among_filter, among_kept}
 use Rattle.world_keeps_streams.proofs.Lives.Left.{over_when_left}
 use Rattle.world_keeps_streams.proofs.Lives.Lists.{is_of}
 use Rattle.world_keeps_streams.proofs.Moments.In.{notices_there}
-use Rattle.world_keeps_streams.proofs.Requests.Sides.{Lawful, lives_in}
+use Rattle.world_keeps_streams.proofs.Requests.Sides.{Lawful, lives_in, below, book_lawful}
 use Rattle.world_keeps_streams.proofs.Steps.JoinedAll.{joined}
 use Rattle.world_keeps_streams.proofs.Steps.Streams.{has_receiver}
 use Rattle.interface.proofs.lemmas.{unlike}
+use Rattle.world_keeps_streams.proofs.Ours.{held}
 
 -- ---- the one end on a link
 
@@ -50,11 +49,12 @@ on_link link e x own receiving is =
     rw (kind, linked) refl
 
 -- and its host stays with the peer
-pub stays_of : (hosts : List Host) (ms : List Moment) → Lawful hosts ms → (x : Life) → Contains (lives_in ms) x → x.ended ≡ false → stay.stays x.host x.peer (events_of ms) ≡ true
-stays_of hosts ms l x there goes = by (stay.stays x.host x.peer (events_of ms)) refl where
+pub stays_of : (hosts : Network) (ms : List Moment) → Lawful hosts ms → (x : Life) → AreOurs hosts x.host x.peer
+    → Contains (lives_in ms) x → x.ended ≡ false → stay.stays x.host x.peer (events_of ms) ≡ true
+stays_of hosts ms l x ours there goes = by (stay.stays x.host x.peer (events_of ms)) refl where
   by : (v : Bool) → stay.stays x.host x.peer (events_of ms) ≡ v → stay.stays x.host x.peer (events_of ms) ≡ true
   by true e = e
-  by false e = absurd (unlike x.ended (over_when_left hosts ms l x.host x.peer e x (is_of x (lives_in ms) there) refl refl) goes)
+  by false e = absurd (unlike x.ended (over_when_left hosts ms l x.host x.peer ours e x (is_of x (lives_in ms) there) refl refl) goes)
 
 -- what is reported of data that an open end finds acceptable
 told_open : (link : ℕ) (text : List Bool) (e : Entry) (h : DataHeader) (d : DeskState) → find (receives_on link) d.entries ≡ Some e → is_open e ≡ true → header_of text ≡ Some h → is_acceptable e h ≡ true
@@ -74,7 +74,10 @@ open_parts c r e = by r.opened r.closed (r.over c) e where
 
 -- ---- a message that is taken
 
-module _ (hosts : List Host) (addresses : HaveAddresses hosts) (m : HostMessage) (ms : List Moment) (run : mail.IsRun hosts (crossings_of (Crossed (crossing.In m) ∷ ms))) (time : IsTimeline hosts (Crossed (crossing.In m) ∷ ms)) (x : Life) (f : ComesFor m ms x) where
+module _ (hosts : Network) (addresses : HaveAddresses hosts.all) (m : HostMessage) (ms : List Moment)
+    (run : mail.IsRun hosts.all (crossings_of (Crossed (crossing.In m) ∷ ms)))
+    (time : Happened hosts (Crossed (crossing.In m) ∷ ms)) (x : Life) (ours : AreOurs hosts x.host x.peer)
+    (f : ComesFor m ms x) where
   abbrev link : ℕ
   link = m.flow.link.0
 
@@ -85,10 +88,10 @@ module _ (hosts : List Host) (addresses : HaveAddresses hosts) (m : HostMessage)
   d = desk_of (pair_with x.peer (program x.host ms).peers) (program x.host ms).listening
 
   abbrev lawful : Lawful hosts ms
-  lawful = (addresses, mail_below hosts (Crossed (crossing.In m)) ms run, time.1)
+  lawful = (addresses, mail_below hosts.all (Crossed (crossing.In m)) ms run, time.1)
 
   stays : stay.stays x.host x.peer (events_of ms) ≡ true
-  stays = stays_of hosts ms lawful x f.there f.goes
+  stays = stays_of hosts ms lawful x ours f.there f.goes
 
   -- ---- the life's end
 
@@ -101,22 +104,22 @@ module _ (hosts : List Host) (addresses : HaveAddresses hosts) (m : HostMessage)
   here : receives_on link f.end.end ≡ true
   here = on_link link f.end.end x own f.receiving f.link
 
-  has : HasReceiver (name_now numbered x.peer (own_calls x.host x.peer ms)) link es (joined link f.off_control (all_ours hosts) addresses x.host x.peer (refl, refl) ms lawful.1 (happened hosts ms time.1)).x.receiver
-  has = subst (λ (r : Receiver). HasReceiver (name_now numbered x.peer (own_calls x.host x.peer ms)) link es r) (sym ((joined link f.off_control (all_ours hosts) addresses x.host x.peer (refl, refl) ms lawful.1 (happened hosts ms time.1)).received_a stays))
-      (has_receiver (all_ours hosts) addresses link f.off_control x.host x.peer (refl, refl) ms lawful.1 (happened hosts ms time.1))
+  has : HasReceiver (name_now numbered x.peer (own_calls x.host x.peer ms)) link es (joined link f.off_control hosts addresses x.host x.peer ours ms lawful.1 time.1).x.receiver
+  has = subst (λ (r : Receiver). HasReceiver (name_now numbered x.peer (own_calls x.host x.peer ms)) link es r) (sym ((joined link f.off_control hosts addresses x.host x.peer ours ms lawful.1 time.1).received_a stays))
+      (has_receiver hosts addresses link f.off_control x.host x.peer ours ms lawful.1 time.1)
 
-  the_end : (filter (receives_on link) es ≡ f.end.end ∷ []) × IsReceiver (name_now numbered x.peer (own_calls x.host x.peer ms) f.end.end.own f.end.end.foreign) f.end.end (joined link f.off_control (all_ours hosts) addresses x.host x.peer (refl, refl) ms lawful.1 (happened hosts ms time.1)).x.receiver
+  the_end : (filter (receives_on link) es ≡ f.end.end ∷ []) × IsReceiver (name_now numbered x.peer (own_calls x.host x.peer ms) f.end.end.own f.end.end.foreign) f.end.end (joined link f.off_control hosts addresses x.host x.peer ours ms lawful.1 time.1).x.receiver
   the_end =
-      one_end (name_now numbered x.peer (own_calls x.host x.peer ms)) f.end.end (filter (receives_on link) es) (joined link f.off_control (all_ours hosts) addresses x.host x.peer (refl, refl) ms lawful.1 (happened hosts ms time.1)).x.receiver has
+      one_end (name_now numbered x.peer (own_calls x.host x.peer ms)) f.end.end (filter (receives_on link) es) (joined link f.off_control hosts addresses x.host x.peer ours ms lawful.1 time.1).x.receiver has
       (among_kept (receives_on link) es f.end.end at_it.0 here)
 
-  in_box : Boxed m.text (joined link f.off_control (all_ours hosts) addresses x.host x.peer (refl, refl) ms lawful.1 (happened hosts ms time.1)).x.box
-  in_box = lies_there hosts addresses m ms run time x.host x.peer (record { stays = stays; host = f.host; peer = f.peer; off_control = f.off_control })
+  in_box : Boxed m.text (joined link f.off_control hosts addresses x.host x.peer ours ms lawful.1 time.1).x.box
+  in_box = lies_there hosts addresses m ms run time x.host x.peer ours (record { stays = stays; host = f.host; peer = f.peer; off_control = f.off_control })
 
   -- ---- the end finds it acceptable
 
   abbrev r : Receiver
-  r = (joined link f.off_control (all_ours hosts) addresses x.host x.peer (refl, refl) ms lawful.1 (happened hosts ms time.1)).x.receiver
+  r = (joined link f.off_control hosts addresses x.host x.peer ours ms lawful.1 time.1).x.receiver
 
   abbrev c : ℕ
   c = name_now numbered x.peer (own_calls x.host x.peer ms) f.end.end.own f.end.end.foreign
@@ -125,16 +128,16 @@ module _ (hosts : List Host) (addresses : HaveAddresses hosts) (m : HostMessage)
   same_connection : in_box.connection ≡ c
   same_connection =
       some_is in_box.connection c
-      (sym (waits_of (joined link f.off_control (all_ours hosts) addresses x.host x.peer (refl, refl) ms lawful.1 (happened hosts ms time.1)).x (joined link f.off_control (all_ours hosts) addresses x.host x.peer (refl, refl) ms lawful.1 (happened hosts ms time.1)).joint.inv_x
+      (sym (waits_of (joined link f.off_control hosts addresses x.host x.peer ours ms lawful.1 time.1).x (joined link f.off_control hosts addresses x.host x.peer ours ms lawful.1 time.1).joint.inv_x
       in_box.connection in_box.size in_box.bits in_box.is) ∙ the_end.1.end)
 
-  inv : Inv (joined link f.off_control (all_ours hosts) addresses x.host x.peer (refl, refl) ms lawful.1 (happened hosts ms time.1)).x
-  inv = (joined link f.off_control (all_ours hosts) addresses x.host x.peer (refl, refl) ms lawful.1 (happened hosts ms time.1)).joint.inv_x
+  inv : Inv (joined link f.off_control hosts addresses x.host x.peer ours ms lawful.1 time.1).x
+  inv = (joined link f.off_control hosts addresses x.host x.peer ours ms lawful.1 time.1).joint.inv_x
 
-  sender_open : (joined link f.off_control (all_ours hosts) addresses x.host x.peer (refl, refl) ms lawful.1 (happened hosts ms time.1)).x.sender.closed c ≡ false
+  sender_open : (joined link f.off_control hosts addresses x.host x.peer ours ms lawful.1 time.1).x.sender.closed c ≡ false
   sender_open =
-      subst (λ (k : ℕ). (joined link f.off_control (all_ours hosts) addresses x.host x.peer (refl, refl) ms lawful.1 (happened hosts ms time.1)).x.sender.closed k ≡ false) same_connection
-      (waits (joined link f.off_control (all_ours hosts) addresses x.host x.peer (refl, refl) ms lawful.1 (happened hosts ms time.1)).x.sender in_box.connection in_box.size (rw in_box.is at inv.waiting)) where
+      subst (λ (k : ℕ). (joined link f.off_control hosts addresses x.host x.peer ours ms lawful.1 time.1).x.sender.closed k ≡ false) same_connection
+      (waits (joined link f.off_control hosts addresses x.host x.peer ours ms lawful.1 time.1).x.sender in_box.connection in_box.size (rw in_box.is at inv.waiting)) where
         waits : (s : Sender) (k z : ℕ) → (s.end ≡ Some k) × (s.opened ≡ true) × (s.closed k ≡ false) × (s.size k ≡ Some z) → s.closed k ≡ false
         waits s k z w = w.2
 
@@ -142,7 +145,7 @@ module _ (hosts : List Host) (addresses : HaveAddresses hosts) (m : HostMessage)
   unheard = by (r.over c) refl where
     by : (v : Bool) → r.over c ≡ v → v ≡ false
     by false e = refl
-    by true e = absurd (unlike ((joined link f.off_control (all_ours hosts) addresses x.host x.peer (refl, refl) ms lawful.1 (happened hosts ms time.1)).x.sender.closed c) (inv.ends.passed c e) sender_open)
+    by true e = absurd (unlike ((joined link f.off_control hosts addresses x.host x.peer ours ms lawful.1 time.1).x.sender.closed c) (inv.ends.passed c e) sender_open)
 
   unsaid : IsUnclosed link ms x → r.closed ≡ false
   unsaid none = by r.closed refl where
@@ -150,7 +153,7 @@ module _ (hosts : List Host) (addresses : HaveAddresses hosts) (m : HostMessage)
     by false e = refl
     by true e =
         let first : (receiver_now numbered x.peer link (own_calls x.host x.peer ms)).first c ≡ true =
-        ap (λ (s : Receiver). s.first c) (sym ((joined link f.off_control (all_ours hosts) addresses x.host x.peer (refl, refl) ms lawful.1 (happened hosts ms time.1)).received_a stays)) ∙ inv.arrivals.firsts c the_end.1.end e unheard in
+        ap (λ (s : Receiver). s.first c) (sym ((joined link f.off_control hosts addresses x.host x.peer ours ms lawful.1 time.1).received_a stays)) ∙ inv.arrivals.firsts c the_end.1.end e unheard in
         let name : c ≡ name_now numbered x.peer (own_calls x.host x.peer ms) x.socket x.foreign =
         ap (λ (k : ℕ). name_now numbered x.peer (own_calls x.host x.peer ms) k f.end.end.foreign) own ∙ ap (λ (k : ℕ). name_now numbered x.peer (own_calls x.host x.peer ms) x.socket k) f.end.foreign in
         absurd (none (subst (λ (k : ℕ). HasClosed numbered x.peer link k (own_calls x.host x.peer ms)) name (closed_first numbered x.peer link c (own_calls x.host x.peer ms) first)))
@@ -171,7 +174,7 @@ module _ (hosts : List Host) (addresses : HaveAddresses hosts) (m : HostMessage)
 
   fits : (receivers.is_open c r && words.is_size in_box.size (r.size c) && covers r.allocation (length in_box.bits)) ≡ true
   fits =
-      acceptable (joined link f.off_control (all_ours hosts) addresses x.host x.peer (refl, refl) ms lawful.1 (happened hosts ms time.1)).x (joined link f.off_control (all_ours hosts) addresses x.host x.peer (refl, refl) ms lawful.1 (happened hosts ms time.1)).joint.inv_x c in_box.size in_box.bits
+      acceptable (joined link f.off_control hosts addresses x.host x.peer ours ms lawful.1 time.1).x (joined link f.off_control hosts addresses x.host x.peer ours ms lawful.1 time.1).joint.inv_x c in_box.size in_box.bits
       (in_box.is ∙ ap (λ (k : ℕ). Waiting k in_box.size in_box.bits) same_connection) (open_parts c r opened).0 (open_parts c r opened).1
 
   good : is_acceptable f.end.end in_box.header ≡ true
@@ -185,7 +188,7 @@ module _ (hosts : List Host) (addresses : HaveAddresses hosts) (m : HostMessage)
   ready = by (phases.is_ready (pair_with x.peer (program x.host ms).peers).phase) refl where
     by : (v : Bool) → phases.is_ready (pair_with x.peer (program x.host ms).peers).phase ≡ v → phases.is_ready (pair_with x.peer (program x.host ms).peers).phase ≡ true
     by true e = e
-    by false e = absurd (subst (λ (xs : List Entry). Among f.end.end xs) ((held x.host 0 hosts addresses ms lawful.1 time.1).steady.idle x.peer e) at_it.0)
+    by false e = absurd (subst (λ (xs : List Entry). Among f.end.end xs) ((held x.host 0 hosts addresses ours.0 ms lawful.1 time.1).steady.idle x.peer e) at_it.0)
 
   told : (message_taken x.peer (places ms) link m.text (turn_of (program x.host ms) x.peer)).notices ≡ notice.Arrived x.socket (drop 40 m.text) ∷ []
   told =
@@ -201,16 +204,18 @@ module _ (hosts : List Host) (addresses : HaveAddresses hosts) (m : HostMessage)
 
 -- ---- over a list of moments
 
-unfoldable pub rest_lawful : (hosts : List Host) (later ms : List Moment) → Lawful hosts (later ++ ms) → Lawful hosts ms
+unfoldable pub rest_lawful : (hosts : Network) (later ms : List Moment) → Lawful hosts (later ++ ms) → Lawful hosts ms
 rest_lawful hosts [] ms l = l
 rest_lawful hosts (y ∷ later) ms l = rest_lawful hosts later ms (below hosts y (later ++ ms) l)
 
-all_arrive : (hosts : List Host) (ms : List Moment) → Lawful hosts ms → AllArrive ms
-all_arrive hosts ms l m later earlier is x f =
+all_arrive : (hosts : Network) (ms : List Moment) → Lawful hosts ms → (m : HostMessage) (later earlier : List Moment)
+    → ms ≡ later ++ Crossed (crossing.In m) ∷ earlier → (x : Life) → AreOurs hosts x.host x.peer → ComesFor m earlier x
+    → Arrives m earlier x
+all_arrive hosts ms l m later earlier is x ours f =
     let k : Lawful hosts (Crossed (crossing.In m) ∷ earlier) = rest_lawful hosts later (Crossed (crossing.In m) ∷ earlier) (subst (λ (ns : List Moment). Lawful hosts ns) is l) in
-    arrives hosts k.0 m earlier k.1 k.2 x f
+    arrives hosts k.0 m earlier k.1 k.2 x ours f
 
 -- ---- worlds
 
 pub world_arrives : {C : Type 0} (seen : C → Seen) (hosts : List Host) (w : WorldState C) → (lawful : IsLawful seen hosts w) → AllArrive lawful.whole.moments
-world_arrives seen hosts w lawful = all_arrive hosts lawful.whole.moments (lawful.addresses, book_run seen hosts w lawful, lawful.whole.timeline)
+world_arrives seen hosts w lawful m later earlier is x = all_arrive (all_ours hosts) lawful.whole.moments (book_lawful seen hosts w lawful) m later earlier is x (refl, refl)

@@ -1,6 +1,5 @@
 -- A sending life that isn't over where the receiving life has taken its CLS, then or later, closed first: its CLS has gone out, and it has taken none.
-use Rattle.world_keeps_streams.proofs.Common.{◌≡◌, inl, inr, ℕ, ◌+◌, ◌<◌, ◌≤◌, ◌&&◌, ◌==◌, Bool, true, false, List, [], ◌∷◌, ◌++◌, length, Option, Some, None, refl, ap, sym, subst, ◌∙◌, arith, eqb-true, length-append, Contains, Host, Crossing, is_send_socket, entry_at, has_cls, is_sent, Closing, Entry, both, gone_now, counted, has_heard, Sockets, receiver, sender, Asks, Mark, placed_event, Side, Joined, asks_said, count, place, begins_either, NcpState, pair_with, Match, Name, control_flow, last_out, Moment, event_in, events_of, program, crossings_of, Coupled, place_same, ClosesFirst, HasOpenEnd, live, law_events, origin_in, place_or, steps, Tie, all_says, all_tied, are_origins, at_texts, receiver_half, served_in, own_calls, IsClosedByPartner}
-use Rattle.reset_law.specs.Network.{all_ours}
+use Rattle.world_keeps_streams.proofs.Common.{◌≡◌, inl, inr, ℕ, ◌+◌, ◌<◌, ◌≤◌, ◌&&◌, ◌==◌, Bool, true, false, List, [], ◌∷◌, ◌++◌, length, Option, Some, None, refl, ap, sym, subst, ◌∙◌, arith, eqb-true, length-append, Contains, Host, Crossing, is_send_socket, entry_at, has_cls, is_sent, Closing, Entry, both, gone_now, counted, has_heard, Sockets, receiver, sender, Asks, Mark, placed_event, Side, Joined, asks_said, count, place, begins_either, NcpState, pair_with, Match, Name, control_flow, last_out, Moment, event_in, events_of, program, crossings_of, Coupled, place_same, ClosesFirst, HasOpenEnd, law_events, origin_in, place_or, steps, Tie, all_says, all_tied, are_origins, at_texts, receiver_half, served_in, own_calls, IsClosedByPartner, Network, AreOurs}
 use Rattle.host_pairs.specs.declared.entry.Closing.TheVariants as closing
 use Rattle.pairing_law.specs.Links.{Receiver, Sender}
 use Rattle.pairing_law.specs.Marks.{closes}
@@ -14,7 +13,7 @@ use Rattle.world_keeps_streams.proofs.Lives.Left.{found_tied}
 use Rattle.world_keeps_streams.proofs.Lives.Lists.{IsOf, Named, contains, is_of}
 use Rattle.world_keeps_streams.proofs.Requests.Names.{origin_grows}
 use Rattle.world_keeps_streams.proofs.Requests.Now.{heard_now, joined_halves, now_gone}
-use Rattle.world_keeps_streams.proofs.Requests.Sides.{Heard, Lawful, Own, begins_same, coupled_in, law_joined, lives_in, lawful_among}
+use Rattle.world_keeps_streams.proofs.Requests.Sides.{Heard, Lawful, Own, begins_same, coupled_in, law_joined, lives_in}
 use Rattle.world_keeps_streams.proofs.Books.Arrives.{end_at, rest_lawful, stays_of}
 use Rattle.world_keeps_streams.proofs.Books.Closes.{AtLink, known}
 use Rattle.world_keeps_streams.proofs.Books.Counts as counts_of
@@ -25,6 +24,7 @@ use Rattle.world_keeps_streams.proofs.Books.Later.{one_number}
 use Rattle.world_keeps_streams.proofs.Books.Parted.{grows_by, said_now}
 use Rattle.world_keeps_streams.proofs.Books.Unasked.{asked_by, of_event, own_below, said_new}
 use Rattle.pairing_law.proofs.lemmas.{closes_said}
+use Rattle.world_keeps_streams.proofs.Ours.{live, ours_of}
 
 pub sent_cls : (c : Closing) → is_sent c ≡ true → has_cls c ≡ true
 sent_cls closing.Queued e = refl
@@ -86,7 +86,9 @@ place_named : (s : Life) (o : Option ℕ) → place_of (named s o) ≡ place_or 
 place_named s None = refl
 place_named s (Some n) = refl
 
-module _ (hosts : List Host) (newer older : List Moment) (l : Lawful hosts (newer ++ older)) (x s r p : Life) (m : Match (crossings_of (newer ++ older)) x s) (of_receiver : Named r x) (of_sender : Named p s) where
+module _ (hosts : Network) (newer older : List Moment) (l : Lawful hosts (newer ++ older)) (x s r p : Life)
+    (m : Match (crossings_of (newer ++ older)) x s) (of_receiver : Named r x) (of_sender : Named p s)
+    (ours : AreOurs hosts r.host r.peer) where
   pub host : p.host ≡ r.peer
   host = sym (sym of_receiver.peer ∙ m.peers.0 ∙ of_sender.host)
 
@@ -112,7 +114,7 @@ module _ (hosts : List Host) (newer older : List Moment) (l : Lawful hosts (newe
       ∙ ap (λ (h : Host). origin_in (crossings_of (newer ++ older)) p.host h s.partner_stamp) of_sender.peer
       ∙ ap (λ (n : ℕ). origin_in (crossings_of (newer ++ older)) p.host p.peer n) of_sender.partner in
       let grown : origin_in (crossings_of (newer ++ older)) p.host p.peer p.partner_stamp ≡ origin_in (crossings_of older) p.host p.peer p.partner_stamp =
-      ap (λ (log : List Crossing). origin_in log p.host p.peer p.partner_stamp) (all_crossings newer older) ∙ origin_grows hosts older old (crossings_of newer) p there in
+      ap (λ (log : List Crossing). origin_in log p.host p.peer p.partner_stamp) (all_crossings newer older) ∙ origin_grows hosts older old (crossings_of newer) p (ours_of hosts p r.peer r.host (ours.1, ours.0) (host, peer)) there in
       ap (λ (h : Host). origin_in (crossings_of older) h r.host p.partner_stamp) (sym host)
       ∙ ap (λ (h : Host). origin_in (crossings_of older) p.host h p.partner_stamp) (sym peer)
       ∙ sym grown ∙ sym of_p ∙ now ∙ of_receiver.own
@@ -122,11 +124,14 @@ module _ (hosts : List Host) (newer older : List Moment) (l : Lawful hosts (newe
 pub at_socket : (x : Life) (s : NcpState) (h : HasOpenEnd s x) → h.end.own ≡ x.socket
 at_socket x s h = eqb-true h.end.own x.socket (both h.end.mine (h.end.own == x.socket) (end_at x s h).1).1
 
-module _ (hosts : List Host) (newer older : List Moment) (l : Lawful hosts (newer ++ older)) (r : Life) (f : IsClosedByPartner older r) (v : Life) (v_in : IsOf v (lives_in (newer ++ older))) (goes : v.ended ≡ false)
+module _ (hosts : Network) (newer older : List Moment) (l : Lawful hosts (newer ++ older)) (r : Life) (ours : AreOurs hosts r.host r.peer) (f : IsClosedByPartner older r) (v : Life) (v_in : IsOf v (lives_in (newer ++ older))) (goes : v.ended ≡ false)
     (of_host : v.host ≡ r.peer) (of_peer : v.peer ≡ r.host) (of_socket : v.socket ≡ r.foreign) (of_foreign : v.foreign ≡ r.socket) (kind : sends v ≡ true)
     (answered : origin_in (crossings_of (newer ++ older)) r.peer r.host v.partner_stamp ≡ r.own_stamp) where
   old : Lawful hosts older
   old = rest_lawful hosts newer older l
+
+  theirs_ours : AreOurs hosts v.host v.peer
+  theirs_ours = ours_of hosts v r.peer r.host (ours.1, ours.0) (of_host, of_peer)
 
   abbrev s : Sockets
   s = record { receive = r.socket; send = r.foreign }
@@ -137,10 +142,10 @@ module _ (hosts : List Host) (newer older : List Moment) (l : Lawful hosts (newe
   -- ---- the receiver has heard the CLS of its connection
 
   mine : stay.stays r.host r.peer (events_of older) ≡ true
-  mine = stays_of hosts older old r f.there f.goes
+  mine = stays_of hosts older old r ours f.there f.goes
 
-  abbrev at_link : AtLink older r
-  at_link = record { there = f.there; receiving = f.receiving; goes = f.goes; end = f.end; link = f.link; linked = f.linked }
+  abbrev at_link : AtLink hosts older r
+  at_link = record { ours = ours; there = f.there; receiving = f.receiving; goes = f.goes; end = f.end; link = f.link; linked = f.linked }
 
   abbrev g : ℕ
   g = (known hosts older old r at_link).g
@@ -150,8 +155,8 @@ module _ (hosts : List Host) (newer older : List Moment) (l : Lawful hosts (newe
 
   tie_r : Tie s pair Receiver r.host r.peer (origin_in (crossings_of older) r.host r.peer) older
   tie_r =
-      let c : Coupled (all_ours hosts) older = coupled_in hosts older old in
-      ((all_tied (all_ours hosts) (origin_in (crossings_of older)) older (are_origins 0 (crossings_of older) [] older refl) c.story c.run (served_in hosts older old.2)).tied r.host r.peer (refl, refl)).receiver s pair
+      let c : Coupled hosts older = coupled_in hosts older old in
+      ((all_tied hosts (origin_in (crossings_of older)) older (are_origins 0 (crossings_of older) [] older refl) c.story c.run (served_in hosts older old.2)).tied r.host r.peer ours).receiver s pair
 
   heard_it : closes (side_of s Receiver r.host r.peer older).heard ≡ g + 1
   heard_it =
@@ -159,14 +164,14 @@ module _ (hosts : List Host) (newer older : List Moment) (l : Lawful hosts (newe
       found_tied s pair Receiver r.host r.peer older tie_r f.end.end (end_at r (program r.host older) f.end).0 (at_socket r (program r.host older) f.end) f.end.foreign in
       let gone : g ≡ gone_now r.peer (own_calls r.host r.peer older) r.socket r.foreign = ((known hosts older old r at_link).going f.goes).gone in
       let one : counted true (gone_now r.peer (own_calls r.host r.peer older) r.socket r.foreign) ≡ gone_now r.peer (own_calls r.host r.peer older) r.socket r.foreign + 1 = omega arith in
-      heard_closes s pair Receiver (all_ours hosts) r.host r.peer (refl, refl) older (lawful_among hosts older old) mine ∙ counts hosts older old r.host r.peer r.foreign r.socket
+      heard_closes s pair Receiver hosts r.host r.peer ours older old mine ∙ counts hosts older old r.host r.peer ours r.foreign r.socket
       ∙ ap (λ (o : Option Entry). counted (has_heard o) (gone_now r.peer (own_calls r.host r.peer older) r.socket r.foreign)) found
       ∙ ap (λ (t : Bool). counted t (gone_now r.peer (own_calls r.host r.peer older) r.socket r.foreign)) f.closed ∙ one ∙ ap (λ (n : ℕ). n + 1) (sym gone)
 
   -- so the sender has said it
   said_it : g + 1 ≤ closes (side_of s Sender r.peer r.host older).said
   said_it =
-      let j : Joined (side_of s Receiver r.host r.peer older) (side_of s Sender r.peer r.host older) = joined_halves (all_ours hosts) older (lawful_among hosts older old) r.host r.peer (refl, refl) s pair in
+      let j : Joined (side_of s Receiver r.host r.peer older) (side_of s Sender r.peer r.host older) = joined_halves hosts older old r.host r.peer ours s pair in
       let less : closes (side_of s Receiver r.host r.peer older).heard ≤ closes (side_of s Sender r.peer r.host older).said = closes_said _ _ j.here.older in
       let is : closes (side_of s Receiver r.host r.peer older).heard ≡ g + 1 = heard_it in
       omega (arith, less, is)
@@ -176,10 +181,10 @@ module _ (hosts : List Host) (newer older : List Moment) (l : Lawful hosts (newe
   theirs : stay.stays r.peer r.host (events_of (newer ++ older)) ≡ true
   theirs =
       subst (λ (h : Host). stay.stays h r.host (events_of (newer ++ older)) ≡ true) of_host
-      (subst (λ (h : Host). stay.stays v.host h (events_of (newer ++ older)) ≡ true) of_peer (stays_of hosts (newer ++ older) l v (contains v (lives_in (newer ++ older)) v_in) goes))
+      (subst (λ (h : Host). stay.stays v.host h (events_of (newer ++ older)) ≡ true) of_peer (stays_of hosts (newer ++ older) l v theirs_ours (contains v (lives_in (newer ++ older)) v_in) goes))
 
   end : HasOpenEnd (program v.host (newer ++ older)) v
-  end = live hosts (newer ++ older) l.0 l.1 l.2 v (contains v (lives_in (newer ++ older)) v_in) goes
+  end = live hosts (newer ++ older) l.0 l.1 l.2 v theirs_ours.0 (contains v (lives_in (newer ++ older)) v_in) goes
 
   among : Among end.end (pair_with r.host (program r.peer (newer ++ older)).peers).entries
   among =
@@ -194,8 +199,8 @@ module _ (hosts : List Host) (newer older : List Moment) (l : Lawful hosts (newe
 
   tie_s : Tie s pair Sender r.peer r.host (origin_in (crossings_of (newer ++ older)) r.peer r.host) (newer ++ older)
   tie_s =
-      let c : Coupled (all_ours hosts) (newer ++ older) = coupled_in hosts (newer ++ older) l in
-      ((all_tied (all_ours hosts) (origin_in (crossings_of (newer ++ older))) (newer ++ older) (are_origins 0 (crossings_of (newer ++ older)) [] (newer ++ older) refl) c.story c.run (served_in hosts (newer ++ older) l.2)).tied r.host r.peer (refl, refl)).sender s pair
+      let c : Coupled hosts (newer ++ older) = coupled_in hosts (newer ++ older) l in
+      ((all_tied hosts (origin_in (crossings_of (newer ++ older))) (newer ++ older) (are_origins 0 (crossings_of (newer ++ older)) [] (newer ++ older) refl) c.story c.run (served_in hosts (newer ++ older) l.2)).tied r.host r.peer ours).sender s pair
 
   found_s : entry_at r.foreign r.socket (pair_with r.host (program r.peer (newer ++ older)).peers).entries ≡ Some end.end
   found_s = found_tied s pair Sender r.peer r.host (newer ++ older) tie_s end.end among end_own end_foreign
@@ -205,34 +210,34 @@ module _ (hosts : List Host) (newer older : List Moment) (l : Lawful hosts (newe
 
   said_v : Own r.host r.peer (newer ++ older) r.socket r.foreign r.own_stamp k
   said_v =
-      let j : Joined (receiver s (steps r.host r.peer (law_events (newer ++ older)))) (sender s (steps r.host r.peer (law_events (newer ++ older)))) = law_joined (all_ours hosts) (newer ++ older) (lawful_among hosts (newer ++ older) l) r.host r.peer (refl, refl) s in
+      let j : Joined (receiver s (steps r.host r.peer (law_events (newer ++ older)))) (sender s (steps r.host r.peer (law_events (newer ++ older)))) = law_joined hosts (newer ++ older) l r.host r.peer ours s in
       let heard : Heard r.host r.peer (newer ++ older) r.socket r.foreign v.partner_stamp k =
-      heard_now (all_ours hosts) (newer ++ older) (lawful_among hosts (newer ++ older) l) r.host r.peer (refl, refl) s pair (counts hosts (newer ++ older) l r.peer r.host) theirs end.end found_s v.partner_stamp end.partner in
+      heard_now hosts (newer ++ older) l r.host r.peer ours s pair (counts hosts (newer ++ older) l r.peer r.host (ours.1, ours.0)) theirs end.end found_s v.partner_stamp end.partner in
       subst (λ (n : ℕ). Own r.host r.peer (newer ++ older) r.socket r.foreign n k) answered
       (asks_said k (origin_in (crossings_of (newer ++ older)) r.peer r.host v.partner_stamp) (sender s (steps r.host r.peer (law_events (newer ++ older)))).heard
       (receiver s (steps r.host r.peer (law_events (newer ++ older)))).said j.there.older heard)
 
   same_stay : NoneMeet r.host r.peer newer older × Asks k r.own_stamp (side_of s Receiver r.host r.peer older).said
   same_stay =
-      said_before r.host r.peer s pair newer older k r.own_stamp (own_below hosts older old r (is_of r (lives_in older) f.there))
+      said_before r.host r.peer s pair newer older k r.own_stamp (own_below hosts older old r ours (is_of r (lives_in older) f.there))
       (subst (λ (x : Side). Asks k r.own_stamp x.said) (receiver_half s r.host r.peer (law_events (newer ++ older))) said_v)
 
   same_number : k ≡ g
   same_number =
-      one_number hosts r.host r.peer older old r.socket r.foreign r.own_stamp k g
+      one_number hosts r.host r.peer ours older old r.socket r.foreign r.own_stamp k g
       (subst (λ (x : Side). Asks k r.own_stamp x.said) (sym (receiver_half s r.host r.peer (law_events older))) same_stay.1) own
 
   -- ---- and has said its CLS, and heard none
 
   here : Counted (side_of s Sender r.peer r.host (newer ++ older)).said (side_of s Sender r.peer r.host (newer ++ older)).heard (is_sent end.end.closing) end.end.partner_closed
   here =
-      let j : Joined (side_of s Receiver r.host r.peer (newer ++ older)) (side_of s Sender r.peer r.host (newer ++ older)) = joined_halves (all_ours hosts) (newer ++ older) (lawful_among hosts (newer ++ older) l) r.host r.peer (refl, refl) s pair in
+      let j : Joined (side_of s Receiver r.host r.peer (newer ++ older)) (side_of s Sender r.peer r.host (newer ++ older)) = joined_halves hosts (newer ++ older) l r.host r.peer ours s pair in
       counts_of.counted hosts (newer ++ older) l s pair Sender r.peer r.host tie_s j.other j.floor (side_of s Receiver r.host r.peer (newer ++ older)) j.there theirs end.end among end_own end_foreign
 
   now_is : here.now ≡ k
   now_is =
       now_gone (closes (side_of s Sender r.peer r.host (newer ++ older)).heard) here.now k end.end.partner_closed here.heard
-      (heard_closes s pair Sender (all_ours hosts) r.peer r.host (refl, refl) (newer ++ older) (lawful_among hosts (newer ++ older) l) theirs ∙ counts hosts (newer ++ older) l r.peer r.host r.socket r.foreign
+      (heard_closes s pair Sender hosts r.peer r.host (ours.1, ours.0) (newer ++ older) l theirs ∙ counts hosts (newer ++ older) l r.peer r.host (ours.1, ours.0) r.socket r.foreign
       ∙ ap (λ (o : Option Entry). counted (has_heard o) (gone_now r.host (own_calls r.peer r.host (newer ++ older)) r.foreign r.socket)) found_s)
 
   sent : is_sent end.end.closing ≡ true

@@ -1,10 +1,11 @@
 -- Where the end of a receiving life has taken its partner's CLS, all that its partner sent has come in; and it sends nothing more.
-use Rattle.world_keeps_streams.proofs.Common.{◌≡◌, ◌⊎◌, inl, inr, ℕ, zero, suc, ◌+◌, ◌≤◌, ◌==◌, Bool, true, false, List, [], ◌∷◌, ◌++◌, length, map, Option, Some, None, refl, ap, sym, subst, ◌∙◌, eq-eqb, arith, Contains, Seen, Host, Crossing, is_receive_socket, IsSafe, came_inv, safe_inv, numbered, receiver_now, Match, Name, control_flow, last_out, own_request, partner_request, IsLawful, Moment, crossings_of, WorldState, texts_for, book_run, own_calls, HasTakenCls}
+use Rattle.world_keeps_streams.proofs.Common.{◌≡◌, ◌⊎◌, inl, inr, ℕ, zero, suc, ◌+◌, ◌≤◌, ◌==◌, Bool, true, false, List, [], ◌∷◌, ◌++◌, length, map, Option, Some, None, refl, ap, sym, subst, ◌∙◌, eq-eqb, arith, Contains, Seen, Host, Crossing, is_receive_socket, IsSafe, came_inv, safe_inv, numbered, receiver_now, Match, Name, control_flow, last_out, own_request, partner_request, IsLawful, Moment, crossings_of, WorldState, texts_for, own_calls, HasTakenCls, Network, AreOurs}
+use Rattle.reset_law.specs.Network.{all_ours}
 use Rattle.std.proofs.lemmas.Option.{same_Some}
 use Rattle.stream_law.specs.Receivers.{Receiver}
 use Rattle.promise.specs.Safe.{before, named, receives}
 use Rattle.promise.specs.declared.life.Life.{Life}
-use Rattle.world_keeps_streams.specs.Came.{AllCame, CameAll}
+use Rattle.world_keeps_streams.specs.Came.{HadTakenCls, AllCame, CameAll}
 use Rattle.world_keeps_streams.proofs.Books.All.{all_given}
 use Rattle.world_keeps_streams.proofs.Books.Arrives.{rest_lawful}
 use Rattle.world_keeps_streams.proofs.Books.Books.{one_own}
@@ -13,13 +14,13 @@ use Rattle.world_keeps_streams.proofs.Books.Clauses.{OldGranter, settled_s}
 use Rattle.world_keeps_streams.proofs.Books.Closes as closes
 use Rattle.world_keeps_streams.proofs.Books.Closes.{AtLink}
 use Rattle.world_keeps_streams.proofs.Books.Later.{Answers, named_request, same_link}
-use Rattle.world_keeps_streams.proofs.Books.Run.{below}
 use Rattle.world_keeps_streams.proofs.Books.Finished.{Done, Fixed, has_sent, has_source, next_is}
 use Rattle.world_keeps_streams.proofs.Lives.Lists.{IsOf, Named, contains, grown, is_of, named_itself, of_left, of_map}
-use Rattle.world_keeps_streams.proofs.Requests.Sides.{Heard, Lawful, Own, lives_in}
+use Rattle.world_keeps_streams.proofs.Requests.Sides.{Heard, Lawful, Own, lives_in, below, book_lawful}
 use Rattle.world_keeps_streams.proofs.Steps.Overs.{over_alike}
 use Rattle.world_keeps_streams.proofs.Facts.{none_long}
 use Rattle.interface.proofs.lemmas.{unlike}
+use Rattle.world_keeps_streams.proofs.Ours.{ours_of, ours_receiver}
 
 -- ---- a life by its names
 
@@ -50,9 +51,10 @@ names_turned x t n = record { host = sym n.host; socket = sym n.socket; peer = s
 
 -- ---- where its end has taken the CLS
 
-module _ (hosts : List Host) (ms : List Moment) (l : Lawful hosts ms) (x : Life) (f : HasTakenCls ms x) where
-  abbrev at_link : AtLink ms x
-  at_link = record { there = f.there; receiving = f.receiving; goes = f.goes; end = f.end; link = f.link; linked = f.linked }
+module _ (hosts : Network) (ms : List Moment) (l : Lawful hosts ms) (x : Life) (ours : AreOurs hosts x.host x.peer)
+    (f : HasTakenCls ms x) where
+  abbrev at_link : AtLink hosts ms x
+  at_link = record { ours = ours; there = f.there; receiving = f.receiving; goes = f.goes; end = f.end; link = f.link; linked = f.linked }
 
   abbrev n : ℕ
   n = closes.n hosts ms l x at_link
@@ -88,35 +90,37 @@ module _ (hosts : List Host) (ms : List Moment) (l : Lawful hosts ms) (x : Life)
     by zero e = omega (arith, within, e)
     by (suc k) e = absurd (unlike (m == n) (eq-eqb m n (same_link hosts ms l x at_link m (omega (arith, e)))) other)
 
-  fixed_now : Fixed hosts x.host x.peer sent_then n apart ms l x
+  fixed_now : Fixed hosts x.host x.peer ours sent_then n apart ms l x
   fixed_now = record {
     late = closes.late hosts ms l x at_link;
     g = (closes.known hosts ms l x at_link).g;
     own = (closes.known hosts ms l x at_link).own;
     fixed = λ m. (over m, refl);
-    early = λ s i k. nothing s k (settled_s hosts x.host x.peer (Own x.host x.peer) (Heard x.host x.peer) (all_given hosts x.host x.peer) ms l s i k.host k.peer k.sending).granted;
+    early = λ s i k. nothing s k (settled_s hosts x.host x.peer (Own x.host x.peer) (Heard x.host x.peer) (all_given hosts x.host x.peer ours) ms l s i k.host k.peer k.sending).granted;
   } where
-    nothing : (s : Life) → Answers hosts x.host x.peer ms s (own_request x) → ((s.messages ≡ 0) × (s.bits ≡ [])) ⊎ OldGranter ms s → (s.messages ≡ 0) × (s.bits ≡ [])
+    nothing : (s : Life) → Answers hosts x.host x.peer ours ms s (own_request x)
+        → ((s.messages ≡ 0) × (s.bits ≡ [])) ⊎ OldGranter ms s → (s.messages ≡ 0) × (s.bits ≡ [])
     nothing s k (inl none) = none
     nothing s k (inr o) =
-        let same : o.receiver ≡ x = one_own hosts Own Heard (λ v w. all_given hosts v w) ms l o.receiver x o.there (is_of x (lives_in ms) f.there) (same_Some (own_request o.receiver) (own_request x) (sym o.matches.answered ∙ k.is)) in
+        let same : o.receiver ≡ x = one_own hosts ms l o.receiver x (ours_receiver hosts o.matches (ours_of hosts s x.peer x.host (ours.1, ours.0) (k.host, k.peer))) ours o.there (is_of x (lives_in ms) f.there) (same_Some (own_request o.receiver) (own_request x) (sym o.matches.answered ∙ k.is)) in
         absurd (unlike x.ended (ap (λ (y : Life). y.ended) (sym same) ∙ o.over) f.goes)
 
 -- ---- whatever happens later
 
 -- the same life, later
-record Later (hosts : List Host) (newer ms : List Moment) (l : Lawful hosts (newer ++ ms)) (x : Life) (f : HasTakenCls ms x) : Type 0 where
+record Later (hosts : Network) (newer ms : List Moment) (l : Lawful hosts (newer ++ ms)) (x : Life) (ours : AreOurs hosts x.host x.peer) (f : HasTakenCls ms x) : Type 0 where
   life : Life
   there : IsOf life (lives_in (newer ++ ms))
   names : Named x life
-  state : Fixed hosts x.host x.peer (sent_then hosts ms (rest_lawful hosts newer ms l) x f) (n hosts ms (rest_lawful hosts newer ms l) x f) (apart hosts ms (rest_lawful hosts newer ms l) x f) (newer ++ ms) l life
-      ⊎ Done hosts x.host x.peer (sent_then hosts ms (rest_lawful hosts newer ms l) x f) (n hosts ms (rest_lawful hosts newer ms l) x f) (apart hosts ms (rest_lawful hosts newer ms l) x f) (newer ++ ms) life
+  state : Fixed hosts x.host x.peer ours (sent_then hosts ms (rest_lawful hosts newer ms l) x ours f) (n hosts ms (rest_lawful hosts newer ms l) x ours f) (apart hosts ms (rest_lawful hosts newer ms l) x ours f) (newer ++ ms) l life
+      ⊎ Done hosts x.host x.peer ours (sent_then hosts ms (rest_lawful hosts newer ms l) x ours f) (n hosts ms (rest_lawful hosts newer ms l) x ours f) (apart hosts ms (rest_lawful hosts newer ms l) x ours f) (newer ++ ms) life
 
-later : (hosts : List Host) (newer ms : List Moment) (l : Lawful hosts (newer ++ ms)) (x : Life) (f : HasTakenCls ms x) → Later hosts newer ms l x f
+later : (hosts : Network) (newer ms : List Moment) (l : Lawful hosts (newer ++ ms)) (x : Life) (ours : AreOurs hosts x.host x.peer) (f : HasTakenCls ms x)
+    → Later hosts newer ms l x ours f
 unfolding rest_lawful
-later hosts [] ms l x f = record { life = x; there = is_of x (lives_in ms) f.there; names = named_itself x; state = inl (fixed_now hosts ms l x f) }
-later hosts (z ∷ newer) ms l x f =
-    let o : Later hosts newer ms (below hosts z (newer ++ ms) l) x f = later hosts newer ms (below hosts z (newer ++ ms) l) x f in
+later hosts [] ms l x ours f = record { life = x; there = is_of x (lives_in ms) f.there; names = named_itself x; state = inl (fixed_now hosts ms l x ours f) }
+later hosts (z ∷ newer) ms l x ours f =
+    let o : Later hosts newer ms (below hosts z (newer ++ ms) l) x ours f = later hosts newer ms (below hosts z (newer ++ ms) l) x ours f in
     let k : Named o.life ((grown z (newer ++ ms)).change o.life) = (grown z (newer ++ ms)).names o.life in
     record {
       life = (grown z (newer ++ ms)).change o.life;
@@ -130,39 +134,43 @@ later hosts (z ∷ newer) ms l x f =
         own = k.own ∙ o.names.own;
         partner = k.partner ∙ o.names.partner;
       };
-      state = next_is hosts x.host x.peer (sent_then hosts ms (rest_lawful hosts newer ms (below hosts z (newer ++ ms) l)) x f) (n hosts ms (rest_lawful hosts newer ms (below hosts z (newer ++ ms) l)) x f) (apart hosts ms (rest_lawful hosts newer ms (below hosts z (newer ++ ms) l)) x f)
+      state = next_is hosts x.host x.peer ours (sent_then hosts ms (rest_lawful hosts newer ms (below hosts z (newer ++ ms) l)) x ours f) (n hosts ms (rest_lawful hosts newer ms (below hosts z (newer ++ ms) l)) x ours f) (apart hosts ms (rest_lawful hosts newer ms (below hosts z (newer ++ ms) l)) x ours f)
           z (newer ++ ms) l o.life o.names.host o.names.peer (ap is_receive_socket o.names.socket ∙ f.receiving) o.there o.state;
     }
 
-came_at : (hosts : List Host) (newer ms : List Moment) → Lawful hosts (newer ++ ms) → (x : Life) (f : HasTakenCls ms x) → CameAll (crossings_of ms) (crossings_of (newer ++ ms)) (lives_in (newer ++ ms)) x f.link
-came_at hosts newer ms l x f = record { all = all; source = source } where
+came_at : (hosts : Network) (newer ms : List Moment) → Lawful hosts (newer ++ ms) → (x : Life)
+    → AreOurs hosts x.host x.peer → (f : HasTakenCls ms x)
+    → CameAll (crossings_of ms) (crossings_of (newer ++ ms)) (lives_in (newer ++ ms)) x f.link
+came_at hosts newer ms l x ours f = record { all = all; source = source } where
   older : Lawful hosts ms
   older = rest_lawful hosts newer ms l
 
-  o : Later hosts newer ms l x f
-  o = later hosts newer ms l x f
+  o : Later hosts newer ms l x ours f
+  o = later hosts newer ms l x ours f
 
   kind : receives o.life ≡ true
   kind = ap is_receive_socket o.names.socket ∙ f.receiving
 
   all : (s : Life) → Contains (lives_in (newer ++ ms)) s → Match (crossings_of (newer ++ ms)) x s → s.messages ≡ length (texts_for x f.link (crossings_of ms))
   all s there m =
-      has_sent hosts x.host x.peer (sent_then hosts ms older x f) (n hosts ms older x f) (apart hosts ms older x f) (newer ++ ms) l o.life o.names.host o.names.peer kind o.there o.state s (is_of s (lives_in (newer ++ ms)) there)
-      (match_named (crossings_of (newer ++ ms)) x o.life s o.names m) ∙ sent_came hosts ms older x f
+      has_sent hosts x.host x.peer ours (sent_then hosts ms older x ours f) (n hosts ms older x ours f) (apart hosts ms older x ours f) (newer ++ ms) l o.life o.names.host o.names.peer kind o.there o.state s (is_of s (lives_in (newer ++ ms)) there)
+      (match_named (crossings_of (newer ++ ms)) x o.life s o.names m) ∙ sent_came hosts ms older x ours f
 
   source : (length (texts_for x f.link (crossings_of ms)) ≡ 0 → ⊥) → (s : Life) × Contains (lives_in (newer ++ ms)) s × Match (crossings_of (newer ++ ms)) x s
   source some =
       let r : (s : Life) × IsOf s (lives_in (newer ++ ms)) × Match (crossings_of (newer ++ ms)) o.life s =
-      has_source hosts x.host x.peer (sent_then hosts ms older x f) (n hosts ms older x f) (apart hosts ms older x f) (newer ++ ms) l o.life o.names.host o.names.peer kind o.state
-      (λ none. some (sym (sent_came hosts ms older x f) ∙ ap (λ (ts : List (List Bool)). length ts) none)) in
+      has_source hosts x.host x.peer ours (sent_then hosts ms older x ours f) (n hosts ms older x ours f) (apart hosts ms older x ours f) (newer ++ ms) l o.life o.names.host o.names.peer kind o.state
+      (λ none. some (sym (sent_came hosts ms older x ours f) ∙ ap (λ (ts : List (List Bool)). length ts) none)) in
       (r.0, contains r.0 (lives_in (newer ++ ms)) r.1, match_named (crossings_of (newer ++ ms)) o.life x r.0 (names_turned x o.life o.names) r.2)
 
 -- ---- at all moments, and in worlds
 
-pub all_came : (hosts : List Host) (ms : List Moment) → Lawful hosts ms → AllCame ms
-all_came hosts ms l newer older is x f =
-    subst (λ (ns : List Moment). Lawful hosts ns → CameAll (crossings_of f.earlier) (crossings_of ns) (lives_in ns) x f.then.link) (sym f.is) (λ k. came_at hosts f.later f.earlier k x f.then)
+pub all_came : (hosts : Network) (ms : List Moment) → Lawful hosts ms → (later earlier : List Moment)
+    → ms ≡ later ++ earlier → (x : Life) → AreOurs hosts x.host x.peer → (f : HadTakenCls earlier x)
+    → CameAll (crossings_of f.earlier) (crossings_of earlier) (lives_in earlier) x f.then.link
+all_came hosts ms l newer older is x ours f =
+    subst (λ (ns : List Moment). Lawful hosts ns → CameAll (crossings_of f.earlier) (crossings_of ns) (lives_in ns) x f.then.link) (sym f.is) (λ k. came_at hosts f.later f.earlier k x ours f.then)
     (rest_lawful hosts newer older (subst (λ (ns : List Moment). Lawful hosts ns) is l))
 
 pub world_came : {C : Type 0} (seen : C → Seen) (hosts : List Host) (w : WorldState C) → (lawful : IsLawful seen hosts w) → AllCame lawful.whole.moments
-world_came seen hosts w lawful = all_came hosts lawful.whole.moments (lawful.addresses, book_run seen hosts w lawful, lawful.whole.timeline)
+world_came seen hosts w lawful later earlier is x = all_came (all_ours hosts) lawful.whole.moments (book_lawful seen hosts w lawful) later earlier is x (refl, refl)

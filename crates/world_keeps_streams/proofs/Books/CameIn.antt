@@ -1,7 +1,5 @@
 -- As many messages came in on the link of a receiving life that isn't over, after both its requests, as the law counts in its connection.
-use Rattle.world_keeps_streams.proofs.Common.{◌≡◌, ◌⊎◌, inl, inr, ℕ, zero, suc, ◌+◌, ◌<◌, ◌≤◌, ◌==◌, Bool, false, if◌then◌else◌, List, [], ◌∷◌, ◌++◌, length, map, Option, Some, refl, ap, sym, subst, ◌∙◌, eq-eqb, arith, eqb-true, length-append, Host, same_host, Flow, HostMessage, same_flow-refl, same_flow-true, same_host-refl, header_of, is_receive_socket, DataHeader, IsSafe, safe_inv, waiting_of, waits_of, all_received, Takes, gone_now, name_now, numbered, receiver_now, data_received, numbered_tells, Fresh, begins_fresh, stays_ready, pair_with, texts_for, texts_of, Name, own_request, Asked, Crossed, Moment, event_in, events_of, program, crossings_of, texts_one, keeps, mail_below, calls_by, own_calls}
-use Rattle.net_sim.proofs.lemmas.AllOurs.{happened}
-use Rattle.reset_law.specs.Network.{all_ours}
+use Rattle.world_keeps_streams.proofs.Common.{◌≡◌, ◌⊎◌, inl, inr, ℕ, zero, suc, ◌+◌, ◌<◌, ◌≤◌, ◌==◌, Bool, false, if◌then◌else◌, List, [], ◌∷◌, ◌++◌, length, map, Option, Some, refl, ap, sym, subst, ◌∙◌, eq-eqb, arith, eqb-true, length-append, Host, same_host, Flow, HostMessage, same_flow-refl, same_flow-true, same_host-refl, header_of, is_receive_socket, DataHeader, IsSafe, safe_inv, waiting_of, waits_of, all_received, Takes, gone_now, name_now, numbered, receiver_now, data_received, numbered_tells, Fresh, begins_fresh, stays_ready, pair_with, texts_for, texts_of, Name, own_request, Asked, Crossed, Moment, event_in, events_of, program, crossings_of, texts_one, keeps, mail_below, calls_by, own_calls, Network, AreOurs, Contains}
 use Rattle.std.proofs.Common.{max, true}
 use Rattle.std.proofs.Math.Nat.{max-le}
 use Rattle.interface.specs.Flow.{same_flow}
@@ -16,7 +14,7 @@ use Rattle.promise.specs.Formed.{flow_of}
 use Rattle.promise.specs.Safe.{receives}
 use Rattle.promise.specs.declared.life.Life.{Life}
 use Rattle.world_keeps_lives.specs.Firsts.{begun}
-use Rattle.world_keeps_lives.proofs.lemmas as books
+use Rattle.world_keeps_lives.proofs.lemmas.Books as books
 use Rattle.world_keeps_lives.proofs.lemmas.{WasAt, texts_none, texts_same}
 use Rattle.world_keeps_streams.specs.Calls.{called}
 use Rattle.world_keeps_streams.proofs.Books.All.{all_given}
@@ -26,12 +24,12 @@ use Rattle.world_keeps_streams.proofs.Books.Closes.{AtLink}
 use Rattle.world_keeps_streams.proofs.Books.Firsts.{together}
 use Rattle.world_keeps_streams.proofs.Books.Later.{named_request, one_number, one_stamp}
 use Rattle.world_keeps_streams.proofs.Books.Lies.{Boxed, lies_there}
-use Rattle.world_keeps_streams.proofs.Books.Run.{below, whole}
+use Rattle.world_keeps_streams.proofs.Books.Run.{whole}
 use Rattle.world_keeps_streams.proofs.Books.Unasked.{own_below, partner_below}
 use Rattle.world_keeps_streams.proofs.Books.Whole.{HasR, Whole, since}
 use Rattle.world_keeps_streams.proofs.Calls.Counted.{IsQuiet, count_same, flow_to, none_came, solo_untaken}
 use Rattle.world_keeps_streams.proofs.Lives.Lists.{IsOf, grown, is_of, of_drop, of_left, of_map}
-use Rattle.world_keeps_streams.proofs.Requests.Sides.{Heard, Lawful, Own, coupled_in, lives_in, own_on}
+use Rattle.world_keeps_streams.proofs.Requests.Sides.{Heard, Lawful, Own, coupled_in, lives_in, own_on, below}
 use Rattle.world_keeps_streams.proofs.Stays.Meets.{solo_there}
 use Rattle.world_keeps_streams.proofs.Stays.Resets.{stays_on}
 use Rattle.world_keeps_streams.proofs.Steps.Joined.{Joined}
@@ -39,6 +37,8 @@ use Rattle.world_keeps_streams.proofs.Steps.JoinedAll.{joined}
 use Rattle.world_keeps_streams.proofs.Calls.Chain.{ready_both}
 use Rattle.world_keeps_streams.proofs.Facts.{no_zero}
 use Rattle.interface.proofs.lemmas.{unlike}
+use Rattle.world_keeps_streams.proofs.Ours.{ours_of}
+use Rattle.world_keeps_streams.proofs.Lives.Among.{among_now, now_kept}
 
 max_less : (p q k : ℕ) → p < k → q < k → max p q < k
 max_less p q zero i j = absurd (omega (arith, i))
@@ -53,15 +53,17 @@ more_by c k came = by (c == k) refl where
   by false same = omega arith
 
 -- is one of the connection whose end has it
-module _ (hosts : List Host) (a b : Host) (m : HostMessage) (ms : List Moment) (l : Lawful hosts (Crossed (crossing.In m) ∷ ms)) (stays : stay.stays a b (events_of ms) ≡ true) (host : a ≡ m.flow.destination) (peer : b ≡ m.flow.source) (other : (m.flow.link.0 == 0) ≡ false) where
+module _ (hosts : Network) (a b : Host) (ours : AreOurs hosts a b) (m : HostMessage) (ms : List Moment)
+    (l : Lawful hosts (Crossed (crossing.In m) ∷ ms)) (stays : stay.stays a b (events_of ms) ≡ true)
+    (host : a ≡ m.flow.destination) (peer : b ≡ m.flow.source) (other : (m.flow.link.0 == 0) ≡ false) where
   abbrev older : Lawful hosts ms
   older = below hosts (Crossed (crossing.In m)) ms l
 
   abbrev j : Joined a b m.flow.link.0 ms
-  j = joined m.flow.link.0 other (all_ours hosts) l.0 a b (refl, refl) ms (mail_below hosts (Crossed (crossing.In m)) ms l.1) (happened hosts ms l.2.1)
+  j = joined m.flow.link.0 other hosts l.0 a b ours ms (mail_below hosts.all (Crossed (crossing.In m)) ms l.1) l.2.1
 
-  boxed : Boxed m.text (joined m.flow.link.0 other (all_ours hosts) l.0 a b (refl, refl) ms (mail_below hosts (Crossed (crossing.In m)) ms l.1) (happened hosts ms l.2.1)).x.box
-  boxed = lies_there hosts l.0 m ms l.1 l.2 a b (record { stays = stays; host = host; peer = peer; off_control = other })
+  boxed : Boxed m.text (joined m.flow.link.0 other hosts l.0 a b ours ms (mail_below hosts.all (Crossed (crossing.In m)) ms l.1) l.2.1).x.box
+  boxed = lies_there hosts l.0 m ms l.1 l.2 a b ours (record { stays = stays; host = host; peer = peer; off_control = other })
 
   abbrev r : Receiver
   r = receiver_now numbered b m.flow.link.0 (own_calls a b ms)
@@ -70,7 +72,7 @@ module _ (hosts : List Host) (a b : Host) (m : HostMessage) (ms : List Moment) (
   end = ap (λ (s : Receiver). s.end) (sym (j.received_a stays)) ∙ waits_of j.x j.joint.inv_x boxed.connection boxed.size boxed.bits boxed.is
 
   ready : phases.is_ready (pair_with b (program a ms).peers).phase ≡ true
-  ready = sym (ready_both (all_ours hosts) a b ms (refl, refl) (coupled_in hosts ms older).story) ∙ stays_ready (events_of ms) a b stays
+  ready = sym (ready_both hosts a b ms ours (coupled_in hosts ms older).story) ∙ stays_ready (events_of ms) a b stays
 
   mine : same_host a m.flow.destination ≡ true
   mine = subst (λ (h : Host). same_host a h ≡ true) host (same_host-refl a)
@@ -116,14 +118,15 @@ module _ (hosts : List Host) (a b : Host) (m : HostMessage) (ms : List Moment) (
 
 -- ---- a receiving life that isn't over, by its names
 
-module _ (hosts : List Host) where
+module _ (hosts : Network) where
   record Stands (a b : Host) (link socket foreign own : ℕ) (ms : List Moment) : Type 0 where
     other : (link == 0) ≡ false
     stays : stay.stays a b (events_of ms) ≡ true
     end : (receiver_now numbered b link (own_calls a b ms)).end ≡ Some (name_now numbered b (own_calls a b ms) socket foreign)
     asked : Own a b ms socket foreign own (gone_now b (own_calls a b ms) socket foreign)
 
-  stands : (ms : List Moment) (l : Lawful hosts ms) (x : Life) (f : AtLink ms x) → Stands x.host x.peer f.link x.socket x.foreign x.own_stamp ms
+  stands : (ms : List Moment) (l : Lawful hosts ms) (x : Life) (f : AtLink hosts ms x)
+      → Stands x.host x.peer f.link x.socket x.foreign x.own_stamp ms
   stands ms l x f = record {
     other = ap (λ (k : ℕ). k == 0) (closes.place_is hosts ms l x f) ∙ no_zero (closes.n hosts ms l x f);
     stays = closes.stays hosts ms l x f;
@@ -168,10 +171,11 @@ module _ (hosts : List Host) where
   text_of_flow : (f g : Flow) (text : List Bool) → same_flow f g ≡ true → (if same_flow f g then text ∷ [] else []) ≡ text ∷ []
   text_of_flow f g text e = rw e refl
 
-  module _ (y : Moment) (ms : List Moment) (l : Lawful hosts (y ∷ ms)) (a b : Host) (link socket foreign own partner : ℕ) (t : Stands a b link socket foreign own (y ∷ ms)) where
+  module _ (y : Moment) (ms : List Moment) (l : Lawful hosts (y ∷ ms)) (a b : Host) (ours : AreOurs hosts a b)
+      (link socket foreign own partner : ℕ) (t : Stands a b link socket foreign own (y ∷ ms)) where
     fresh : stay.begins a b (event_in y) (events_of ms) ≡ true → Fresh a b (event_in y) (events_of ms)
     fresh new =
-        begins_fresh (all_ours hosts) (event_in y) (events_of ms) (coupled_in hosts (y ∷ ms) l).run a b (refl, refl) new
+        begins_fresh hosts (event_in y) (events_of ms) (coupled_in hosts (y ∷ ms) l).run a b ours new
 
     -- what both have done, where no stay begins
     module _ (none : stay.begins a b (event_in y) (events_of ms) ≡ false) where
@@ -198,7 +202,7 @@ module _ (hosts : List Host) where
             subst (λ (z : Moment). Lawful hosts (z ∷ ms) → (receiver_now numbered b link (calls_by a b z ms ++ own_calls a b ms)).came c ≤ ((receiver_now numbered b link (own_calls a b ms)).granted c).messages) (sym i.1) (taken i.0 i.2) l
       ] where
         j : Joined a b link ms
-        j = joined link t.other (all_ours hosts) l.0 a b (refl, refl) ms (mail_below hosts y ms l.1) (happened hosts ms l.2.1)
+        j = joined link t.other hosts l.0 a b ours ms (mail_below hosts.all y ms l.1) l.2.1
 
         law_most : (c : ℕ) → (receiver_now numbered b link (own_calls a b ms)).came c ≤ ((receiver_now numbered b link (own_calls a b ms)).granted c).messages
         law_most c =
@@ -214,7 +218,7 @@ module _ (hosts : List Host) where
         taken m e k =
             let p : (a ≡ m.flow.destination) × (b ≡ m.flow.source) × (link ≡ m.flow.link.0) = flow_parts m e in
             subst (λ (n : ℕ). (receiver_now numbered b n (calls_by a b (Crossed (crossing.In m)) ms ++ own_calls a b ms)).came c ≤ ((receiver_now numbered b n (own_calls a b ms)).granted c).messages) (sym p.2)
-            (count_granted hosts a b m ms k kept.1 p.0 p.1 (ap (λ (n : ℕ). n == 0) (sym p.2) ∙ t.other) c)
+            (count_granted hosts a b ours m ms k kept.1 p.0 p.1 (ap (λ (n : ℕ). n == 0) (sym p.2) ∙ t.other) c)
 
     -- of a life that was there
     module _ (s : Stands a b link socket foreign own ms) (after : own < length (crossings_of ms)) (behind : partner < length (crossings_of ms)) (counted : IsCounted a b link socket foreign own partner ms) where
@@ -230,7 +234,7 @@ module _ (hosts : List Host) where
       name_same : name_now numbered b (own_calls a b (y ∷ ms)) socket foreign ≡ name_now numbered b (own_calls a b ms) socket foreign
       name_same =
           ap (λ (g : ℕ). numbered socket foreign g)
-          (one_number hosts a b (y ∷ ms) l socket foreign own (gone_now b (own_calls a b (y ∷ ms)) socket foreign) (gone_now b (own_calls a b ms) socket foreign) t.asked
+          (one_number hosts a b ours (y ∷ ms) l socket foreign own (gone_now b (own_calls a b (y ∷ ms)) socket foreign) (gone_now b (own_calls a b ms) socket foreign) t.asked
           (own_on a b y ms none socket foreign (gone_now b (own_calls a b ms) socket foreign) own s.asked))
 
       step : length (texts_of true (flow_to a b link) own partner (crossings_of (y ∷ ms))) ≡ (receiver_now numbered b link (calls_by a b y ms ++ own_calls a b ms)).came (name_now numbered b (own_calls a b ms) socket foreign)
@@ -248,7 +252,7 @@ module _ (hosts : List Host) where
             texts_one true (flow_to a b link) own partner (crossing.In m) (crossings_of ms) m.text after behind (text_of_flow (flow_to a b link) m.flow m.text here) in
             ap (λ (ts : List (List Bool)). length ts) one ∙ length-append (texts_of true (flow_to a b link) own partner (crossings_of ms)) (m.text ∷ []) ∙ ap (λ (n : ℕ). n + 1) counted
             ∙ sym (subst (λ (n : ℕ). (receiver_now numbered b n (own_calls a b ms)).end ≡ Some c → (receiver_now numbered b n (calls_by a b (Crossed (crossing.In m)) ms ++ own_calls a b ms)).came c ≡ (receiver_now numbered b n (own_calls a b ms)).came c + 1) (sym p.2)
-            (count_one hosts a b m ms k s.stays p.0 p.1 (ap (λ (n : ℕ). n == 0) (sym p.2) ∙ t.other) c) s.end)
+            (count_one hosts a b ours m ms k s.stays p.0 p.1 (ap (λ (n : ℕ). n == 0) (sym p.2) ∙ t.other) c) s.end)
 
       still_counted : IsCounted a b link socket foreign own partner (y ∷ ms)
       still_counted =
@@ -260,7 +264,8 @@ module _ (hosts : List Host) where
   length_now (Crossed c) ms = omega arith
   length_now (Asked h r) ms = omega arith
 
-  module _ (y : Moment) (ms : List Moment) (l : Lawful hosts (y ∷ ms)) (x : Life) (f : AtLink (y ∷ ms) x) (begins : begun x ≡ length (crossings_of ms)) where
+  module _ (y : Moment) (ms : List Moment) (l : Lawful hosts (y ∷ ms)) (x : Life) (f : AtLink hosts (y ∷ ms) x)
+      (begins : begun x ≡ length (crossings_of ms)) where
     abbrev a : Host
     a = x.host
 
@@ -288,13 +293,13 @@ module _ (hosts : List Host) where
       old = below hosts y ms l
 
       abbrev w : Whole x.host x.peer (Own x.host x.peer) (Heard x.host x.peer) ms
-      w = whole hosts x.host x.peer (Own x.host x.peer) (Heard x.host x.peer) (all_given hosts x.host x.peer) ms (below hosts y ms l)
+      w = whole hosts x.host x.peer (Own x.host x.peer) (Heard x.host x.peer) (all_given hosts x.host x.peer f.ours) ms (below hosts y ms l)
 
       abbrev n : ℕ
       n = closes.n hosts (y ∷ ms) l x f
 
       stays_before : stay.stays x.host x.peer (events_of ms) ≡ true
-      stays_before = (kept y ms l x.host x.peer f.link x.socket x.foreign x.own_stamp x.partner_stamp t none).1
+      stays_before = (kept y ms l x.host x.peer f.ours f.link x.socket x.foreign x.own_stamp x.partner_stamp t none).1
 
       module _ (h : HasR x.host x.peer (Own x.host x.peer) (Heard x.host x.peer) ms w.j n number) where
         socket : h.life.socket ≡ x.socket
@@ -313,7 +318,7 @@ module _ (hosts : List Host) where
             (subst (λ (k : ℕ). Own x.host x.peer ms h.life.socket k h.life.own_stamp gone) foreign (subst (λ (k : ℕ). Own x.host x.peer ms h.life.socket h.life.foreign h.life.own_stamp k) same_gone h.is.own)))
 
         stamp : h.life.own_stamp ≡ x.own_stamp
-        stamp = one_stamp hosts x.host x.peer (y ∷ ms) l x.socket x.foreign h.life.own_stamp x.own_stamp gone own t.asked
+        stamp = one_stamp hosts x.host x.peer f.ours (y ∷ ms) l x.socket x.foreign h.life.own_stamp x.own_stamp gone own t.asked
 
         h_in : IsOf h.life (lives_in ms)
         h_in = of_drop (since x.host x.peer ms) h.life (lives_in ms) h.there
@@ -334,13 +339,13 @@ module _ (hosts : List Host) where
 
         same : (grown y ms).change h.life ≡ x
         same =
-            one_own hosts Own Heard (λ p q. all_given hosts p q) (y ∷ ms) l ((grown y ms).change h.life) x v_in (is_of x (lives_in (y ∷ ms)) f.there)
+            one_own hosts (y ∷ ms) l ((grown y ms).change h.life) x (ours_of hosts ((grown y ms).change h.life) x.host x.peer f.ours (((grown y ms).names h.life).host ∙ h.host, ((grown y ms).names h.life).peer ∙ h.peer)) f.ours v_in (is_of x (lives_in (y ∷ ms)) f.there)
             (named_request h.life ((grown y ms).change h.life) ((grown y ms).names h.life) ∙ request)
 
         impossible : ⊥
         impossible =
-            let asked : h.life.own_stamp < length (crossings_of ms) = own_below hosts ms old h.life h_in in
-            let answered : h.life.partner_stamp < length (crossings_of ms) = partner_below hosts ms old h.life h_in in
+            let asked : h.life.own_stamp < length (crossings_of ms) = own_below hosts ms old h.life (ours_of hosts h.life x.host x.peer f.ours (h.host, h.peer)) h_in in
+            let answered : h.life.partner_stamp < length (crossings_of ms) = partner_below hosts ms old h.life (ours_of hosts h.life x.host x.peer f.ours (h.host, h.peer)) h_in in
             let partner : x.partner_stamp ≡ h.life.partner_stamp = ap (λ (z : Life). z.partner_stamp) (sym same) ∙ ((grown y ms).names h.life).partner in
             let latest : max x.own_stamp x.partner_stamp ≡ length (crossings_of ms) = begins in
             let first : x.own_stamp < length (crossings_of ms) = (let e : h.life.own_stamp ≡ x.own_stamp = stamp in omega (arith, asked, e)) in
@@ -361,14 +366,14 @@ module _ (hosts : List Host) where
     none_counted = by (stay.begins x.host x.peer (event_in y) (events_of ms)) refl where
       by : (v : Bool) → stay.begins x.host x.peer (event_in y) (events_of ms) ≡ v → (receiver_now numbered x.peer f.link (own_calls x.host x.peer (y ∷ ms))).came number ≡ 0
       by true new =
-          let k : Fresh x.host x.peer (event_in y) (events_of ms) = fresh y ms l x.host x.peer f.link x.socket x.foreign x.own_stamp x.partner_stamp t new in
+          let k : Fresh x.host x.peer (event_in y) (events_of ms) = fresh y ms l x.host x.peer f.ours f.link x.socket x.foreign x.own_stamp x.partner_stamp t new in
           none_came numbered x.peer f.link (own_calls x.host x.peer (y ∷ ms))
-          (solo_untaken x.peer (own_calls x.host x.peer (y ∷ ms)) (pair_with x.peer (program x.host (y ∷ ms)).peers).queue (solo_there (all_ours hosts) l.0 x.host x.peer (refl, refl) y ms l.1 (happened hosts (y ∷ ms) l.2) k.left k.silent)) number
+          (solo_untaken x.peer (own_calls x.host x.peer (y ∷ ms)) (pair_with x.peer (program x.host (y ∷ ms)).peers).queue (solo_there hosts l.0 x.host x.peer f.ours y ms l.1 l.2 k.left k.silent)) number
       by false none =
           let now : (receiver_now numbered x.peer f.link (own_calls x.host x.peer (y ∷ ms))).came number ≡ (receiver_now numbered x.peer f.link (calls_by x.host x.peer y ms ++ own_calls x.host x.peer ms)).came number =
-          ap (λ (cs : List calls.Moment). (receiver_now numbered x.peer f.link cs).came number) (calls_now y ms l x.host x.peer f.link x.socket x.foreign x.own_stamp x.partner_stamp t none) in
+          ap (λ (cs : List calls.Moment). (receiver_now numbered x.peer f.link cs).came number) (calls_now y ms l x.host x.peer f.ours f.link x.socket x.foreign x.own_stamp x.partner_stamp t none) in
           let within : (receiver_now numbered x.peer f.link (calls_by x.host x.peer y ms ++ own_calls x.host x.peer ms)).came number ≤ ((receiver_now numbered x.peer f.link (own_calls x.host x.peer ms)).granted number).messages =
-          most y ms l x.host x.peer f.link x.socket x.foreign x.own_stamp x.partner_stamp t none number in
+          most y ms l x.host x.peer f.ours f.link x.socket x.foreign x.own_stamp x.partner_stamp t none number in
           let granted : ((receiver_now numbered x.peer f.link (own_calls x.host x.peer ms)).granted number).messages ≡ 0 = nothing_granted none in
           omega (arith, now, within, granted)
 
@@ -377,15 +382,17 @@ module _ (hosts : List Host) where
 
   -- ---- all moments
 
-  counted : (ms : List Moment) (l : Lawful hosts ms) (x : Life) (f : AtLink ms x) → IsCounted x.host x.peer f.link x.socket x.foreign x.own_stamp x.partner_stamp ms
+  counted : (ms : List Moment) (l : Lawful hosts ms) (x : Life) (f : AtLink hosts ms x)
+      → IsCounted x.host x.peer f.link x.socket x.foreign x.own_stamp x.partner_stamp ms
   counted [] l x f = absurd (is_of x [] f.there)
-  counted (y ∷ ms) l x f = elim (books.was_or_begins hosts (together hosts) y ms (below hosts y ms l) l x f.there f.goes f.end f.link f.linked) [
+  counted (y ∷ ms) l x f = elim (books.was_or_begins hosts (together hosts) y ms (below hosts y ms l) l x (among_now hosts (y ∷ ms) x f.ours f.there) f.goes f.end f.link f.linked) [
     | inl w ↦
         (let old : Lawful hosts ms = below hosts y ms l in
-        let g : AtLink ms w.life = record { there = w.there; receiving = ap is_receive_socket (sym w.socket) ∙ f.receiving; goes = w.goes; end = w.end; link = f.link; linked = w.linked } in
+        let i : Contains (lives_in ms) w.life × AreOurs hosts w.life.host w.life.peer = now_kept hosts ms w.life w.there in
+        let g : AtLink hosts ms w.life = record { ours = i.1; there = i.0; receiving = ap is_receive_socket (sym w.socket) ∙ f.receiving; goes = w.goes; end = w.end; link = f.link; linked = w.linked } in
         let after : x.own_stamp < length (crossings_of ms) = (let i : w.life.own_stamp < length (crossings_of ms) = w.asked in let e : x.own_stamp ≡ w.life.own_stamp = w.own in omega (arith, i, e)) in
         let behind : x.partner_stamp < length (crossings_of ms) = (let i : w.life.partner_stamp < length (crossings_of ms) = w.answered in let e : x.partner_stamp ≡ w.life.partner_stamp = w.partner in omega (arith, i, e)) in
-        still_counted y ms l x.host x.peer f.link x.socket x.foreign x.own_stamp x.partner_stamp (stands (y ∷ ms) l x f)
+        still_counted y ms l x.host x.peer f.ours f.link x.socket x.foreign x.own_stamp x.partner_stamp (stands (y ∷ ms) l x f)
         (named_as (λ h p socket foreign own partner. Stands h p f.link socket foreign own ms) x ms f.link w (stands ms old w.life g)) after behind
         (named_as (λ h p socket foreign own partner. IsCounted h p f.link socket foreign own partner ms) x ms f.link w (counted ms old w.life g)))
     | inr begins ↦ begins_counted y ms l x f begins
@@ -394,7 +401,7 @@ module _ (hosts : List Host) where
   -- ---- as the book has it
 
   -- as many messages came in for a receiving life that isn't over as the law counts
-  pub came_as : (ms : List Moment) (l : Lawful hosts ms) (x : Life) (f : AtLink ms x)
+  pub came_as : (ms : List Moment) (l : Lawful hosts ms) (x : Life) (f : AtLink hosts ms x)
       → length (texts_for x f.link (crossings_of ms)) ≡ ((closes.w hosts ms l x f).j (closes.n hosts ms l x f)).x.receiver.came (closes.c hosts ms l x f)
   came_as ms l x f =
       ap (λ (g : Flow). length (texts_of (receives x) g x.own_stamp x.partner_stamp (crossings_of ms))) flow_is

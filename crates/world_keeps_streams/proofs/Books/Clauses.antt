@@ -1,17 +1,17 @@
 -- Of all lives of a book: what was taken has a source, and what was sent is granted.
-use Rattle.world_keeps_streams.proofs.Common.{◌≡◌, ◌⊎◌, inl, inr, ℕ, ◌≤◌, Bool, true, false, List, [], ◌∷◌, length, map, take, refl, ap, sym, subst, ◌∙◌, arith, Host, is_receive_socket, is_send_socket, Fresh, begins_fresh, IsGranted, Match, Moment, Crossed, Asked, event_in, events_of, crossings_of}
-use Rattle.reset_law.specs.Network.{all_ours}
+use Rattle.world_keeps_streams.proofs.Common.{◌≡◌, ◌⊎◌, inl, inr, ℕ, ◌≤◌, Bool, true, false, List, [], ◌∷◌, length, map, take, refl, ap, sym, subst, ◌∙◌, arith, Host, is_receive_socket, is_send_socket, Fresh, begins_fresh, IsGranted, Match, Moment, Crossed, Asked, event_in, events_of, crossings_of, Network, AreOurs}
 use Rattle.reset_law.specs.Stays as stay
 use Rattle.promise.specs.Safe as book
 use Rattle.promise.specs.Safe.{receives, sends}
 use Rattle.promise.specs.declared.life.Life.{Life}
 use Rattle.world_keeps_streams.proofs.Lives.Lists.{IsOf, Grown, contains, grown, of_drop, of_left, of_map, of_mapped, of_parts, of_take, take_grown}
 use Rattle.world_keeps_streams.proofs.Requests.Names.{request_grows}
-use Rattle.world_keeps_streams.proofs.Requests.Sides.{Lawful, coupled_in, lives_in}
+use Rattle.world_keeps_streams.proofs.Requests.Sides.{Lawful, coupled_in, lives_in, below}
 use Rattle.world_keeps_streams.proofs.Books.Whole.{since, present_in, Whole}
 use Rattle.world_keeps_streams.proofs.Books.Goes.{since_bound, since_new, since_on}
 use Rattle.world_keeps_streams.proofs.Books.Source.{Granter, Sourced, granted_of, source_of}
-use Rattle.world_keeps_streams.proofs.Books.Run.{Given, below, whole}
+use Rattle.world_keeps_streams.proofs.Books.Run.{Given, whole}
+use Rattle.world_keeps_streams.proofs.Ours.{ours_of, ours_receiver, ours_sender}
 
 -- ---- lives of before the last meeting: all have ended
 
@@ -39,15 +39,17 @@ pub record SettledS (ms : List Moment) (s : Life) : Type 0 where
 
 -- ---- they stay as they are
 
-pub match_grows : (hosts : List Host) (y : Moment) (ms : List Moment) → Lawful hosts ms → (x s : Life) → IsOf x (lives_in ms) → IsOf s (lives_in ms) → Match (crossings_of ms) x s → Match (crossings_of (y ∷ ms)) x s
-match_grows hosts (Asked h r) ms l x s i j m = m
-match_grows hosts (Crossed c) ms l x s i j m = record {
+pub match_grows : (hosts : Network) (y : Moment) (ms : List Moment) → Lawful hosts ms → (x s : Life)
+    → AreOurs hosts x.host x.peer → IsOf x (lives_in ms) → IsOf s (lives_in ms) → Match (crossings_of ms) x s
+    → Match (crossings_of (y ∷ ms)) x s
+match_grows hosts (Asked h r) ms l x s ours i j m = m
+match_grows hosts (Crossed c) ms l x s ours i j m = record {
   receiving = m.receiving;
   sending = m.sending;
   peers = m.peers;
   sockets = m.sockets;
-  asked = request_grows hosts ms l (c ∷ []) x (contains x (lives_in ms) i) ∙ m.asked;
-  answered = request_grows hosts ms l (c ∷ []) s (contains s (lives_in ms) j) ∙ m.answered;
+  asked = request_grows hosts ms l (c ∷ []) x ours (contains x (lives_in ms) i) ∙ m.asked;
+  answered = request_grows hosts ms l (c ∷ []) s (ours_sender hosts m ours) (contains s (lives_in ms) j) ∙ m.answered;
 }
 
 pub stays_in : (y : Moment) (ms : List Moment) (x : Life) → IsOf x (lives_in ms) → x.ended ≡ true → IsOf x (lives_in (y ∷ ms))
@@ -56,27 +58,29 @@ stays_in y ms x i over =
     subst (λ (l : List Life). IsOf x l) (sym g.is)
     (of_left x (map g.change (lives_in ms)) g.more (subst (λ (v : Life). IsOf v (map g.change (lives_in ms))) (g.still x over) (of_map g.change x (lives_in ms) i)))
 
-settled_r_on : (hosts : List Host) (y : Moment) (ms : List Moment) → Lawful hosts ms → (x : Life) → IsOf x (lives_in ms) → SettledR ms x → SettledR (y ∷ ms) x
-settled_r_on hosts y ms l x i r = record {
+settled_r_on : (hosts : Network) (y : Moment) (ms : List Moment) → Lawful hosts ms → (x : Life)
+    → AreOurs hosts x.host x.peer → IsOf x (lives_in ms) → SettledR ms x → SettledR (y ∷ ms) x
+settled_r_on hosts y ms l x ours i r = record {
   over = r.over;
   source = λ some. let o : OldSource ms x = r.source some in record {
     sender = o.sender;
     there = stays_in y ms o.sender o.there o.over;
     over = o.over;
-    matches = match_grows hosts y ms l x o.sender i o.there o.matches;
+    matches = match_grows hosts y ms l x o.sender ours i o.there o.matches;
     front = o.front;
   };
 }
 
-settled_s_on : (hosts : List Host) (y : Moment) (ms : List Moment) → Lawful hosts ms → (s : Life) → IsOf s (lives_in ms) → SettledS ms s → SettledS (y ∷ ms) s
-settled_s_on hosts y ms l s i r = record { over = r.over; granted = by r.granted } where
+settled_s_on : (hosts : Network) (y : Moment) (ms : List Moment) → Lawful hosts ms → (s : Life)
+    → AreOurs hosts s.host s.peer → IsOf s (lives_in ms) → SettledS ms s → SettledS (y ∷ ms) s
+settled_s_on hosts y ms l s ours i r = record { over = r.over; granted = by r.granted } where
   by : ((s.messages ≡ 0) × (s.bits ≡ [])) ⊎ OldGranter ms s → ((s.messages ≡ 0) × (s.bits ≡ [])) ⊎ OldGranter (y ∷ ms) s
   by (inl none) = inl none
   by (inr o) = inr (record {
     receiver = o.receiver;
     there = stays_in y ms o.receiver o.there o.over;
     over = o.over;
-    matches = match_grows hosts y ms l o.receiver s o.there i o.matches;
+    matches = match_grows hosts y ms l o.receiver s (ours_receiver hosts o.matches ours) o.there i o.matches;
     granted = o.granted;
   })
 
@@ -103,12 +107,13 @@ older n ms y x less i =
       same = λ over. m.2 ∙ g.still m.0 over;
     }
 
-module _ (hosts : List Host) (a b : Host) (Own Heard : List Moment → ℕ → ℕ → ℕ → ℕ → Type 0) (given : Given hosts a b Own Heard) where
+module _ (hosts : Network) (a b : Host) (Own Heard : List Moment → ℕ → ℕ → ℕ → ℕ → Type 0)
+    (given : Given hosts a b Own Heard) where
   -- where both meet what was since they met before is settled
   module _ (y : Moment) (ms : List Moment) (l : Lawful hosts (y ∷ ms)) (new : stay.begins a b (event_in y) (events_of ms) ≡ true) where
     fresh : Fresh a b (event_in y) (events_of ms)
     fresh =
-        begins_fresh (all_ours hosts) (event_in y) (events_of ms) (coupled_in hosts (y ∷ ms) l).run a b (refl, refl) new
+        begins_fresh hosts (event_in y) (events_of ms) (coupled_in hosts (y ∷ ms) l).run a b given.ours new
 
     settle_r : (x : Life) → IsOf x (present_in a b ms) → x.host ≡ a → x.peer ≡ b → receives x ≡ true → SettledR ms x
     settle_r x i f g q =
@@ -147,7 +152,7 @@ module _ (hosts : List Host) (a b : Host) (Own Heard : List Moment → ℕ → �
   settled_r [] l x i f g q = absurd i
   settled_r (y ∷ ms) l x i f g q = by (stay.begins a b (event_in y) (events_of ms)) refl (settled_r ms (below hosts y ms l)) where
     kept : (n : ℕ) (o : Older n ms y x) → SettledR ms o.life → SettledR (y ∷ ms) x
-    kept n o r = subst (λ (v : Life). SettledR (y ∷ ms) v) (sym (o.same r.over)) (settled_r_on hosts y ms (below hosts y ms l) o.life (of_take n o.life (lives_in ms) o.there) r)
+    kept n o r = subst (λ (v : Life). SettledR (y ∷ ms) v) (sym (o.same r.over)) (settled_r_on hosts y ms (below hosts y ms l) o.life (ours_of hosts o.life a b given.ours (o.host ∙ f, o.peer ∙ g)) (of_take n o.life (lives_in ms) o.there) r)
 
     by : (v : Bool) → stay.begins a b (event_in y) (events_of ms) ≡ v → ((x : Life) → IsOf x (take (since a b ms) (lives_in ms)) → x.host ≡ a → x.peer ≡ b → receives x ≡ true → SettledR ms x) → SettledR (y ∷ ms) x
     by false none old =
@@ -165,7 +170,7 @@ module _ (hosts : List Host) (a b : Host) (Own Heard : List Moment → ℕ → �
   settled_s [] l x i f g q = absurd i
   settled_s (y ∷ ms) l x i f g q = by (stay.begins a b (event_in y) (events_of ms)) refl (settled_s ms (below hosts y ms l)) where
     kept : (n : ℕ) (o : Older n ms y x) → SettledS ms o.life → SettledS (y ∷ ms) x
-    kept n o r = subst (λ (v : Life). SettledS (y ∷ ms) v) (sym (o.same r.over)) (settled_s_on hosts y ms (below hosts y ms l) o.life (of_take n o.life (lives_in ms) o.there) r)
+    kept n o r = subst (λ (v : Life). SettledS (y ∷ ms) v) (sym (o.same r.over)) (settled_s_on hosts y ms (below hosts y ms l) o.life (ours_of hosts o.life b a (given.ours.1, given.ours.0) (o.host ∙ f, o.peer ∙ g)) (of_take n o.life (lives_in ms) o.there) r)
 
     by : (v : Bool) → stay.begins a b (event_in y) (events_of ms) ≡ v → ((s : Life) → IsOf s (take (since a b ms) (lives_in ms)) → s.host ≡ b → s.peer ≡ a → sends s ≡ true → SettledS ms s) → SettledS (y ∷ ms) x
     by false none old =

@@ -1,8 +1,7 @@
 -- A receiving life that isn't over beside the law of its link; and one at rest, whose end is open, took all that its partner sent.
-use Rattle.world_keeps_streams.proofs.Common.{◌≡◌, ◌⊎◌, inl, inr, ℕ, suc, ◌+◌, ◌≤◌, ◌==◌, Bool, true, false, List, [], ◌∷◌, ◌++◌, length, filter, Some, refl, ap, sym, subst, ◌∙◌, arith, eqb-true, ne_eqb, Contains, Seen, Host, box_of, IsSafe, waiting_in, safe_inv, some_is, is_mine_on, receives_on, both, HasReceiver, IsReceiver, name_now, numbered, receiver_now, Fetched, Free, IsPosted, boxes, pair_with, IsLawful, Match, Moment, events_of, program, crossings_of, seen_box, WorldState, box_same, HasOpenEnd, open_parts, book_run, own_calls, AreAtRest}
-use Rattle.reset_law.specs.Network.{all_ours}
-use Rattle.net_sim.proofs.lemmas.AllOurs.{happened}
+use Rattle.world_keeps_streams.proofs.Common.{◌≡◌, ◌⊎◌, inl, inr, ℕ, suc, ◌+◌, ◌≤◌, ◌==◌, Bool, true, false, List, [], ◌∷◌, ◌++◌, length, filter, Some, refl, ap, sym, subst, ◌∙◌, arith, eqb-true, ne_eqb, Contains, Seen, Host, box_of, IsSafe, waiting_in, safe_inv, some_is, is_mine_on, receives_on, both, HasReceiver, IsReceiver, name_now, numbered, receiver_now, Fetched, Free, IsPosted, boxes, pair_with, IsLawful, Match, Moment, events_of, program, crossings_of, seen_box, WorldState, box_same, HasOpenEnd, open_parts, own_calls, AreAtRest, Network, AreOurs}
 use Rattle.std.proofs.Common.{append-nil}
+use Rattle.reset_law.specs.Network.{all_ours}
 use Rattle.interface.specs.Mailboxes as mail
 use Rattle.stream_law.specs.Receivers.{Receiver}
 use Rattle.stream_law.specs.Streams.{Box, Empty, Waiting, Taken}
@@ -22,10 +21,11 @@ use Rattle.world_keeps_streams.proofs.Books.Whole.{GoesOn, HasR, HasS, PresentR,
 use Rattle.world_keeps_streams.proofs.Carried.Streams.{all_bits}
 use Rattle.world_keeps_streams.proofs.Deeds.Effects.{Among, among_kept}
 use Rattle.world_keeps_streams.proofs.Lives.Lists.{IsOf, is_of, of_drop, of_parts}
-use Rattle.world_keeps_streams.proofs.Requests.Sides.{Heard, Lawful, Own, lives_in}
+use Rattle.world_keeps_streams.proofs.Requests.Sides.{Heard, Lawful, Own, lives_in, book_lawful}
 use Rattle.world_keeps_streams.proofs.Steps.Joined.{post_in}
 use Rattle.world_keeps_streams.proofs.Steps.Streams.{has_receiver}
 use Rattle.interface.proofs.lemmas.{unlike}
+use Rattle.world_keeps_streams.proofs.Ours.{ours_sender}
 
 free_box : (b : Box) → IsPosted Free b → waiting_in b ≡ []
 free_box Empty p = refl
@@ -41,7 +41,8 @@ pub suc_is : (m n : ℕ) → suc m ≡ suc n → m ≡ n
 suc_is m n e = omega (arith, e)
 
 -- a receiving life that isn't over, on its link
-pub record AtLink (ms : List Moment) (x : Life) : Type 0 where
+pub record AtLink (hosts : Network) (ms : List Moment) (x : Life) : Type 0 where
+  pub ours : AreOurs hosts x.host x.peer
   pub there : Contains (lives_in ms) x
   pub receiving : receives x ≡ true
   pub goes : x.ended ≡ false
@@ -49,15 +50,15 @@ pub record AtLink (ms : List Moment) (x : Life) : Type 0 where
   pub link : ℕ
   pub linked : end.end.link ≡ Some link
 
-module _ (hosts : List Host) (ms : List Moment) (l : Lawful hosts ms) (x : Life) (f : AtLink ms x) where
+module _ (hosts : Network) (ms : List Moment) (l : Lawful hosts ms) (x : Life) (f : AtLink hosts ms x) where
   given : Given hosts x.host x.peer (Own x.host x.peer) (Heard x.host x.peer)
-  given = all_given hosts x.host x.peer
+  given = all_given hosts x.host x.peer f.ours
 
   abbrev pub w : Whole x.host x.peer (Own x.host x.peer) (Heard x.host x.peer) ms
-  w = whole hosts x.host x.peer (Own x.host x.peer) (Heard x.host x.peer) (all_given hosts x.host x.peer) ms l
+  w = whole hosts x.host x.peer (Own x.host x.peer) (Heard x.host x.peer) (all_given hosts x.host x.peer f.ours) ms l
 
   pub stays : stay.stays x.host x.peer (events_of ms) ≡ true
-  stays = stays_of hosts ms l x f.there f.goes
+  stays = stays_of hosts ms l x f.ours f.there f.goes
 
   here : IsOf x (lives_in ms)
   here = is_of x (lives_in ms) f.there
@@ -109,7 +110,7 @@ module _ (hosts : List Host) (ms : List Moment) (l : Lawful hosts ms) (x : Life)
   pub law : IsReceiver (name_now numbered x.peer (own_calls x.host x.peer ms) f.end.end.own f.end.end.foreign) f.end.end (receiver_now numbered x.peer (suc n) (own_calls x.host x.peer ms))
   law =
       let has : HasReceiver (name_now numbered x.peer (own_calls x.host x.peer ms)) (suc n) (pair_with x.peer (program x.host ms).peers).entries (receiver_now numbered x.peer (suc n) (own_calls x.host x.peer ms)) =
-      has_receiver (all_ours hosts) l.0 (suc n) off x.host x.peer (refl, refl) ms l.1 (happened hosts ms l.2) in
+      has_receiver hosts l.0 (suc n) off x.host x.peer f.ours ms l.1 l.2 in
       (one_end (name_now numbered x.peer (own_calls x.host x.peer ms)) f.end.end (filter (receives_on (suc n)) (pair_with x.peer (program x.host ms).peers).entries) (receiver_now numbered x.peer (suc n) (own_calls x.host x.peer ms)) has
       (among_kept (receives_on (suc n)) (pair_with x.peer (program x.host ms).peers).entries f.end.end at_it.0 (on_link (suc n) f.end.end x own f.receiving (f.linked ∙ ap (λ (k : ℕ). Some k) place.0)))).1
 
@@ -132,7 +133,7 @@ module _ (hosts : List Host) (ms : List Moment) (l : Lawful hosts ms) (x : Life)
     s_in = is_of s (lives_in ms) there
 
     only : (r : Life) → IsOf r (lives_in ms) → Match (crossings_of ms) r s → x ≡ r
-    only r i k = one_receiver hosts Own Heard (λ a b. all_given hosts a b) ms l x r s here i m k
+    only r i k = one_receiver hosts ms l x r s (ours_sender hosts m f.ours) here i m k
 
     -- where something was sent in the connection
     some_there : (((w.j n).x.sender.sent c) ≡ [] → ⊥) → (s.bits ≡ all_bits ((w.j n).x.sender.sent c)) × (s.messages ≡ length ((w.j n).x.sender.sent c))
@@ -140,7 +141,7 @@ module _ (hosts : List Host) (ms : List Moment) (l : Lawful hosts ms) (x : Life)
         let h : HasS x.host x.peer (Own x.host x.peer) (Heard x.host x.peer) ms w.j n c = w.has_sender n c some in
         let matches : Match (crossings_of ms) x h.life =
         one_matches x.host x.peer (Own x.host x.peer) (Heard x.host x.peer) ms (given.matched ms l) w x h.life known.g h.is.g late h.there (refl, refl) (h.host, h.peer) f.receiving h.name known.own h.is.heard in
-        let one : h.life ≡ s = one_sender hosts Own Heard (λ a b. all_given hosts a b) ms l x h.life s (of_drop (since x.host x.peer ms) h.life (lives_in ms) h.there) s_in matches m in
+        let one : h.life ≡ s = one_sender hosts ms l x h.life s f.ours (of_drop (since x.host x.peer ms) h.life (lives_in ms) h.there) s_in matches m in
         let bits : h.life.bits ≡ all_bits ((w.j n).x.sender.sent c) = h.is.gave.bits ∙ ap (λ (k : ℕ). all_bits ((w.j k).x.sender.sent (numbered h.life.foreign h.life.socket h.is.g))) h.link ∙ ap (λ (k : ℕ). all_bits ((w.j n).x.sender.sent k)) h.name in
         let messages : h.life.messages ≡ length ((w.j n).x.sender.sent c) =
         h.is.gave.messages ∙ ap (λ (k : ℕ). length ((w.j k).x.sender.sent (numbered h.life.foreign h.life.socket h.is.g))) h.link ∙ ap (λ (k : ℕ). length ((w.j n).x.sender.sent k)) h.name in
@@ -212,9 +213,10 @@ module _ (hosts : List Host) (ms : List Moment) (l : Lawful hosts ms) (x : Life)
 
 -- ---- a receiving life at rest
 
-module _ (hosts : List Host) (ms : List Moment) (l : Lawful hosts ms) (x s : Life) (f : AreAtRest ms x s) where
-  abbrev pub at_rest : AtLink ms x
-  at_rest = record { there = f.there; receiving = f.matches.receiving; goes = f.goes; end = f.end; link = f.link; linked = f.linked }
+module _ (hosts : Network) (ms : List Moment) (l : Lawful hosts ms) (x s : Life) (ours : AreOurs hosts x.host x.peer)
+    (f : AreAtRest ms x s) where
+  abbrev pub at_rest : AtLink hosts ms x
+  at_rest = record { ours = ours; there = f.there; receiving = f.matches.receiving; goes = f.goes; end = f.end; link = f.link; linked = f.linked }
 
   abbrev link_here : ℕ
   link_here = n hosts ms l x at_rest
@@ -225,7 +227,7 @@ module _ (hosts : List Host) (ms : List Moment) (l : Lawful hosts ms) (x s : Lif
   pub sender_stays : stay.stays x.peer x.host (events_of ms) ≡ true
   sender_stays =
       subst (λ (g : Host). stay.stays g x.host (events_of ms) ≡ true) (sym f.matches.peers.0)
-      (subst (λ (g : Host). stay.stays s.host g (events_of ms) ≡ true) f.matches.peers.1 (stays_of hosts ms l s f.sender_there f.sender_goes))
+      (subst (λ (g : Host). stay.stays s.host g (events_of ms) ≡ true) f.matches.peers.1 (stays_of hosts ms l s (ours_sender hosts f.matches ours) f.sender_there f.sender_goes))
 
   posted : IsPosted (post_in (boxes x.peer x.host (events_of ms) (suc link_here))) ((w hosts ms l x at_rest).j link_here).x.box
   posted = ((w hosts ms l x at_rest).j link_here).joint.box_x.whole sender_stays
@@ -257,8 +259,10 @@ module _ (hosts : List Host) (ms : List Moment) (l : Lawful hosts ms) (x s : Lif
 
 -- ---- at all moments, and in worlds
 
-all_rest : (hosts : List Host) (ms : List Moment) → Lawful hosts ms → AllRest ms
-all_rest hosts ms l later earlier is x s f = rests hosts earlier (rest_lawful hosts later earlier (subst (λ (ns : List Moment). Lawful hosts ns) is l)) x s f
+all_rest : (hosts : Network) (ms : List Moment) → Lawful hosts ms → (later earlier : List Moment)
+    → ms ≡ later ++ earlier → (x s : Life) → AreOurs hosts x.host x.peer → AreAtRest earlier x s
+    → (x.bits ≡ s.bits) × (x.messages ≡ s.messages)
+all_rest hosts ms l later earlier is x s ours f = rests hosts earlier (rest_lawful hosts later earlier (subst (λ (ns : List Moment). Lawful hosts ns) is l)) x s ours f
 
 pub world_rests : {C : Type 0} (seen : C → Seen) (hosts : List Host) (w : WorldState C) → (lawful : IsLawful seen hosts w) → AllRest lawful.whole.moments
-world_rests seen hosts w lawful = all_rest hosts lawful.whole.moments (lawful.addresses, book_run seen hosts w lawful, lawful.whole.timeline)
+world_rests seen hosts w lawful later earlier is x s = all_rest (all_ours hosts) lawful.whole.moments (book_lawful seen hosts w lawful) later earlier is x s (refl, refl)

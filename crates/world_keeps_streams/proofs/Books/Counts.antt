@@ -1,5 +1,5 @@
 -- How many CLS a host has said and heard of a connection, by the end that it has of it.
-use Rattle.world_keeps_streams.proofs.Common.{◌≡◌, ℕ, ◌+◌, ◌≤◌, ◌&&◌, Bool, true, false, List, refl, ap, ◌∙◌, arith, Host, is_sent, Entry, end_of, is_past, standing, End, Sockets, Who, Mark, Side, Half, count, stays_same, pair_with, Moment, events_of, program, crossings_of, law_events, origin_in, Tie, at_texts, foreign_of, half, other, own_of}
+use Rattle.world_keeps_streams.proofs.Common.{◌≡◌, ℕ, ◌+◌, ◌≤◌, ◌&&◌, Bool, true, false, List, refl, ap, ◌∙◌, arith, Host, is_sent, Entry, end_of, is_past, standing, End, Sockets, Who, Mark, Side, Half, count, stays_same, pair_with, Moment, events_of, program, crossings_of, law_events, origin_in, Tie, at_texts, foreign_of, half, other, own_of, Network}
 use Rattle.pairing_law.specs.Marks.{closes}
 use Rattle.reset_law.specs.Stays as stay
 use Rattle.world_keeps_pairing.proofs.lemmas.{IsPair}
@@ -31,7 +31,7 @@ counted_at floor above x y end law stays is live =
       live = live;
     }
 
-module _ (hosts : List Host) (ms : List Moment) (l : Lawful hosts ms) (s : Sockets) (q : IsPair s)
+module _ (hosts : Network) (ms : List Moment) (l : Lawful hosts ms) (s : Sockets) (q : IsPair s)
     (who : Who) (h p : Host) where
   abbrev end_now : Entry → End
   end_now e = end_of (origin_in (crossings_of ms) h p) (standing e)

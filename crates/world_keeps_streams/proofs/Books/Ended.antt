@@ -1,7 +1,6 @@
 -- A sending life whose CLS its partner has taken, and whose partner has said none, isn't over while its host stays: so it is there, or it was at the last
 -- moment before its host left.
-use Rattle.world_keeps_streams.proofs.Common.{◌≡◌, inl, inr, ℕ, suc, ◌+◌, ◌<◌, ◌≤◌, ◌&&◌, ◌||◌, not, if◌then◌else◌, Bool, true, false, List, [], ◌∷◌, ◌++◌, refl, ap, sym, subst, ◌∙◌, arith, Contains, Host, Crossing, is_receive_socket, is_send_socket, entry_at, gone_now, counted, has_heard, heard_from, Sockets, Who, receiver, sender, Asks, Mark, IsIn, Side, Joined, Stands, Stood, asks_once, asks_said, every_in, from_asks, begins_either, pair_with, life_ended, Asked, Crossed, Moment, event_in, events_of, program, crossings_of, Coupled, law_events, origin_in, life_of, openings, steps, even_odd, foreign_of, life_in, own_of, sender_half, served_in, own_calls}
-use Rattle.reset_law.specs.Network.{all_ours}
+use Rattle.world_keeps_streams.proofs.Common.{◌≡◌, inl, inr, ℕ, suc, ◌+◌, ◌<◌, ◌≤◌, ◌&&◌, ◌||◌, not, if◌then◌else◌, Bool, true, false, List, [], ◌∷◌, ◌++◌, refl, ap, sym, subst, ◌∙◌, arith, Contains, Host, Crossing, is_receive_socket, is_send_socket, entry_at, gone_now, counted, has_heard, heard_from, Sockets, Who, receiver, sender, Asks, Mark, IsIn, Side, Joined, Stands, Stood, asks_once, asks_said, every_in, from_asks, begins_either, pair_with, life_ended, Asked, Crossed, Moment, event_in, events_of, program, crossings_of, Coupled, law_events, origin_in, life_of, openings, steps, even_odd, foreign_of, own_of, sender_half, served_in, own_calls, Network, AreOurs}
 use Rattle.pairing_law.specs.Links.{Receiver, Sender}
 use Rattle.pairing_law.specs.Marks.{closes}
 use Rattle.pairing_law.specs.Sides as law
@@ -14,15 +13,17 @@ use Rattle.world_keeps_streams.proofs.Books.Arrives.{rest_lawful}
 use Rattle.world_keeps_streams.proofs.Books.Counts.{side_of}
 use Rattle.world_keeps_streams.proofs.Books.Given.{counts}
 use Rattle.world_keeps_streams.proofs.Books.Parted.{HasLeft, grows_on, no_begin, stands}
-use Rattle.world_keeps_streams.proofs.Books.Run.{Given, below}
+use Rattle.world_keeps_streams.proofs.Books.Run.{Given}
 use Rattle.world_keeps_streams.proofs.Books.Unasked.{unasked}
 use Rattle.world_keeps_streams.proofs.Books.Whole.{Sends, Was, present_in, since, was_there}
 use Rattle.world_keeps_streams.proofs.Heard.Run.{heard_closes}
 use Rattle.world_keeps_streams.proofs.Lives.Lists.{IsOf, Named, contains, named_itself, of_parts}
 use Rattle.world_keeps_streams.proofs.Requests.Names.{origin_grows}
 use Rattle.world_keeps_streams.proofs.Requests.Now.{joined_halves}
-use Rattle.world_keeps_streams.proofs.Requests.Sides.{Heard, Lawful, Own, coupled_in, law_joined, lives_in, own_on, lawful_among}
+use Rattle.world_keeps_streams.proofs.Requests.Sides.{Heard, Lawful, Own, coupled_in, law_joined, lives_in, own_on, below}
 use Rattle.pairing_law.proofs.lemmas.{closes_said}
+use Rattle.world_keeps_streams.proofs.Lives.Among.{life_in}
+use Rattle.world_keeps_streams.proofs.Ours.{ours_of}
 
 -- ---- the last moment at which the peer of a host that stays did
 
@@ -64,13 +65,15 @@ pub record Back (ms : List Moment) (x : Life) : Type 0 where
   pub there : IsOf life (lives_in ms)
   pub names : Named life x
 
-pub back : (hosts : List Host) (a b : Host) (between last : List Moment) → Lawful hosts (between ++ last) → HasLeft b a between last → (x : Life) → x.host ≡ b → x.peer ≡ a → IsOf x (lives_in (between ++ last)) → Back last x
-back hosts a b [] last l left x host peer i = record { life = x; there = i; names = named_itself x }
-back hosts a b (y ∷ between) last l left x host peer i =
-    let given : Given hosts a b (Own a b) (Heard a b) = all_given hosts a b in
+pub back : (hosts : Network) (a b : Host) → AreOurs hosts a b → (between last : List Moment)
+    → Lawful hosts (between ++ last) → HasLeft b a between last → (x : Life) → x.host ≡ b → x.peer ≡ a
+    → IsOf x (lives_in (between ++ last)) → Back last x
+back hosts a b ours [] last l left x host peer i = record { life = x; there = i; names = named_itself x }
+back hosts a b ours (y ∷ between) last l left x host peer i =
+    let given : Given hosts a b (Own a b) (Heard a b) = all_given hosts a b ours in
     let w : Was b a 0 (lives_in (between ++ last)) x =
     was_there b a 0 (lives_in (between ++ last)) (lives_in (y ∷ (between ++ last))) (omega arith) (given.away_s y (between ++ last) l left.0) x i host peer in
-    let o : Back last w.life = back hosts a b between last (below hosts y (between ++ last) l) left.1 w.life w.host w.peer w.there in
+    let o : Back last w.life = back hosts a b ours between last (below hosts y (between ++ last) l) left.1 w.life w.host w.peer w.there in
     record { life = o.life; there = o.there; names = subst (λ (z : Life). Named o.life z) (sym w.is) (ended o.life w.life o.names) } where
       ended : (u v : Life) → Named u v → Named u (life_ended v)
       ended u v n = record { host = n.host; socket = n.socket; peer = n.peer; foreign = n.foreign; own = n.own; partner = n.partner }
@@ -85,9 +88,10 @@ at_most : (v : Bool) (n : ℕ) → counted v n ≤ n + 1
 at_most true n = omega arith
 at_most false n = omega arith
 
-module _ (hosts : List Host) (ms : List Moment) (l : Lawful hosts ms) (s : Sockets) (q : IsPair s) (who : Who) (h p : Host) (stays : stay.stays h p (events_of ms) ≡ true) where
+module _ (hosts : Network) (ms : List Moment) (l : Lawful hosts ms) (s : Sockets) (q : IsPair s) (who : Who)
+    (h p : Host) (ours : AreOurs hosts h p) (stays : stay.stays h p (events_of ms) ≡ true) where
   heard_is : closes (side_of s who h p ms).heard ≡ heard_from (gone_now p (own_calls h p ms)) (pair_with p (program h ms).peers).entries (foreign_of who s) (own_of who s)
-  heard_is = heard_closes s q who (all_ours hosts) h p (refl, refl) ms (lawful_among hosts ms l) stays ∙ counts hosts ms l h p (foreign_of who s) (own_of who s)
+  heard_is = heard_closes s q who hosts h p ours ms l stays ∙ counts hosts ms l h p ours (foreign_of who s) (own_of who s)
 
   pub heard_least : gone_now p (own_calls h p ms) (own_of who s) (foreign_of who s) ≤ closes (side_of s who h p ms).heard
   heard_least = subst (λ (n : ℕ). gone_now p (own_calls h p ms) (own_of who s) (foreign_of who s) ≤ n) (sym heard_is)
@@ -128,7 +132,7 @@ sender_in y x ms kind foreign i = by (is_receive_socket x.socket) refl i where
 
 -- ---- the life at the last moment
 
-module _ (hosts : List Host) (between last : List Moment) (l : Lawful hosts (between ++ last)) (a b : Host) (receive send : ℕ) (q : IsPair (record { receive = receive; send = send }))
+module _ (hosts : Network) (between last : List Moment) (l : Lawful hosts (between ++ last)) (a b : Host) (ours : AreOurs hosts a b) (receive send : ℕ) (q : IsPair (record { receive = receive; send = send }))
     (left : HasLeft b a between last) (theirs : stay.stays b a (events_of last) ≡ true)
     (g stamp : ℕ) (own : Own a b (between ++ last) receive send stamp g) (few : closes (side_of (record { receive = receive; send = send }) Receiver a b (between ++ last)).said ≤ g)
     (p : Life) (p_in : IsOf p (lives_in (between ++ last))) (host : p.host ≡ b) (peer : p.peer ≡ a) (socket : p.socket ≡ send) (foreign : p.foreign ≡ receive) (kind : sends p ≡ true)
@@ -137,7 +141,7 @@ module _ (hosts : List Host) (between last : List Moment) (l : Lawful hosts (bet
   older = rest_lawful hosts between last l
 
   abbrev pub o : Back last p
-  o = back hosts a b between last l left p host peer p_in
+  o = back hosts a b ours between last l left p host peer p_in
 
   o_host : o.life.host ≡ b
   o_host = sym o.names.host ∙ host
@@ -162,20 +166,20 @@ module _ (hosts : List Host) (between last : List Moment) (l : Lawful hosts (bet
       let at : (h v : Host) → o.life.host ≡ h → o.life.peer ≡ v → origin_in (crossings_of between ++ crossings_of last) h v o.life.partner_stamp ≡ origin_in (crossings_of last) h v o.life.partner_stamp =
       λ h v e f. subst (λ (k : Host). origin_in (crossings_of between ++ crossings_of last) k v o.life.partner_stamp ≡ origin_in (crossings_of last) k v o.life.partner_stamp) e
       (subst (λ (k : Host). origin_in (crossings_of between ++ crossings_of last) o.life.host k o.life.partner_stamp ≡ origin_in (crossings_of last) o.life.host k o.life.partner_stamp) f
-      (origin_grows hosts last older (crossings_of between) o.life o_there)) in
+      (origin_grows hosts last older (crossings_of between) o.life (ours_of hosts o.life b a (ours.1, ours.0) (o_host, o_peer)) o_there)) in
       sym (at b a o_host o_peer) ∙ ap (λ (log : List Crossing). origin_in log b a o.life.partner_stamp) (sym (all_crossings between last))
       ∙ ap (λ (n : ℕ). origin_in (crossings_of (between ++ last)) b a n) (sym o.names.partner) ∙ answers
 
   -- ---- its own request was said in this stay
 
   joined : Joined (receiver (record { receive = receive; send = send }) (steps a b (law_events (between ++ last)))) (sender (record { receive = receive; send = send }) (steps a b (law_events (between ++ last))))
-  joined = law_joined (all_ours hosts) (between ++ last) (lawful_among hosts (between ++ last) l) a b (refl, refl) (record { receive = receive; send = send })
+  joined = law_joined hosts (between ++ last) l a b ours (record { receive = receive; send = send })
 
   in_sender : IsIn (life_of (origin_in (crossings_of (between ++ last)) b a) p) (sender (record { receive = receive; send = send }) (steps a b (law_events (between ++ last)))).lives
   in_sender =
-      let c : Coupled (all_ours hosts) (between ++ last) = coupled_in hosts (between ++ last) l in
+      let c : Coupled hosts (between ++ last) = coupled_in hosts (between ++ last) l in
       let there : IsIn (life_of (origin_in (crossings_of (between ++ last)) p.host p.peer) p) (openings p.host p.peer p.socket p.foreign (between ++ last)) =
-      life_in hosts (between ++ last) c.story c.run l.1 (served_in hosts (between ++ last) l.2) 0 p (contains p (lives_in (between ++ last)) p_in) in
+      life_in hosts (between ++ last) c.story c.run l.1 (served_in hosts (between ++ last) l.2) 0 p (ours_of hosts p b a (ours.1, ours.0) (host, peer)) (contains p (lives_in (between ++ last)) p_in) in
       let there_s : IsIn (life_of (origin_in (crossings_of (between ++ last)) p.host p.peer) p) (sender (record { receive = p.foreign; send = p.socket }) (steps p.peer p.host (law_events (between ++ last)))).lives =
       sender_in (life_of (origin_in (crossings_of (between ++ last)) p.host p.peer) p) p (between ++ last) kind (ap is_receive_socket foreign ∙ q.0) there in
       subst (λ (h : Host). IsIn (life_of (origin_in (crossings_of (between ++ last)) h a) p) (sender (record { receive = receive; send = send }) (steps a h (law_events (between ++ last)))).lives) host
@@ -205,17 +209,17 @@ module _ (hosts : List Host) (between last : List Moment) (l : Lawful hosts (bet
   late : IsOf o.life (present_in a b last)
   late = elim (of_parts (since a b last) o.life (lives_in last) o.there) [
     | inl early ↦
-        absurd (unasked hosts a b (record { receive = receive; send = send }) q last older o.life early o_host o_peer o_kind asked.0
+        absurd (unasked hosts a b ours (record { receive = receive; send = send }) q last older o.life early o_host o_peer o_kind asked.0
         (subst (λ (n : ℕ). Asks asked.0 n (side_of (record { receive = receive; send = send }) Sender b a last).said) o.names.own asked.1))
     | inr there ↦ there
   ]
 
   carried : Sends a b (Own a b) (Heard a b) last o.life
-  carried = (all_given hosts a b).carried_s last older theirs o.life late o_host o_peer o_kind
+  carried = (all_given hosts a b ours).carried_s last older theirs o.life late o_host o_peer o_kind
 
   number : carried.g ≡ g
   number =
-      let j : Joined (receiver (record { receive = receive; send = send }) (steps a b (law_events last))) (sender (record { receive = receive; send = send }) (steps a b (law_events last))) = law_joined (all_ours hosts) last (lawful_among hosts last older) a b (refl, refl) (record { receive = receive; send = send }) in
+      let j : Joined (receiver (record { receive = receive; send = send }) (steps a b (law_events last))) (sender (record { receive = receive; send = send }) (steps a b (law_events last))) = law_joined hosts last older a b ours (record { receive = receive; send = send }) in
       let heard : Heard a b last receive send o.life.partner_stamp carried.g =
       subst (λ (k : ℕ). Heard a b last receive k o.life.partner_stamp carried.g) o_socket (subst (λ (k : ℕ). Heard a b last k o.life.socket o.life.partner_stamp carried.g) o_foreign carried.heard) in
       let said : Own a b last receive send (origin_in (crossings_of last) b a o.life.partner_stamp) carried.g =
@@ -231,8 +235,8 @@ module _ (hosts : List Host) (between last : List Moment) (l : Lawful hosts (bet
         let gone : suc carried.g ≤ gone_now a (own_calls b a last) o.life.socket o.life.foreign = carried.gone e in
         let here : suc carried.g ≤ gone_now a (own_calls b a last) send receive =
         subst (λ (k : ℕ). suc carried.g ≤ gone_now a (own_calls b a last) k receive) o_socket (subst (λ (k : ℕ). suc carried.g ≤ gone_now a (own_calls b a last) o.life.socket k) o_foreign gone) in
-        let heard : gone_now a (own_calls b a last) send receive ≤ closes (side_of (record { receive = receive; send = send }) Sender b a last).heard = heard_least hosts last older (record { receive = receive; send = send }) q Sender b a theirs in
-        let j : Joined (side_of (record { receive = receive; send = send }) Receiver a b last) (side_of (record { receive = receive; send = send }) Sender b a last) = joined_halves (all_ours hosts) last (lawful_among hosts last older) a b (refl, refl) (record { receive = receive; send = send }) q in
+        let heard : gone_now a (own_calls b a last) send receive ≤ closes (side_of (record { receive = receive; send = send }) Sender b a last).heard = heard_least hosts last older (record { receive = receive; send = send }) q Sender b a (ours.1, ours.0) theirs in
+        let j : Joined (side_of (record { receive = receive; send = send }) Receiver a b last) (side_of (record { receive = receive; send = send }) Sender b a last) = joined_halves hosts last older a b ours (record { receive = receive; send = send }) q in
         let said : closes (side_of (record { receive = receive; send = send }) Sender b a last).heard ≤ closes (side_of (record { receive = receive; send = send }) Receiver a b last).said = closes_said _ _ j.there.older in
         let more : closes (side_of (record { receive = receive; send = send }) Receiver a b last).said ≤ closes (side_of (record { receive = receive; send = send }) Receiver a b (between ++ last)).said =
         grows_on (record { receive = receive; send = send }) Receiver a b between last left in

@@ -1,10 +1,9 @@
 -- A receiving life that its partner has closed, and no user of its host, has all that its partner sent, whatever becomes of both later.
-use Rattle.world_keeps_streams.proofs.Common.{◌≡◌, ◌⊎◌, inl, inr, ℕ, zero, suc, ◌+◌, ◌≤◌, Bool, true, false, List, [], ◌∷◌, ◌++◌, length, map, take, drop, Some, refl, ap, sym, subst, ◌∙◌, arith, Contains, Seen, Host, is_receive_socket, is_send_socket, Allocation, IsSafe, safe_inv, HasClosed, name_now, numbered, receiver_now, closed_first, numbered_tells, receiver, Fresh, asks_once, begins_fresh, IsLawful, Match, Name, own_request, partner_request, Asked, Crossed, Moment, event_in, events_of, crossings_of, WorldState, law_events, keeps, steps, book_run, calls_by, own_calls, IsClosedByPartner, WasClosedByPartner}
-use Rattle.net_sim.proofs.lemmas.AllOurs.{happened}
-use Rattle.reset_law.specs.Network.{all_ours}
+use Rattle.world_keeps_streams.proofs.Common.{◌≡◌, ◌⊎◌, inl, inr, ℕ, zero, suc, ◌+◌, ◌≤◌, Bool, true, false, List, [], ◌∷◌, ◌++◌, length, map, take, drop, Some, refl, ap, sym, subst, ◌∙◌, arith, Contains, Seen, Host, is_receive_socket, is_send_socket, Allocation, IsSafe, safe_inv, HasClosed, name_now, numbered, receiver_now, closed_first, numbered_tells, receiver, Fresh, asks_once, begins_fresh, IsLawful, Match, Name, own_request, partner_request, Asked, Crossed, Moment, event_in, events_of, crossings_of, WorldState, law_events, keeps, steps, calls_by, own_calls, IsClosedByPartner, WasClosedByPartner, Network, AreOurs}
 use Rattle.std.proofs.lemmas.Option.{same_Some}
 use Rattle.stream_law.specs.Receivers.{Receiver}
 use Rattle.host_keeps_streams.specs.Histories as calls
+use Rattle.reset_law.specs.Network.{all_ours}
 use Rattle.reset_law.specs.Stays as stay
 use Rattle.promise.specs.Safe.{receives, sends}
 use Rattle.promise.specs.declared.life.Life.{Life}
@@ -13,7 +12,7 @@ use Rattle.world_keeps_streams.proofs.Calls.Chain.{chain}
 use Rattle.world_keeps_streams.proofs.Carried.Streams.{all_bits}
 use Rattle.world_keeps_streams.proofs.Lives.Lists.{Grown, IsOf, Named, contains, drop_grown, grown, is_of, of_drop, of_left, of_map, of_parts, of_take, of_whole, take_grown}
 use Rattle.world_keeps_streams.proofs.Requests.Names.{request_grows}
-use Rattle.world_keeps_streams.proofs.Requests.Sides.{Heard, Lawful, Own, coupled_in, law_joined, lives_in, lawful_among}
+use Rattle.world_keeps_streams.proofs.Requests.Sides.{Heard, Lawful, Own, coupled_in, law_joined, lives_in, below, book_lawful}
 use Rattle.world_keeps_streams.proofs.Stays.Resets.{stays_on}
 use Rattle.world_keeps_streams.proofs.Steps.Joined.{IsSettled, Keeps}
 use Rattle.world_keeps_streams.proofs.Steps.Overs.{Kept, kept_calls, over_alike}
@@ -25,11 +24,12 @@ use Rattle.world_keeps_streams.proofs.Books.Clauses.{OldGranter, Older, match_gr
 use Rattle.world_keeps_streams.proofs.Books.Closes as closes
 use Rattle.world_keeps_streams.proofs.Books.Closes.{AtLink}
 use Rattle.world_keeps_streams.proofs.Books.Goes.{since_bound, since_new, since_on}
-use Rattle.world_keeps_streams.proofs.Books.Run.{Given, below, whole, whole_keeps}
+use Rattle.world_keeps_streams.proofs.Books.Run.{Given, whole, whole_keeps}
 use Rattle.world_keeps_streams.proofs.Books.Source.{Granter, granted_of, one_matches}
 use Rattle.world_keeps_streams.proofs.Books.Whole.{HasR, HasS, PresentR, PresentS, Whole, present_in, since}
 use Rattle.world_keeps_streams.proofs.Facts.{none_long, some_long, no_zero, own_if}
 use Rattle.interface.proofs.lemmas.{unlike}
+use Rattle.world_keeps_streams.proofs.Ours.{ours_of, ours_receiver}
 
 -- ---- words
 
@@ -41,12 +41,12 @@ named_request x y n =
 
 -- ---- two hosts, and what a life of the one has
 
-module _ (hosts : List Host) (a b : Host) where
+module _ (hosts : Network) (a b : Host) (ours : AreOurs hosts a b) where
   pub given : Given hosts a b (Own a b) (Heard a b)
-  given = all_given hosts a b
+  given = all_given hosts a b ours
 
   abbrev pub at_now : (ms : List Moment) → Lawful hosts ms → Whole a b (Own a b) (Heard a b) ms
-  at_now ms l = whole hosts a b (Own a b) (Heard a b) (all_given hosts a b) ms l
+  at_now ms l = whole hosts a b (Own a b) (Heard a b) (all_given hosts a b ours) ms l
 
   -- on each link the law's receiver has heard the connection's CLS; and it did not say its own before, or nothing was granted there
   abbrev pub IsShut : (ms : List Moment) → Lawful hosts ms → ℕ → Type 0
@@ -66,10 +66,10 @@ module _ (hosts : List Host) (a b : Host) where
   -- a request is that of one connection
   pub one_number : (ms : List Moment) → Lawful hosts ms → (receive send stamp g k : ℕ) → Own a b ms receive send stamp g → Own a b ms receive send stamp k → g ≡ k
   one_number ms l receive send stamp g k o p =
-      asks_once g k stamp (receiver (record { receive = receive; send = send }) (steps a b (law_events ms))).said (law_joined (all_ours hosts) ms (lawful_among hosts ms l) a b (refl, refl) (record { receive = receive; send = send })).here.grows o p
+      asks_once g k stamp (receiver (record { receive = receive; send = send }) (steps a b (law_events ms))).said (law_joined hosts ms l a b ours (record { receive = receive; send = send })).here.grows o p
 
   pub one_stamp : (ms : List Moment) → Lawful hosts ms → (receive send p q g : ℕ) → Own a b ms receive send p g → Own a b ms receive send q g → p ≡ q
-  one_stamp ms l receive send p q g o r = (law_joined (all_ours hosts) ms (lawful_among hosts ms l) a b (refl, refl) (record { receive = receive; send = send })).here.balanced.single g p q o r
+  one_stamp ms l receive send p q g o r = (law_joined hosts ms l a b ours (record { receive = receive; send = send })).here.balanced.single g p q o r
 
   -- a sending life of the peer answers this request
   pub record Answers (ms : List Moment) (s : Life) (name : Name) : Type 0 where
@@ -164,7 +164,7 @@ module _ (hosts : List Host) (a b : Host) where
                 one_matches a b (Own a b) (Heard a b) ms (given.matched ms l) (at_now ms l) r.life s r.is.g u.g r.there i (r.host, r.peer) (k.host, k.peer) r.kind (sym r.name) r.is.own u.heard
 
             same : r.life ≡ t
-            same = one_own hosts Own Heard (λ v w. all_given hosts v w) ms l r.life t (of_drop (since a b ms) r.life (lives_in ms) r.there) t_in (same_Some (own_request r.life) (own_request t) (sym pairs.answered ∙ k.is))
+            same = one_own hosts ms l r.life t (ours_of hosts r.life a b ours (r.host, r.peer)) (ours_of hosts t a b ours (of_host, of_peer)) (of_drop (since a b ms) r.life (lives_in ms) r.there) t_in (same_Some (own_request r.life) (own_request t) (sym pairs.answered ∙ k.is))
 
             known : (q : PresentR a b (Own a b) (Heard a b) ms (at_now ms l).j t) → q.link ≡ u.link → numbered t.socket t.foreign q.g ≡ numbered s.foreign s.socket u.g → ⊥
             known q on name =
@@ -218,15 +218,16 @@ module _ (hosts : List Host) (a b : Host) where
 
   module _ (z : Moment) (ms : List Moment) (l : Lawful hosts (z ∷ ms)) where
     -- requests stay
-    pub request_on : (s : Life) → IsOf s (lives_in ms) → partner_request (crossings_of (z ∷ ms)) s ≡ partner_request (crossings_of ms) s
-    request_on s i = by z (below hosts z ms l) where
+    pub request_on : (s : Life) → (s.host ≡ b) × (s.peer ≡ a) → IsOf s (lives_in ms)
+        → partner_request (crossings_of (z ∷ ms)) s ≡ partner_request (crossings_of ms) s
+    request_on s of i = by z (below hosts z ms l) where
       by : (y : Moment) → Lawful hosts ms → partner_request (crossings_of (y ∷ ms)) s ≡ partner_request (crossings_of ms) s
       by (Asked h r) k = refl
-      by (Crossed c) k = request_grows hosts ms k (c ∷ []) s (contains s (lives_in ms) i)
+      by (Crossed c) k = request_grows hosts ms k (c ∷ []) s (ours_of hosts s b a (ours.1, ours.0) of) (contains s (lives_in ms) i)
 
     pub fresh : stay.begins a b (event_in z) (events_of ms) ≡ true → Fresh a b (event_in z) (events_of ms)
     fresh new =
-        begins_fresh (all_ours hosts) (event_in z) (events_of ms) (coupled_in hosts (z ∷ ms) l).run a b (refl, refl) new
+        begins_fresh hosts (event_in z) (events_of ms) (coupled_in hosts (z ∷ ms) l).run a b ours new
 
     -- a sending life of the peer that is of before both met last was over before, so it is as it was
     pub record Before (s : Life) : Type 0 where
@@ -256,42 +257,47 @@ module _ (hosts : List Host) (a b : Host) where
           (λ e. absurd (let no : true ≡ false = sym new ∙ e in cc))
 
     pub answers_before : (s : Life) (name : Name) → IsOf s (lives_in ms) → Answers (z ∷ ms) s name → Answers ms s name
-    answers_before s name i k = record { sending = k.sending; host = k.host; peer = k.peer; is = sym (request_on s i) ∙ k.is }
+    answers_before s name i k = record { sending = k.sending; host = k.host; peer = k.peer; is = sym (request_on s (k.host, k.peer) i) ∙ k.is }
 
     -- no life that answers one of before both met last has sent anything if none had
-    pub none_on : (t : Life) → IsOf t (take (since a b (z ∷ ms)) (lives_in (z ∷ ms))) → ((s : Life) → IsOf s (lives_in ms) → Answers ms s (own_request t) → IsNothing s)
+    pub none_on : (t : Life) → (t.host ≡ a) × (t.peer ≡ b) → IsOf t (take (since a b (z ∷ ms)) (lives_in (z ∷ ms)))
+        → ((s : Life) → IsOf s (lives_in ms) → Answers ms s (own_request t) → IsNothing s)
         → (s : Life) → IsOf s (lives_in (z ∷ ms)) → Answers (z ∷ ms) s (own_request t) → IsNothing s
-    none_on t early n s i k = each s k (of_parts (since a b (z ∷ ms)) s (lives_in (z ∷ ms)) i) where
+    none_on t of early n s i k = each s k (of_parts (since a b (z ∷ ms)) s (lives_in (z ∷ ms)) i) where
       new : (s : Life) → Answers (z ∷ ms) s (own_request t) → IsNothing s ⊎ Granter a b (Own a b) (Heard a b) (z ∷ ms) (at_now (z ∷ ms) l).j s → IsNothing s
       new s k (inl none) = none
       new s k (inr o) =
           let same : o.receiver ≡ t =
-          one_own hosts Own Heard (λ v w. all_given hosts v w) (z ∷ ms) l o.receiver t (of_drop (since a b (z ∷ ms)) o.receiver (lives_in (z ∷ ms)) o.there) (of_take (since a b (z ∷ ms)) t (lives_in (z ∷ ms)) early)
+          one_own hosts (z ∷ ms) l o.receiver t (ours_receiver hosts o.matches (ours_of hosts s b a (ours.1, ours.0) (k.host, k.peer))) (ours_of hosts t a b ours of) (of_drop (since a b (z ∷ ms)) o.receiver (lives_in (z ∷ ms)) o.there) (of_take (since a b (z ∷ ms)) t (lives_in (z ∷ ms)) early)
           (same_Some (own_request o.receiver) (own_request t) (sym o.matches.answered ∙ k.is)) in
-          absurd (one_place hosts Own Heard (λ v w. all_given hosts v w) (z ∷ ms) l (since a b (z ∷ ms)) t early (subst (λ (v : Life). IsOf v (drop (since a b (z ∷ ms)) (lives_in (z ∷ ms)))) same o.there))
+          absurd (one_place hosts (z ∷ ms) l (since a b (z ∷ ms)) t (ours_of hosts t a b ours of) early (subst (λ (v : Life). IsOf v (drop (since a b (z ∷ ms)) (lives_in (z ∷ ms)))) same o.there))
 
       each : (s : Life) → Answers (z ∷ ms) s (own_request t) → IsOf s (take (since a b (z ∷ ms)) (lives_in (z ∷ ms))) ⊎ IsOf s (drop (since a b (z ∷ ms)) (lives_in (z ∷ ms))) → IsNothing s
       each s k (inl old) = let o : Before s = before s k.host k.peer k.sending old in n s o.there (answers_before s (own_request t) o.there k)
       each s k (inr late) = new s k (granted_of a b (Own a b) (Heard a b) (z ∷ ms) (given.matched (z ∷ ms) l) (at_now (z ∷ ms) l) s late k.host k.peer k.sending)
 
-    nothing_on : (t : Life) → IsOf t (take (since a b (z ∷ ms)) (lives_in (z ∷ ms))) → Nothing ms t → Nothing (z ∷ ms) t
-    nothing_on t early n = record { none = n.none; all = none_on t early n.all }
+    nothing_on : (t : Life) → (t.host ≡ a) × (t.peer ≡ b) → IsOf t (take (since a b (z ∷ ms)) (lives_in (z ∷ ms)))
+        → Nothing ms t → Nothing (z ∷ ms) t
+    nothing_on t of early n = record { none = n.none; all = none_on t of early n.all }
 
-    source_on : (t : Life) → IsOf t (lives_in ms) → (o : Source ms t) → o.sender.ended ≡ true → (n : Source (z ∷ ms) t) × (n.sender.ended ≡ true)
-    source_on t i o over = (
+    source_on : (t : Life) → (t.host ≡ a) × (t.peer ≡ b) → IsOf t (lives_in ms) → (o : Source ms t)
+        → o.sender.ended ≡ true → (n : Source (z ∷ ms) t) × (n.sender.ended ≡ true)
+    source_on t of i o over = (
       record {
         sender = o.sender;
         there = stays_in z ms o.sender o.there over;
-        matches = match_grows hosts z ms (below hosts z ms l) t o.sender i o.there o.matches;
+        matches = match_grows hosts z ms (below hosts z ms l) t o.sender (ours_of hosts t a b ours of) i o.there o.matches;
         bits = o.bits;
         messages = o.messages;
       },
       over,
     )
 
-    done_on : (t : Life) → IsOf t (lives_in ms) → IsOf t (take (since a b (z ∷ ms)) (lives_in (z ∷ ms))) → t.ended ≡ true → Nothing ms t ⊎ ((o : Source ms t) × (o.sender.ended ≡ true)) → Done (z ∷ ms) t
-    done_on t i early over (inl n) = record { early = early; over = over; done = inl (nothing_on t early n) }
-    done_on t i early over (inr o) = record { early = early; over = over; done = inr (source_on t i o.0 o.1) }
+    done_on : (t : Life) → (t.host ≡ a) × (t.peer ≡ b) → IsOf t (lives_in ms)
+        → IsOf t (take (since a b (z ∷ ms)) (lives_in (z ∷ ms))) → t.ended ≡ true
+        → Nothing ms t ⊎ ((o : Source ms t) × (o.sender.ended ≡ true)) → Done (z ∷ ms) t
+    done_on t of i early over (inl n) = record { early = early; over = over; done = inl (nothing_on t of early n) }
+    done_on t of i early over (inr o) = record { early = early; over = over; done = inr (source_on t of i o.0 o.1) }
 
     -- ---- the life itself
 
@@ -312,7 +318,7 @@ module _ (hosts : List Host) (a b : Host) where
     shut_on : stay.begins a b (event_in z) (events_of ms) ≡ false → (c : ℕ) → IsShut ms (below hosts z ms l) c → IsShut (z ∷ ms) l c
     shut_on none c shut m = by (stay.stays a b (events_of (z ∷ ms))) refl where
       later : Keeps (stay.stays a b (events_of (z ∷ ms))) (stay.stays b a (events_of (z ∷ ms))) ((at_now ms (below hosts z ms l)).j m).x ((at_now (z ∷ ms) l).j m).x
-      later = whole_keeps hosts a b (Own a b) (Heard a b) (all_given hosts a b) z ms l none m
+      later = whole_keeps hosts a b (Own a b) (Heard a b) (all_given hosts a b ours) z ms l none m
 
       over_as : (r t : Receiver) → t.over c ≡ true → t.first c ≡ r.first c → t.granted c ≡ r.granted c → (r.first c ≡ false) ⊎ ((r.granted c).messages ≡ 0) → (t.over c ≡ true) × ((t.first c ≡ false) ⊎ ((t.granted c).messages ≡ 0))
       over_as r t over first granted (inl late) = (over, inl (first ∙ late))
@@ -339,8 +345,8 @@ module _ (hosts : List Host) (a b : Host) where
             kept : Kept (receiver_now numbered b (suc m) (own_calls a b ms)) (receiver_now numbered b (suc m) (calls_by a b z ms ++ own_calls a b ms)) c
             kept =
                 kept_calls numbered numbered_tells b (suc m) c (calls_by a b z ms) (own_calls a b ms)
-                (subst (λ (cs : List calls.Moment). calls.IsHistory b cs) own (chain (all_ours hosts) l.0 (z ∷ ms) l.1 (happened hosts (z ∷ ms) l.2) a b (refl, refl)).0)
-                (subst (λ (cs : List calls.Moment). calls.AreAllowed numbered b (suc m) cs) own (all_allowed (all_ours hosts) l.0 (suc m) (no_zero m) a b (refl, refl) (z ∷ ms) l.1 (happened hosts (z ∷ ms) l.2)))
+                (subst (λ (cs : List calls.Moment). calls.IsHistory b cs) own (chain hosts l.0 (z ∷ ms) l.1 l.2 a b ours).0)
+                (subst (λ (cs : List calls.Moment). calls.AreAllowed numbered b (suc m) cs) own (all_allowed hosts l.0 (suc m) (no_zero m) a b ours (z ∷ ms) l.1 l.2))
                 (subst (λ (r : Receiver). r.over c ≡ true) old (shut m).0)
 
     through_on : (t : Life) → Through ms (below hosts z ms l) t → stay.begins a b (event_in z) (events_of ms) ≡ false → Through (z ∷ ms) l ((grown z ms).change t)
@@ -366,7 +372,7 @@ module _ (hosts : List Host) (a b : Host) where
     -- whichever of the two it is
     pub next_is : (t : Life) → t.host ≡ a → t.peer ≡ b → receives t ≡ true → IsOf t (lives_in ms) → Through ms (below hosts z ms l) t ⊎ Done ms t → Through (z ∷ ms) l ((grown z ms).change t) ⊎ Done (z ∷ ms) ((grown z ms).change t)
     next_is t host peer kind i (inr d) =
-        inr (subst (λ (v : Life). Done (z ∷ ms) v) (sym ((grown z ms).still t d.over)) (done_on t i (early_on t d.over i (λ e. d.early)) d.over d.done))
+        inr (subst (λ (v : Life). Done (z ∷ ms) v) (sym ((grown z ms).still t d.over)) (done_on t (host, peer) i (early_on t d.over i (λ e. d.early)) d.over d.done))
     next_is t host peer kind i (inl h) = by (stay.begins a b (event_in z) (events_of ms)) refl where
       settled : stay.stays b a (events_of ms) ≡ false → Nothing ms t ⊎ ((o : Source ms t) × (stay.stays b a (events_of ms) ≡ false → o.sender.ended ≡ true)) → Nothing ms t ⊎ ((o : Source ms t) × (o.sender.ended ≡ true))
       settled left (inl n) = inl n
@@ -377,7 +383,7 @@ module _ (hosts : List Host) (a b : Host) where
       by true new =
           let over : t.ended ≡ true = through_over ms (below hosts z ms l) t host peer kind h (fresh new).left in
           inr (subst (λ (v : Life). Done (z ∷ ms) v) (sym ((grown z ms).still t over))
-          (done_on t i (early_on t over i (λ e. absurd (let no : true ≡ false = sym new ∙ e in cc))) over (settled (fresh new).peer_left (through ms (below hosts z ms l) t host peer kind h))))
+          (done_on t (host, peer) i (early_on t over i (λ e. absurd (let no : true ≡ false = sym new ∙ e in cc))) over (settled (fresh new).peer_left (through ms (below hosts z ms l) t host peer kind h))))
 
   -- ---- what it has
 
@@ -390,7 +396,7 @@ module _ (hosts : List Host) (a b : Host) where
 
     source_is : Source ms t → (t.bits ≡ s.bits) × (t.messages ≡ s.messages)
     source_is o =
-        let same : o.sender ≡ s = one_sender hosts Own Heard (λ v w. all_given hosts v w) ms l t o.sender s o.there (is_of s (lives_in ms) there) o.matches m in
+        let same : o.sender ≡ s = one_sender hosts ms l t o.sender s (ours_of hosts t a b ours (host, peer)) o.there (is_of s (lives_in ms) there) o.matches m in
         (o.bits ∙ ap (λ (v : Life). v.bits) same, o.messages ∙ ap (λ (v : Life). v.messages) same)
 
     either : {P : Source ms t → Type 0} → Nothing ms t ⊎ ((o : Source ms t) × P o) → (t.bits ≡ s.bits) × (t.messages ≡ s.messages)
@@ -403,7 +409,7 @@ module _ (hosts : List Host) (a b : Host) where
 
 -- ---- a receiving life that isn't over, on its link
 
-module _ (hosts : List Host) (ms : List Moment) (l : Lawful hosts ms) (x : Life) (f : AtLink ms x) where
+module _ (hosts : Network) (ms : List Moment) (l : Lawful hosts ms) (x : Life) (f : AtLink hosts ms x) where
   abbrev own_link : ℕ
   own_link = closes.n hosts ms l x f
 
@@ -417,11 +423,12 @@ module _ (hosts : List Host) (ms : List Moment) (l : Lawful hosts ms) (x : Life)
   g = (closes.known hosts ms l x f).g
 
   -- on another link nothing was granted in its connection
-  pub same_link : (m : ℕ) → 1 ≤ (((at_now hosts x.host x.peer ms l).j m).x.receiver.granted own_name).messages → m ≡ own_link
+  pub same_link : (m : ℕ) → 1 ≤ (((at_now hosts x.host x.peer f.ours ms l).j m).x.receiver.granted own_name).messages
+      → m ≡ own_link
   same_link m some =
-      subst (λ (z : Life). (q : PresentR x.host x.peer (Own x.host x.peer) (Heard x.host x.peer) ms (at_now hosts x.host x.peer ms l).j z) → q.link ≡ m → m ≡ own_link) (sym it_is) on r.is r.link where
-        r : HasR x.host x.peer (Own x.host x.peer) (Heard x.host x.peer) ms (at_now hosts x.host x.peer ms l).j m own_name
-        r = (at_now hosts x.host x.peer ms l).has_receiver m own_name some
+      subst (λ (z : Life). (q : PresentR x.host x.peer (Own x.host x.peer) (Heard x.host x.peer) ms (at_now hosts x.host x.peer f.ours ms l).j z) → q.link ≡ m → m ≡ own_link) (sym it_is) on r.is r.link where
+        r : HasR x.host x.peer (Own x.host x.peer) (Heard x.host x.peer) ms (at_now hosts x.host x.peer f.ours ms l).j m own_name
+        r = (at_now hosts x.host x.peer f.ours ms l).has_receiver m own_name some
 
         socket : r.life.socket ≡ x.socket
         socket = numbered_tells.own r.life.socket r.life.foreign r.is.g x.socket x.foreign g r.name
@@ -438,7 +445,7 @@ module _ (hosts : List Host) (ms : List Moment) (l : Lawful hosts ms) (x : Life)
             (subst (λ (k : ℕ). Own x.host x.peer ms r.life.socket k r.life.own_stamp g) foreign (subst (λ (k : ℕ). Own x.host x.peer ms r.life.socket r.life.foreign r.life.own_stamp k) gone r.is.own))
 
         stamp : r.life.own_stamp ≡ x.own_stamp
-        stamp = one_stamp hosts x.host x.peer ms l x.socket x.foreign r.life.own_stamp x.own_stamp g own (closes.known hosts ms l x f).own
+        stamp = one_stamp hosts x.host x.peer f.ours ms l x.socket x.foreign r.life.own_stamp x.own_stamp g own (closes.known hosts ms l x f).own
 
         request : own_request r.life ≡ own_request x
         request =
@@ -447,16 +454,18 @@ module _ (hosts : List Host) (ms : List Moment) (l : Lawful hosts ms) (x : Life)
             ∙ ap (λ (k : ℕ). let v : Name = record { place = x.own_stamp; own = x.socket; foreign = k } in v) foreign
 
         it_is : r.life ≡ x
-        it_is = one_own hosts Own Heard (λ v w. all_given hosts v w) ms l r.life x (of_drop (since x.host x.peer ms) r.life (lives_in ms) r.there) it_in request
+        it_is = one_own hosts ms l r.life x (ours_of hosts r.life x.host x.peer f.ours (r.host, r.peer)) f.ours (of_drop (since x.host x.peer ms) r.life (lives_in ms) r.there) it_in request
 
-        on : (q : PresentR x.host x.peer (Own x.host x.peer) (Heard x.host x.peer) ms (at_now hosts x.host x.peer ms l).j x) → q.link ≡ m → m ≡ own_link
+        on : (q : PresentR x.host x.peer (Own x.host x.peer) (Heard x.host x.peer) ms (at_now hosts x.host x.peer f.ours ms l).j x)
+            → q.link ≡ m → m ≡ own_link
         on q is = sym is ∙ closes.suc_is q.link own_link (sym (closes.is_here hosts ms l x f q.link q.g (q.going f.goes)).0 ∙ (closes.place hosts ms l x f).0)
 
 -- ---- where its end has taken the CLS
 
-module _ (hosts : List Host) (ms : List Moment) (l : Lawful hosts ms) (x : Life) (f : IsClosedByPartner ms x) where
-  abbrev at_link : AtLink ms x
-  at_link = record { there = f.there; receiving = f.receiving; goes = f.goes; end = f.end; link = f.link; linked = f.linked }
+module _ (hosts : Network) (ms : List Moment) (l : Lawful hosts ms) (x : Life) (ours : AreOurs hosts x.host x.peer)
+    (f : IsClosedByPartner ms x) where
+  abbrev at_link : AtLink hosts ms x
+  at_link = record { ours = ours; there = f.there; receiving = f.receiving; goes = f.goes; end = f.end; link = f.link; linked = f.linked }
 
   abbrev link_now : ℕ
   link_now = closes.n hosts ms l x at_link
@@ -482,51 +491,54 @@ module _ (hosts : List Host) (ms : List Moment) (l : Lawful hosts ms) (x : Life)
   x_in : IsOf x (lives_in ms)
   x_in = is_of x (lives_in ms) f.there
 
-  shut : IsShut hosts x.host x.peer ms l name_here
-  shut m = (heard, by (((at_now hosts x.host x.peer ms l).j m).x.receiver.granted name_here).messages refl) where
-    law_is : (k : ℕ) → ((at_now hosts x.host x.peer ms l).j k).x.receiver ≡ receiver_now numbered x.peer (suc k) (own_calls x.host x.peer ms)
-    law_is k = ((at_now hosts x.host x.peer ms l).j k).received_a (closes.stays hosts ms l x at_link)
+  shut : IsShut hosts x.host x.peer ours ms l name_here
+  shut m = (heard, by (((at_now hosts x.host x.peer ours ms l).j m).x.receiver.granted name_here).messages refl) where
+    law_is : (k : ℕ)
+        → ((at_now hosts x.host x.peer ours ms l).j k).x.receiver ≡ receiver_now numbered x.peer (suc k) (own_calls x.host x.peer ms)
+    law_is k = ((at_now hosts x.host x.peer ours ms l).j k).received_a (closes.stays hosts ms l x at_link)
 
-    heard : ((at_now hosts x.host x.peer ms l).j m).x.receiver.over name_here ≡ true
+    heard : ((at_now hosts x.host x.peer ours ms l).j m).x.receiver.over name_here ≡ true
     heard =
         ap (λ (r : Receiver). r.over name_here) (law_is m) ∙ ap (λ (v : ℕ → Bool). v name_here) (over_alike numbered x.peer (suc m) (suc link_now) (own_calls x.host x.peer ms)) ∙ over
 
-    by : (k : ℕ) → (((at_now hosts x.host x.peer ms l).j m).x.receiver.granted name_here).messages ≡ k
-        → (((at_now hosts x.host x.peer ms l).j m).x.receiver.first name_here ≡ false) ⊎ ((((at_now hosts x.host x.peer ms l).j m).x.receiver.granted name_here).messages ≡ 0)
+    by : (k : ℕ) → (((at_now hosts x.host x.peer ours ms l).j m).x.receiver.granted name_here).messages ≡ k
+        → (((at_now hosts x.host x.peer ours ms l).j m).x.receiver.first name_here ≡ false) ⊎ ((((at_now hosts x.host x.peer ours ms l).j m).x.receiver.granted name_here).messages ≡ 0)
     by zero e = inr e
     by (suc k) e =
         inl (ap (λ (r : Receiver). r.first name_here) (law_is m) ∙ ap (λ (v : ℕ). (receiver_now numbered x.peer (suc v) (own_calls x.host x.peer ms)).first name_here) (same_link hosts ms l x at_link m (omega (arith, e))) ∙ late_cls)
 
-  shut_now : Through hosts x.host x.peer ms l x
+  shut_now : Through hosts x.host x.peer ours ms l x
   shut_now = record {
     late = closes.late hosts ms l x at_link;
     g = (closes.known hosts ms l x at_link).g;
     own = (closes.known hosts ms l x at_link).own;
     shut = shut;
-    early = λ s i k. nothing s k (settled_s hosts x.host x.peer (Own x.host x.peer) (Heard x.host x.peer) (all_given hosts x.host x.peer) ms l s i k.host k.peer k.sending).granted;
+    early = λ s i k. nothing s k (settled_s hosts x.host x.peer (Own x.host x.peer) (Heard x.host x.peer) (all_given hosts x.host x.peer ours) ms l s i k.host k.peer k.sending).granted;
   } where
-    nothing : (s : Life) → Answers hosts x.host x.peer ms s (own_request x) → ((s.messages ≡ 0) × (s.bits ≡ [])) ⊎ OldGranter ms s → (s.messages ≡ 0) × (s.bits ≡ [])
+    nothing : (s : Life) → Answers hosts x.host x.peer ours ms s (own_request x)
+        → ((s.messages ≡ 0) × (s.bits ≡ [])) ⊎ OldGranter ms s → (s.messages ≡ 0) × (s.bits ≡ [])
     nothing s k (inl none) = none
     nothing s k (inr o) =
-        let same : o.receiver ≡ x = one_own hosts Own Heard (λ v w. all_given hosts v w) ms l o.receiver x o.there x_in (same_Some (own_request o.receiver) (own_request x) (sym o.matches.answered ∙ k.is)) in
+        let same : o.receiver ≡ x = one_own hosts ms l o.receiver x (ours_receiver hosts o.matches (ours_of hosts s x.peer x.host (ours.1, ours.0) (k.host, k.peer))) ours o.there x_in (same_Some (own_request o.receiver) (own_request x) (sym o.matches.answered ∙ k.is)) in
         absurd (unlike x.ended (ap (λ (y : Life). y.ended) (sym same) ∙ o.over) f.goes)
 
 -- ---- whatever happens later
 
 -- the same life, later
-record Later (hosts : List Host) (ms : List Moment) (l : Lawful hosts ms) (x : Life) : Type 0 where
+record Later (hosts : Network) (ms : List Moment) (l : Lawful hosts ms) (x : Life) (ours : AreOurs hosts x.host x.peer) : Type 0 where
   life : Life
   there : IsOf life (lives_in ms)
   host : life.host ≡ x.host
   peer : life.peer ≡ x.peer
   kind : receives life ≡ true
   same : own_request life ≡ own_request x
-  state : Through hosts x.host x.peer ms l life ⊎ Done hosts x.host x.peer ms life
+  state : Through hosts x.host x.peer ours ms l life ⊎ Done hosts x.host x.peer ours ms life
 
-later : (hosts : List Host) (newer ms : List Moment) (l : Lawful hosts (newer ++ ms)) (x : Life) → IsClosedByPartner ms x → Later hosts (newer ++ ms) l x
-later hosts [] ms l x f = record { life = x; there = is_of x (lives_in ms) f.there; host = refl; peer = refl; kind = f.receiving; same = refl; state = inl (shut_now hosts ms l x f) }
-later hosts (z ∷ newer) ms l x f =
-    let o : Later hosts (newer ++ ms) (below hosts z (newer ++ ms) l) x = later hosts newer ms (below hosts z (newer ++ ms) l) x f in
+later : (hosts : Network) (newer ms : List Moment) (l : Lawful hosts (newer ++ ms)) (x : Life) (ours : AreOurs hosts x.host x.peer)
+    → IsClosedByPartner ms x → Later hosts (newer ++ ms) l x ours
+later hosts [] ms l x ours f = record { life = x; there = is_of x (lives_in ms) f.there; host = refl; peer = refl; kind = f.receiving; same = refl; state = inl (shut_now hosts ms l x ours f) }
+later hosts (z ∷ newer) ms l x ours f =
+    let o : Later hosts (newer ++ ms) (below hosts z (newer ++ ms) l) x ours = later hosts newer ms (below hosts z (newer ++ ms) l) x ours f in
     let g : Grown (lives_in (newer ++ ms)) (lives_in (z ∷ (newer ++ ms))) = grown z (newer ++ ms) in
     record {
       life = (grown z (newer ++ ms)).change o.life;
@@ -536,22 +548,30 @@ later hosts (z ∷ newer) ms l x f =
       peer = ((grown z (newer ++ ms)).names o.life).peer ∙ o.peer;
       kind = ap is_receive_socket ((grown z (newer ++ ms)).names o.life).socket ∙ o.kind;
       same = named_request o.life ((grown z (newer ++ ms)).change o.life) ((grown z (newer ++ ms)).names o.life) ∙ o.same;
-      state = next_is hosts x.host x.peer z (newer ++ ms) l o.life o.host o.peer o.kind o.there o.state;
+      state = next_is hosts x.host x.peer ours z (newer ++ ms) l o.life o.host o.peer o.kind o.there o.state;
     }
 
-closes_at : (hosts : List Host) (newer ms : List Moment) → Lawful hosts (newer ++ ms) → (receiver x : Life) → IsClosedByPartner ms receiver → Contains (lives_in (newer ++ ms)) x → own_request x ≡ own_request receiver
-    → TookAll (crossings_of (newer ++ ms)) (lives_in (newer ++ ms)) x
-closes_at hosts newer ms l receiver x f there same =
-    let o : Later hosts (newer ++ ms) l receiver = later hosts newer ms l receiver f in
-    let one : o.life ≡ x = one_own hosts Own Heard (λ v w. all_given hosts v w) (newer ++ ms) l o.life x o.there (is_of x (lives_in (newer ++ ms)) there) (o.same ∙ sym same) in
-    subst (λ (v : Life). TookAll (crossings_of (newer ++ ms)) (lives_in (newer ++ ms)) v) one (took_all hosts receiver.host receiver.peer (newer ++ ms) l o.life o.host o.peer o.kind o.there o.state)
+closes_at : (hosts : Network) (newer ms : List Moment) → Lawful hosts (newer ++ ms) → (receiver x : Life)
+    → AreOurs hosts receiver.host receiver.peer → AreOurs hosts x.host x.peer → IsClosedByPartner ms receiver
+    → Contains (lives_in (newer ++ ms)) x
+    → own_request x ≡ own_request receiver → TookAll (crossings_of (newer ++ ms)) (lives_in (newer ++ ms)) x
+closes_at hosts newer ms l receiver x was ours f there same =
+    let o : Later hosts (newer ++ ms) l receiver was = later hosts newer ms l receiver was f in
+    let one : o.life ≡ x = one_own hosts (newer ++ ms) l o.life x (ours_of hosts o.life receiver.host receiver.peer was (o.host, o.peer)) ours o.there (is_of x (lives_in (newer ++ ms)) there) (o.same ∙ sym same) in
+    subst (λ (v : Life). TookAll (crossings_of (newer ++ ms)) (lives_in (newer ++ ms)) v) one (took_all hosts receiver.host receiver.peer was (newer ++ ms) l o.life o.host o.peer o.kind o.there o.state)
 
-pub closes_whole : (hosts : List Host) (ms : List Moment) → Lawful hosts ms → (x : Life) → WasClosedByPartner ms x → TookAll (crossings_of ms) (lives_in ms) x
-closes_whole hosts ms l x f =
-    subst (λ (ns : List Moment). Lawful hosts ns → Contains (lives_in ns) x → TookAll (crossings_of ns) (lives_in ns) x) (sym f.is) (λ k there. closes_at hosts f.later f.earlier k f.receiver x f.then there f.same) l f.there
+-- `was` is of the life as it was then
+pub closes_whole : (hosts : Network) (ms : List Moment) → Lawful hosts ms → (x : Life) → AreOurs hosts x.host x.peer
+    → (f : WasClosedByPartner ms x) → AreOurs hosts f.receiver.host f.receiver.peer
+    → TookAll (crossings_of ms) (lives_in ms) x
+closes_whole hosts ms l x ours f was =
+    subst (λ (ns : List Moment). Lawful hosts ns → Contains (lives_in ns) x → TookAll (crossings_of ns) (lives_in ns) x) (sym f.is) (λ k there. closes_at hosts f.later f.earlier k f.receiver x was ours f.then there f.same) l f.there
 
-all_close : (hosts : List Host) (ms : List Moment) → Lawful hosts ms → AllClose ms
-all_close hosts ms l newer older is x f = closes_whole hosts older (rest_lawful hosts newer older (subst (λ (ns : List Moment). Lawful hosts ns) is l)) x f
+all_close : (hosts : Network) (ms : List Moment) → Lawful hosts ms → (later earlier : List Moment)
+    → ms ≡ later ++ earlier → (x : Life) → AreOurs hosts x.host x.peer → (f : WasClosedByPartner earlier x)
+    → AreOurs hosts f.receiver.host f.receiver.peer
+    → TookAll (crossings_of earlier) (lives_in earlier) x
+all_close hosts ms l newer older is x ours f was = closes_whole hosts older (rest_lawful hosts newer older (subst (λ (ns : List Moment). Lawful hosts ns) is l)) x ours f was
 
 pub world_closes : {C : Type 0} (seen : C → Seen) (hosts : List Host) (w : WorldState C) → (lawful : IsLawful seen hosts w) → AllClose lawful.whole.moments
-world_closes seen hosts w lawful = all_close hosts lawful.whole.moments (lawful.addresses, book_run seen hosts w lawful, lawful.whole.timeline)
+world_closes seen hosts w lawful newer older is x f = all_close (all_ours hosts) lawful.whole.moments (book_lawful seen hosts w lawful) newer older is x (refl, refl) f (refl, refl)

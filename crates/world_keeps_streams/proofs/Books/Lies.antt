@@ -1,7 +1,5 @@
 -- Data that are taken lie in the box of the law of streams.
-use Rattle.world_keeps_streams.proofs.Common.{◌≡◌, ◌==◌, ℕ, Bool, true, false, List, ◌∷◌, drop, Some, refl, ap, sym, subst, ◌∙◌, Host, HostMessage, data_bits, header_of, DataHeader, data_of, IsPosted, Lies, Post, boxes, Message, Other, HaveAddresses, message_on, Crossed, Moment, events_of, IsTimeline, crossings_of, coupled, mail_below, waiting}
-use Rattle.reset_law.specs.Network.{all_ours}
-use Rattle.net_sim.proofs.lemmas.AllOurs.{happened}
+use Rattle.world_keeps_streams.proofs.Common.{◌≡◌, ◌==◌, ℕ, Bool, true, false, List, ◌∷◌, drop, Some, refl, ap, sym, subst, ◌∙◌, Host, HostMessage, data_bits, header_of, DataHeader, data_of, IsPosted, Lies, Post, boxes, Message, Other, HaveAddresses, message_on, Crossed, Moment, events_of, crossings_of, coupled, mail_below, waiting, Happened, Network, AreOurs}
 use Rattle.interface.specs.Mailboxes as mail
 use Rattle.interface.specs.declared.crossing.Crossing.TheVariants as crossing
 use Rattle.stream_law.specs.Streams.{Box, Empty, Waiting, Taken}
@@ -36,7 +34,10 @@ pub record IsTaken (m : HostMessage) (ms : List Moment) (h p : Host) : Type 0 wh
   pub peer : p ≡ m.flow.source
   pub off_control : (m.flow.link.0 == 0) ≡ false
 
-module _ (hosts : List Host) (addresses : HaveAddresses hosts) (m : HostMessage) (ms : List Moment) (run : mail.IsRun hosts (crossings_of (Crossed (crossing.In m) ∷ ms))) (time : IsTimeline hosts (Crossed (crossing.In m) ∷ ms)) (h p : Host) (f : IsTaken m ms h p) where
+module _ (hosts : Network) (addresses : HaveAddresses hosts.all) (m : HostMessage) (ms : List Moment)
+    (run : mail.IsRun hosts.all (crossings_of (Crossed (crossing.In m) ∷ ms)))
+    (time : Happened hosts (Crossed (crossing.In m) ∷ ms)) (h p : Host) (ours : AreOurs hosts h p)
+    (f : IsTaken m ms h p) where
   abbrev link : ℕ
   link = m.flow.link.0
 
@@ -53,9 +54,9 @@ module _ (hosts : List Host) (addresses : HaveAddresses hosts) (m : HostMessage)
   lies = ap post_in waits.1 ∙ ap (λ (n : Message). post_in (reset.Waiting waits.0 n)) text_is
 
   abbrev j : Joined h p link ms
-  j = joined m.flow.link.0 f.off_control (all_ours hosts) addresses h p (refl, refl) ms (mail_below hosts (Crossed (crossing.In m)) ms run) (happened hosts ms time.1)
+  j = joined m.flow.link.0 f.off_control hosts addresses h p ours ms (mail_below hosts.all (Crossed (crossing.In m)) ms run) time.1
 
-  pub lies_there : Boxed m.text (joined m.flow.link.0 f.off_control (all_ours hosts) addresses h p (refl, refl) ms (mail_below hosts (Crossed (crossing.In m)) ms run) (happened hosts ms time.1)).x.box
+  pub lies_there : Boxed m.text (joined m.flow.link.0 f.off_control hosts addresses h p ours ms (mail_below hosts.all (Crossed (crossing.In m)) ms run) time.1).x.box
   lies_there = boxed m.text j.x.box (by (stay.stays p h (events_of ms)) refl) where
     by : (v : Bool) → stay.stays p h (events_of ms) ≡ v → IsPosted (Lies m.text) j.x.box
     by true e = subst (λ (q : Post). IsPosted q j.x.box) lies (j.joint.box_x.whole e)

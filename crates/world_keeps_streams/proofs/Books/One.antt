@@ -1,6 +1,5 @@
 -- A receiving life and the sending one that it matches are of one connection.
-use Rattle.world_keeps_streams.proofs.Common.{◌≡◌, inl, inr, ℕ, ◌==◌, Bool, true, false, List, [], ◌∷◌, Option, Some, None, refl, ap, sym, subst, ◌∙◌, eq-eqb, eqb-true, Contains, Host, is_receive_socket, is_send_socket, entry_at, is_at, is_link, is_mine_on, is_receiving, sends_on, Entry, both, gone_now, numbered, name_of, AreSeparate, OfOne, separate, receiver, sender, Asks, asks_once, asks_said, pair_with, Moment, events_of, program, crossings_of, Match, Name, own_request, HasOpenEnd, law_events, origin_in, place_or, steps, send_odd, numbered_by_peer, own_calls}
-use Rattle.reset_law.specs.Network.{all_ours}
+use Rattle.world_keeps_streams.proofs.Common.{◌≡◌, inl, inr, ℕ, ◌==◌, Bool, true, false, List, [], ◌∷◌, Option, Some, None, refl, ap, sym, subst, ◌∙◌, eq-eqb, eqb-true, Contains, Host, is_receive_socket, is_send_socket, entry_at, is_at, is_link, is_mine_on, is_receiving, sends_on, Entry, both, gone_now, numbered, name_of, AreSeparate, OfOne, separate, receiver, sender, Asks, asks_once, asks_said, pair_with, Moment, events_of, program, crossings_of, Match, Name, own_request, HasOpenEnd, law_events, origin_in, place_or, steps, send_odd, numbered_by_peer, own_calls, Network, AreOurs}
 use Rattle.pairing_law.proofs.lemmas.{Joined as Paired}
 use Rattle.reset_law.specs.Stays as stay
 use Rattle.promise.specs.Safe.{named}
@@ -11,9 +10,10 @@ use Rattle.world_keeps_streams.proofs.Books.Closes as closes
 use Rattle.world_keeps_streams.proofs.Books.Given.{counts}
 use Rattle.world_keeps_streams.proofs.Deeds.Effects.{Among}
 use Rattle.world_keeps_streams.proofs.Requests.Now.{heard_now}
-use Rattle.world_keeps_streams.proofs.Requests.Sides.{Heard, Lawful, Own, law_joined, lives_in, lawful_among}
+use Rattle.world_keeps_streams.proofs.Requests.Sides.{Heard, Lawful, Own, law_joined, lives_in}
 use Rattle.world_keeps_streams.proofs.Steps.Joined.{Joined, party}
 use Rattle.interface.proofs.lemmas.{unlike}
+use Rattle.world_keeps_streams.proofs.Ours.{ours_sender}
 
 -- ---- small facts
 
@@ -40,9 +40,11 @@ place_is s (Some p) name e = named_place (record { place = p; own = s.foreign; f
   named_place a b f = let same : a ≡ b = cc in ap (λ (z : Name). z.place) same
 
 -- what the receiver asked for and the sender heard is of one connection
-one_connection : (hosts : List Host) (ms : List Moment) → Lawful hosts ms → (a b : Host) (receive send stamp taken g k : ℕ) → origin_in (crossings_of ms) b a taken ≡ stamp → Own a b ms receive send stamp g → Heard a b ms receive send taken k → g ≡ k
-one_connection hosts ms l a b receive send stamp taken g k is own heard =
-    let j : Paired (receiver (record { receive = receive; send = send }) (steps a b (law_events ms))) (sender (record { receive = receive; send = send }) (steps a b (law_events ms))) = law_joined (all_ours hosts) ms (lawful_among hosts ms l) a b (refl, refl) (record { receive = receive; send = send }) in
+one_connection : (hosts : Network) (ms : List Moment) → Lawful hosts ms → (a b : Host) → AreOurs hosts a b
+    → (receive send stamp taken g k : ℕ) → origin_in (crossings_of ms) b a taken ≡ stamp
+    → Own a b ms receive send stamp g → Heard a b ms receive send taken k → g ≡ k
+one_connection hosts ms l a b ours receive send stamp taken g k is own heard =
+    let j : Paired (receiver (record { receive = receive; send = send }) (steps a b (law_events ms))) (sender (record { receive = receive; send = send }) (steps a b (law_events ms))) = law_joined hosts ms l a b ours (record { receive = receive; send = send }) in
     let said : Asks k (origin_in (crossings_of ms) b a taken) (receiver (record { receive = receive; send = send }) (steps a b (law_events ms))).said =
     asks_said k (origin_in (crossings_of ms) b a taken) (sender (record { receive = receive; send = send }) (steps a b (law_events ms))).heard (receiver (record { receive = receive; send = send }) (steps a b (law_events ms))).said j.there.older heard in
     asks_once g k stamp (receiver (record { receive = receive; send = send }) (steps a b (law_events ms))).said j.here.grows own
@@ -57,14 +59,15 @@ pub record HasPartner (ms : List Moment) (x s : Life) : Type 0 where
   pub goes : s.ended ≡ false
   pub end : HasOpenEnd (program s.host ms) s
 
-module _ (hosts : List Host) (ms : List Moment) (l : Lawful hosts ms) (x s : Life) (f : closes.AtLink ms x) (q : HasPartner ms x s) where
+module _ (hosts : Network) (ms : List Moment) (l : Lawful hosts ms) (x s : Life) (f : closes.AtLink hosts ms x)
+    (q : HasPartner ms x s) where
   pub here : stay.stays x.host x.peer (events_of ms) ≡ true
   here = closes.stays hosts ms l x f
 
   pub there : stay.stays x.peer x.host (events_of ms) ≡ true
   there =
       subst (λ (h : Host). stay.stays x.peer h (events_of ms) ≡ true) q.matches.peers.1
-      (subst (λ (h : Host). stay.stays h s.peer (events_of ms) ≡ true) (sym q.matches.peers.0) (stays_of hosts ms l s q.there q.goes))
+      (subst (λ (h : Host). stay.stays h s.peer (events_of ms) ≡ true) (sym q.matches.peers.0) (stays_of hosts ms l s (ours_sender hosts q.matches f.ours) q.there q.goes))
 
   -- the sender's end, among those of its host with the receiver's
   giver_at : Among q.end.end (pair_with x.host (program x.peer ms).peers).entries × (is_mine_on s.socket q.end.end ≡ true)
@@ -113,11 +116,11 @@ module _ (hosts : List Host) (ms : List Moment) (l : Lawful hosts ms) (x s : Lif
 
     heard : Heard x.host x.peer ms x.socket x.foreign s.partner_stamp (gone_now x.host (own_calls x.peer x.host ms) x.foreign x.socket)
     heard =
-        heard_now (all_ours hosts) ms (lawful_among hosts ms l) x.host x.peer (refl, refl) (record { receive = x.socket; send = x.foreign }) pair (counts hosts ms l x.peer x.host) there q.end.end giver_found s.partner_stamp q.end.partner
+        heard_now hosts ms l x.host x.peer f.ours (record { receive = x.socket; send = x.foreign }) pair (counts hosts ms l x.peer x.host (f.ours.1, f.ours.0)) there q.end.end giver_found s.partner_stamp q.end.partner
 
     same_gone : gone_now x.peer (own_calls x.host x.peer ms) x.socket x.foreign ≡ gone_now x.host (own_calls x.peer x.host ms) x.foreign x.socket
     same_gone =
-        one_connection hosts ms l x.host x.peer x.socket x.foreign x.own_stamp s.partner_stamp (gone_now x.peer (own_calls x.host x.peer ms) x.socket x.foreign) (gone_now x.host (own_calls x.peer x.host ms) x.foreign x.socket) origin_is own_now heard
+        one_connection hosts ms l x.host x.peer f.ours x.socket x.foreign x.own_stamp s.partner_stamp (gone_now x.peer (own_calls x.host x.peer ms) x.socket x.foreign) (gone_now x.host (own_calls x.peer x.host ms) x.foreign x.socket) origin_is own_now heard
 
     pub of_one : OfOne numbered numbered_by_peer (party x.host x.peer link j.rest_a ms) (party x.peer x.host link j.rest_b ms) f.end.end q.end.end
     of_one = record {

@@ -1,6 +1,5 @@
 -- How many CLS a host has said of a connection while it stays, and that it says none any more once it has left.
-use Rattle.world_keeps_streams.proofs.Common.{◌≡◌, ◌+◌, ◌≤◌, ◌&&◌, ◌||◌, not, if◌then◌else◌, Bool, List, [], ◌∷◌, ◌++◌, refl, ap, sym, subst, ◌∙◌, arith, Host, is_sent, Entry, Sockets, Who, Ask, Close, Mark, Side, hears, says, placed_event, Joined, count, stays_same, Contact, Event, Other, Out, are, begins_either, stays_ready, pair_with, Moment, event_in, events_of, program, crossings_of, Coupled, law_events, origin_in, keeps, all_hears, all_says, all_tied, are_origins, at_texts, hears_if, left_if, met_if, other, served_in}
-use Rattle.reset_law.specs.Network.{all_ours}
+use Rattle.world_keeps_streams.proofs.Common.{◌≡◌, ◌+◌, ◌≤◌, ◌&&◌, ◌||◌, not, if◌then◌else◌, Bool, List, [], ◌∷◌, ◌++◌, refl, ap, sym, subst, ◌∙◌, arith, Host, is_sent, Entry, Sockets, Who, Ask, Close, Mark, Side, hears, says, placed_event, Joined, count, stays_same, Contact, Event, Other, Out, are, begins_either, stays_ready, pair_with, Moment, event_in, events_of, program, crossings_of, Coupled, law_events, origin_in, keeps, all_hears, all_says, all_tied, are_origins, at_texts, hears_if, left_if, met_if, other, served_in, Network, AreOurs}
 use Rattle.std.proofs.Common.{true, false}
 use Rattle.pairing_law.specs.Links.{Receiver, Sender}
 use Rattle.pairing_law.specs.Marks.{closes}
@@ -10,7 +9,7 @@ use Rattle.world_keeps_pairing.proofs.lemmas.{IsPair, before}
 use Rattle.world_keeps_streams.proofs.Books.Counts.{Counted, bounds, counted, side_of}
 use Rattle.world_keeps_streams.proofs.Deeds.Effects.{Among}
 use Rattle.world_keeps_streams.proofs.Requests.Now.{joined_halves, side_stays}
-use Rattle.world_keeps_streams.proofs.Requests.Sides.{Lawful, begins_same, coupled_in, lawful_among}
+use Rattle.world_keeps_streams.proofs.Requests.Sides.{Lawful, begins_same, coupled_in}
 use Rattle.pairing_law.proofs.lemmas.{closes_said}
 
 -- at none of these moments, after older ones, is a host together with its peer: its pair was reset, or it has stopped
@@ -131,16 +130,16 @@ module _ (s : Sockets) (who : Who) (h p : Host) where
 -- ---- both hosts
 
 -- where a receiver's end is there and has heard the sender's CLS, its host has heard one more than it has said
-module _ (hosts : List Host) (ms : List Moment) (l : Lawful hosts ms) (a b : Host) (s : Sockets) (q : IsPair s) (mine : stay.stays a b (events_of ms) ≡ true)
+module _ (hosts : Network) (ms : List Moment) (l : Lawful hosts ms) (a b : Host) (ours : AreOurs hosts a b) (s : Sockets) (q : IsPair s) (mine : stay.stays a b (events_of ms) ≡ true)
     (e : Entry) (e_in : Among e (pair_with b (program a ms).peers).entries) (own : e.own ≡ s.receive) (foreign : e.foreign ≡ s.send) (heard : e.partner_closed ≡ true) where
   j : Joined (side_of s Receiver a b ms) (side_of s Sender b a ms)
-  j = joined_halves (all_ours hosts) ms (lawful_among hosts ms l) a b (refl, refl) s q
+  j = joined_halves hosts ms l a b ours s q
 
   here : Counted (side_of s Receiver a b ms).said (side_of s Receiver a b ms).heard (is_sent e.closing) e.partner_closed
   here =
-      let c : Coupled (all_ours hosts) ms = coupled_in hosts ms l in
+      let c : Coupled hosts ms = coupled_in hosts ms l in
       counted hosts ms l s q Receiver a b
-      (((all_tied (all_ours hosts) (origin_in (crossings_of ms)) ms (are_origins 0 (crossings_of ms) [] ms refl) c.story c.run (served_in hosts ms l.2)).tied a b (refl, refl)).receiver s q)
+      (((all_tied hosts (origin_in (crossings_of ms)) ms (are_origins 0 (crossings_of ms) [] ms refl) c.story c.run (served_in hosts ms l.2)).tied a b ours).receiver s q)
       j.floor j.other (side_of s Sender b a ms) j.here mine e e_in own foreign
 
   unsent : is_sent e.closing ≡ false
@@ -156,27 +155,28 @@ module _ (hosts : List Host) (ms : List Moment) (l : Lawful hosts ms) (a b : Hos
       omega (arith, x, y)
 
 -- and the end of the sender's CLS has gone out, and has heard none: now, or before its host left
-module _ (hosts : List Host) (between last : List Moment) (l : Lawful hosts (between ++ last)) (older : Lawful hosts last) (a b : Host) (s : Sockets) (q : IsPair s) where
+module _ (hosts : Network) (between last : List Moment) (l : Lawful hosts (between ++ last)) (older : Lawful hosts last)
+    (a b : Host) (ours : AreOurs hosts a b) (s : Sockets) (q : IsPair s) where
   pub sender_closed : HasLeft b a between last → stay.stays a b (events_of (between ++ last)) ≡ true → stay.stays b a (events_of last) ≡ true
       → (e : Entry) → Among e (pair_with b (program a (between ++ last)).peers).entries → e.own ≡ s.receive → e.foreign ≡ s.send
       → e.partner_closed ≡ true
       → (f : Entry) → Among f (pair_with a (program b last).peers).entries → f.own ≡ s.send → f.foreign ≡ s.receive
       → (is_sent f.closing ≡ true) × (f.partner_closed ≡ false)
   sender_closed left mine theirs e e_in e_own e_foreign heard f f_in f_own f_foreign =
-      let more : closes (side_of s Receiver a b (between ++ last)).heard ≡ closes (side_of s Receiver a b (between ++ last)).said + 1 = heard_more hosts (between ++ last) l a b s q mine e e_in e_own e_foreign heard in
+      let more : closes (side_of s Receiver a b (between ++ last)).heard ≡ closes (side_of s Receiver a b (between ++ last)).said + 1 = heard_more hosts (between ++ last) l a b ours s q mine e e_in e_own e_foreign heard in
       bounds (closes (side_of s Receiver a b (between ++ last)).said) there.now (is_sent f.closing) f.partner_closed
       (omega (arith, up, more, there.said)) (omega (arith, down, there.heard)) where
         j : Joined (side_of s Receiver a b (between ++ last)) (side_of s Sender b a (between ++ last))
-        j = joined_halves (all_ours hosts) (between ++ last) (lawful_among hosts (between ++ last) l) a b (refl, refl) s q
+        j = joined_halves hosts (between ++ last) l a b ours s q
 
         k : Joined (side_of s Receiver a b last) (side_of s Sender b a last)
-        k = joined_halves (all_ours hosts) last (lawful_among hosts last older) a b (refl, refl) s q
+        k = joined_halves hosts last older a b ours s q
 
         there : Counted (side_of s Sender b a last).said (side_of s Sender b a last).heard (is_sent f.closing) f.partner_closed
         there =
-            let c : Coupled (all_ours hosts) last = coupled_in hosts last older in
+            let c : Coupled hosts last = coupled_in hosts last older in
             counted hosts last older s q Sender b a
-            (((all_tied (all_ours hosts) (origin_in (crossings_of last)) last (are_origins 0 (crossings_of last) [] last refl) c.story c.run (served_in hosts last older.2)).tied a b (refl, refl)).sender s q)
+            (((all_tied hosts (origin_in (crossings_of last)) last (are_origins 0 (crossings_of last) [] last refl) c.story c.run (served_in hosts last older.2)).tied a b ours).sender s q)
             k.other k.floor (side_of s Receiver a b last) k.there theirs f f_in f_own f_foreign
 
         up : closes (side_of s Receiver a b (between ++ last)).heard ≤ closes (side_of s Sender b a last).said

@@ -1,5 +1,5 @@
 -- What the book has of two hosts beside their streams, over all moments.
-use Rattle.world_keeps_streams.proofs.Common.{◌≡◌, ℕ, suc, ◌≤◌, ◌||◌, ◌&&◌, not, Bool, true, false, List, [], ◌∷◌, refl, ap, sym, subst, ◌∙◌, arith, Host, Allocation, Stream, numbered, receiver_now, sender_now, begins_either, Match, Moment, event_in, events_of, IsTimeline, crossings_of, mail_below, own_calls}
+use Rattle.world_keeps_streams.proofs.Common.{◌≡◌, ℕ, suc, ◌≤◌, ◌||◌, ◌&&◌, not, Bool, true, false, List, [], ◌∷◌, refl, ap, sym, subst, ◌∙◌, arith, Host, Allocation, Stream, numbered, receiver_now, sender_now, begins_either, Match, Moment, event_in, events_of, crossings_of, own_calls, Network, AreOurs}
 use Rattle.stream_law.specs.Receivers.{Receiver}
 use Rattle.stream_law.specs.Senders.{Sender}
 use Rattle.stream_law.specs.Streams as streams
@@ -8,12 +8,13 @@ use Rattle.promise.specs.Safe.{receives, sends}
 use Rattle.promise.specs.declared.life.Life.{Life}
 use Rattle.world_keeps_streams.proofs.Steps.Joined.{Joined, Keeps, numbered_by_peer}
 use Rattle.world_keeps_streams.proofs.Lives.Lists.{IsOf}
-use Rattle.world_keeps_streams.proofs.Requests.Sides.{Lawful, lives_in}
+use Rattle.world_keeps_streams.proofs.Requests.Sides.{Lawful, lives_in, below}
 use Rattle.world_keeps_streams.proofs.Books.Whole.{present_in, Away, Receives, Sends, HasReceives, HasSends, PresentR, PresentS, HasR, HasS, Whole, staying_r, staying_s, staying_has_r, staying_has_s}
 use Rattle.world_keeps_streams.proofs.Books.Goes.{since_bound, left_r, left_s, left_has_r, left_has_s}
 
 -- what is asked of each moment
-pub record Given (hosts : List Host) (a b : Host) (Own Heard : List Moment → ℕ → ℕ → ℕ → ℕ → Type 0) : Type 0 where
+pub record Given (hosts : Network) (a b : Host) (Own Heard : List Moment → ℕ → ℕ → ℕ → ℕ → Type 0) : Type 0 where
+  pub ours : AreOurs hosts a b
   -- requests
   pub own_on : (y : Moment) (ms : List Moment) → Lawful hosts (y ∷ ms) → stay.begins a b (event_in y) (events_of ms) ≡ false → (receive send stamp g : ℕ) → Own ms receive send stamp g → Own (y ∷ ms) receive send stamp g
   pub heard_on : (y : Moment) (ms : List Moment) → Lawful hosts (y ∷ ms) → stay.begins a b (event_in y) (events_of ms) ≡ false → (s : Life) → IsOf s (lives_in ms) → s.host ≡ b → s.peer ≡ a → (g : ℕ)
@@ -34,15 +35,13 @@ pub record Given (hosts : List Host) (a b : Host) (Own Heard : List Moment → �
   pub away_r : (y : Moment) (ms : List Moment) → Lawful hosts (y ∷ ms) → stay.stays a b (events_of (y ∷ ms)) ≡ false → Away a b (lives_in ms) (lives_in (y ∷ ms))
   pub away_s : (y : Moment) (ms : List Moment) → Lawful hosts (y ∷ ms) → stay.stays b a (events_of (y ∷ ms)) ≡ false → Away b a (lives_in ms) (lives_in (y ∷ ms))
 
-pub below : (hosts : List Host) (y : Moment) (ms : List Moment) → Lawful hosts (y ∷ ms) → Lawful hosts ms
-below hosts y ms l = let time : IsTimeline hosts (y ∷ ms) = l.2 in (l.0, mail_below hosts y ms l.1, time.1)
-
 begins_stays : (a b : Host) (y : Moment) (ms : List Moment) → stay.begins a b (event_in y) (events_of ms) ≡ true → (stay.stays a b (events_of (y ∷ ms)) ≡ true) × (stay.stays b a (events_of (y ∷ ms)) ≡ true)
 begins_stays a b y ms new = (first a b new, first b a (sym (begins_either a b (event_in y) (events_of ms)) ∙ new)) where
   first : (v w : Host) → stay.begins v w (event_in y) (events_of ms) ≡ true → stay.stays v w (events_of (y ∷ ms)) ≡ true
   first v w e = ap (λ (t : Bool). t || (stay.ready v w (event_in y ∷ events_of ms) && not (stay.takes_reset v w (event_in y)) && stay.stays v w (events_of ms))) e
 
-module _ (hosts : List Host) (a b : Host) (Own Heard : List Moment → ℕ → ℕ → ℕ → ℕ → Type 0) (given : Given hosts a b Own Heard) where
+module _ (hosts : Network) (a b : Host) (Own Heard : List Moment → ℕ → ℕ → ℕ → ℕ → Type 0)
+    (given : Given hosts a b Own Heard) where
   -- ---- hosts that stay
 
   module _ (ms : List Moment) (l : Lawful hosts ms) (j : (n : ℕ) → Joined a b (suc n) ms) where

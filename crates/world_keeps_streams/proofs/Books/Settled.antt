@@ -1,9 +1,9 @@
 -- In a world that has settled all lives that match agree.
-use Rattle.world_keeps_streams.proofs.Common.{◌≡◌, ◌<◌, ℕ, zero, suc, Bool, true, List, [], ◌∷◌, ◌++◌, length, map, Option, Some, None, refl, ap, sym, subst, ◌∙◌, arith, Contains, Seen, Host, same_host, same_host-true, Crossing, stays_ready, IsLawful, events_of, program, crossings_of, WorldState, Seat, book_run, NoneOut}
-use Rattle.reset_law.specs.Network.{all_ours}
+use Rattle.world_keeps_streams.proofs.Common.{◌≡◌, ◌<◌, ℕ, zero, suc, Bool, true, List, [], ◌∷◌, ◌++◌, length, map, Option, Some, None, refl, ap, sym, subst, ◌∙◌, arith, Contains, Seen, Host, same_host, same_host-true, Crossing, stays_ready, IsLawful, events_of, program, crossings_of, WorldState, Seat, NoneOut}
 use Rattle.std.proofs.Common.{false, slice_get}
 use Rattle.interface.specs.Host.{is_host}
 use Rattle.interface.specs.Mailboxes as mail
+use Rattle.reset_law.specs.Network.{all_ours}
 use Rattle.sockets.specs.Sending.{next_out}
 use Rattle.net_sim.specs.Told.{kept_in}
 use Rattle.net_sim.specs.Whole.{seat_in}
@@ -12,7 +12,7 @@ use Rattle.promise.specs.declared.life.Life.{Life}
 use Rattle.world_keeps_streams.specs.Settled.{EachAgrees, HasSettled}
 use Rattle.world_keeps_streams.proofs.Books.Arrives.{stays_of}
 use Rattle.world_keeps_streams.proofs.Books.Calm.{calm}
-use Rattle.world_keeps_streams.proofs.Requests.Sides.{Lawful, coupled_in}
+use Rattle.world_keeps_streams.proofs.Requests.Sides.{Lawful, coupled_in, book_lawful}
 use Rattle.world_keeps_streams.proofs.Stays.Resets.{up_ready}
 
 -- ---- the seat of a host that is up
@@ -40,8 +40,8 @@ length_mapped change (g ∷ hosts) = ap (λ (n : ℕ). suc n) (length_mapped cha
 -- ---- a world
 
 module _ {C : Type 0} (seen : C → Seen) (hosts : List Host) (w : WorldState C) (lawful : IsLawful seen hosts w) (settled : HasSettled seen w) where
-  l : Lawful hosts lawful.whole.moments
-  l = (lawful.addresses, book_run seen hosts w lawful, lawful.whole.timeline)
+  l : Lawful (all_ours hosts) lawful.whole.moments
+  l = book_lawful seen hosts w lawful
 
   -- a host that is up has nothing to say
   mute : (h : Host) → mail.is_up hosts h (crossings_of lawful.whole.moments) ≡ true → next_out (program h lawful.whole.moments) ≡ None
@@ -56,7 +56,7 @@ module _ {C : Type 0} (seen : C → Seen) (hosts : List Host) (w : WorldState C)
   up_of : (x : Life) → Contains (kept_in lawful.whole.moments).book.lives x → x.ended ≡ false → mail.is_up hosts x.host (crossings_of lawful.whole.moments) ≡ true
   up_of x there goes =
       sym (up_same hosts x.host lawful.whole.moments)
-      ∙ up_ready (all_ours hosts) (events_of lawful.whole.moments) (coupled_in hosts lawful.whole.moments l).run x.host x.peer (refl, refl) (stays_ready (events_of lawful.whole.moments) x.host x.peer (stays_of hosts lawful.whole.moments l x there goes))
+      ∙ up_ready (all_ours hosts) (events_of lawful.whole.moments) (coupled_in (all_ours hosts) lawful.whole.moments l).run x.host x.peer (refl, refl) (stays_ready (events_of lawful.whole.moments) x.host x.peer (stays_of (all_ours hosts) lawful.whole.moments l x (refl, refl) there goes))
 
   log_is : (seen w.carrier).log ≡ crossings_of lawful.whole.moments
   log_is = lawful.booked.book ∙ ap (λ (more : List Crossing). more ++ w.kept.book.crossings) (lawful.booked.all settled.running) ∙ lawful.whole.crossings
@@ -72,7 +72,7 @@ module _ {C : Type 0} (seen : C → Seen) (hosts : List Host) (w : WorldState C)
   world_settles x s here there matches goes sender_goes end giver =
       let up : mail.is_up hosts x.host (crossings_of lawful.whole.moments) ≡ true = up_of x here goes in
       let sender_up : mail.is_up hosts s.host (crossings_of lawful.whole.moments) ≡ true = up_of s there sender_goes in
-      calm hosts lawful.whole.moments l x s
+      calm (all_ours hosts) lawful.whole.moments l x s (refl, refl)
       (record {
         there = here;
         sender_there = there;

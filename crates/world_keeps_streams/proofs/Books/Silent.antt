@@ -1,5 +1,5 @@
 -- Two lives of one connection, between whose hosts no command is on its way: each end has heard what the other said.
-use Rattle.world_keeps_streams.proofs.Common.{◌≡◌, ℕ, zero, suc, ◌==◌, true, false, List, [], ◌++◌, Some, refl, ap, sym, subst, ◌∙◌, Host, box_of, Command, has_cls, sends_on, has_opened, numbered, numbered_tells, OfOne, boxes, pair_with, Moment, events_of, program, crossings_of, seen_box, box_same, control_flow, linked_end, numbered_by_peer, AreSilent, NoneWaits}
+use Rattle.world_keeps_streams.proofs.Common.{◌≡◌, ℕ, zero, suc, ◌==◌, true, false, List, [], ◌++◌, Some, refl, ap, sym, subst, ◌∙◌, Host, box_of, Command, has_cls, sends_on, has_opened, numbered, numbered_tells, OfOne, boxes, pair_with, Moment, events_of, program, crossings_of, seen_box, box_same, control_flow, numbered_by_peer, AreSilent, NoneWaits, Network}
 use Rattle.interface.specs.Mailboxes as mail
 use Rattle.pair_keeps_streams.proofs.lemmas as pair
 use Rattle.reset_law.specs.Stays as stay
@@ -11,6 +11,9 @@ use Rattle.world_keeps_streams.proofs.Books.One as one
 use Rattle.world_keeps_streams.proofs.Books.One.{HasPartner}
 use Rattle.world_keeps_streams.proofs.Requests.Sides.{Lawful}
 use Rattle.world_keeps_streams.proofs.Steps.Joined.{Joined, commands_in, party, turned_tells}
+use Rattle.world_keeps_streams.proofs.Ours.{ours_sender}
+use Rattle.world_keeps_streams.proofs.Lives.Among.{among_now}
+use Rattle.world_keeps_lives.proofs.lemmas.Books.{linked_end}
 
 -- ---- small facts
 
@@ -29,7 +32,8 @@ off_zero (suc m) e = (m, refl)
 
 -- ---- two lives
 
-module _ (hosts : List Host) (ms : List Moment) (l : Lawful hosts ms) (x s : Life) (f : closes.AtLink ms x) (q : HasPartner ms x s) where
+module _ (hosts : Network) (ms : List Moment) (l : Lawful hosts ms) (x s : Life) (f : closes.AtLink hosts ms x)
+    (q : HasPartner ms x s) where
   pub here : stay.stays x.host x.peer (events_of ms) ≡ true
   here = one.here hosts ms l x s f q
 
@@ -47,7 +51,7 @@ module _ (hosts : List Host) (ms : List Moment) (l : Lawful hosts ms) (x s : Lif
 
   -- the link of the sender's end
   pub giver_link : (link : ℕ) × (q.end.end.link ≡ Some link) × ((link == 0) ≡ false)
-  giver_link = linked_end hosts (together hosts) ms l s q.there q.goes q.end
+  giver_link = linked_end hosts (together hosts) ms l s (among_now hosts ms s (ours_sender hosts q.matches f.ours) q.there) q.goes q.end
 
   pub k : (m : ℕ) × (giver_link.0 ≡ suc m)
   k = off_zero giver_link.0 giver_link.2

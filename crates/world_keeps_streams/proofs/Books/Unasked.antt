@@ -1,5 +1,7 @@
 -- The requests that a host said since it met its peer last aren't those of lives from before.
-use Rattle.world_keeps_streams.proofs.Common.{◌≡◌, ◌⊎◌, inl, inr, ℕ, suc, ◌<◌, ◌==◌, ◌&&◌, if◌then◌else◌, Bool, true, false, List, [], ◌∷◌, ◌++◌, length, map, take, refl, ap, sym, subst, ◌∙◌, arith, Contains, Host, is_send_socket, Command, Legal, Order, Wrong, orders_of, mark_of, marks_in, Sockets, Who, Ask, Asks, Close, Mark, placed_event, tagged, Side, says, Contact, Event, Other, Out, are, place, begins_either, CrossedAt, Moment, event_in, events_of, crossings_of, place_same, Linked, LinkedBook, law_events, all_says, at_texts, foreign_of, heard_is, met_if, other, own_of}
+use Rattle.world_keeps_streams.proofs.Common.{◌≡◌, ◌⊎◌, inl, inr, ℕ, suc, ◌<◌, ◌==◌, ◌&&◌, if◌then◌else◌, Bool, true, false, List, [], ◌∷◌, ◌++◌, length, map, take, refl, ap, sym, subst, ◌∙◌, arith, Contains, Host, is_send_socket, Command, Legal, Order, Wrong, orders_of, mark_of, marks_in, Sockets, Who, Ask, Asks, Close, Mark, placed_event, tagged, Side, says, Contact, Event, Other, Out, are, place, begins_either, CrossedAt, Moment, event_in, events_of, crossings_of, place_same, Linked, LinkedBook, law_events, all_says, at_texts, foreign_of, heard_is, met_if, other, own_of, Network, AreOurs}
+use Rattle.net_sim.specs.Among.{lives_among}
+use Rattle.net_sim.specs.Mixed.{mixed_kept}
 use Rattle.interface.specs.declared.crossing.Crossing.TheVariants as crossing
 use Rattle.ncp_control.specs.declared.command.Command.TheVariants as command
 use Rattle.pairing_law.specs.Links.{Receiver, Sender}
@@ -14,11 +16,12 @@ use Rattle.world_keeps_streams.proofs.Books.Counts.{side_of}
 use Rattle.world_keeps_streams.proofs.Books.Firsts.{linked}
 use Rattle.world_keeps_streams.proofs.Books.Goes.{since_bound, since_on}
 use Rattle.world_keeps_streams.proofs.Books.Parted.{said_now}
-use Rattle.world_keeps_streams.proofs.Books.Run.{below}
 use Rattle.world_keeps_streams.proofs.Books.Whole.{since}
-use Rattle.world_keeps_streams.proofs.Lives.Lists.{IsOf, of_take}
-use Rattle.world_keeps_streams.proofs.Requests.Sides.{Heard, Lawful, Own, begins_same, lives_in}
+use Rattle.world_keeps_streams.proofs.Lives.Lists.{IsOf, of_take, contains, is_of}
+use Rattle.world_keeps_streams.proofs.Requests.Sides.{Heard, Lawful, Own, begins_same, lives_in, below}
 use Rattle.world_keeps_lives.proofs.lemmas.{crossed_below}
+use Rattle.world_keeps_streams.proofs.Ours.{ours_of}
+use Rattle.world_keeps_streams.proofs.Lives.Among.{among_now}
 
 -- ---- where a request went out
 
@@ -83,17 +86,19 @@ life_of_link x (p ∷ links) (inr i) =
     let r : (v : Linked) × Contains links v × (v.life ≡ x) = life_of_link x links i in
     (r.0, (suc r.1.0, (let l : r.1.0 < length links = r.1.1 in omega (arith, l)), r.1.2), r.2)
 
-pub own_below : (hosts : List Host) (ms : List Moment) → Lawful hosts ms → (x : Life) → IsOf x (lives_in ms) → x.own_stamp < length (crossings_of ms)
-own_below hosts ms l x i =
-    let b : LinkedBook (crossings_of ms) (lives_in ms) = linked hosts ms l in
-    let r : (p : Linked) × Contains b.links p × (p.life ≡ x) = life_of_link x b.links (subst (λ (ys : List Life). IsOf x ys) (sym b.all) i) in
+pub own_below : (hosts : Network) (ms : List Moment) → Lawful hosts ms → (x : Life) → AreOurs hosts x.host x.peer
+    → IsOf x (lives_in ms) → x.own_stamp < length (crossings_of ms)
+own_below hosts ms l x ours i =
+    let b : LinkedBook hosts (crossings_of ms) (lives_among hosts.strange (mixed_kept hosts.strange ms).book.lives) = linked hosts ms l in
+    let r : (p : Linked) × Contains b.links p × (p.life ≡ x) = life_of_link x b.links (subst (λ (ys : List Life). IsOf x ys) (sym b.all) (is_of x (lives_among hosts.strange (mixed_kept hosts.strange ms).book.lives) (among_now hosts ms x ours (contains x (lives_in ms) i)))) in
     let c : CrossedAt r.0.life.own_stamp (crossing.Out (b.first r.0 r.1).asked.own.message) (crossings_of ms) = (b.first r.0 r.1).asked.own.crossed in
     subst (λ (y : Life). y.own_stamp < length (crossings_of ms)) r.2 (crossed_below r.0.life.own_stamp (crossing.Out (b.first r.0 r.1).asked.own.message) (crossings_of ms) c)
 
-pub partner_below : (hosts : List Host) (ms : List Moment) → Lawful hosts ms → (x : Life) → IsOf x (lives_in ms) → x.partner_stamp < length (crossings_of ms)
-partner_below hosts ms l x i =
-    let b : LinkedBook (crossings_of ms) (lives_in ms) = linked hosts ms l in
-    let r : (p : Linked) × Contains b.links p × (p.life ≡ x) = life_of_link x b.links (subst (λ (ys : List Life). IsOf x ys) (sym b.all) i) in
+pub partner_below : (hosts : Network) (ms : List Moment) → Lawful hosts ms → (x : Life) → AreOurs hosts x.host x.peer
+    → IsOf x (lives_in ms) → x.partner_stamp < length (crossings_of ms)
+partner_below hosts ms l x ours i =
+    let b : LinkedBook hosts (crossings_of ms) (lives_among hosts.strange (mixed_kept hosts.strange ms).book.lives) = linked hosts ms l in
+    let r : (p : Linked) × Contains b.links p × (p.life ≡ x) = life_of_link x b.links (subst (λ (ys : List Life). IsOf x ys) (sym b.all) (is_of x (lives_among hosts.strange (mixed_kept hosts.strange ms).book.lives) (among_now hosts ms x ours (contains x (lives_in ms) i)))) in
     let c : CrossedAt r.0.life.partner_stamp (crossing.In (b.first r.0 r.1).asked.partner.message) (crossings_of ms) = (b.first r.0 r.1).asked.partner.crossed in
     subst (λ (y : Life). y.partner_stamp < length (crossings_of ms)) r.2 (crossed_below r.0.life.partner_stamp (crossing.In (b.first r.0 r.1).asked.partner.message) (crossings_of ms) c)
 
@@ -105,7 +110,7 @@ said_new s who h p y ms new =
     ap (λ (v : Bool). (met_if v (before h p (at_texts s who) (at_texts s (other who)) (placed_event (event_in y) (events_of ms)) (law_events ms) (side_of s who h p ms))).said)
     (begins_same h p (event_in y) (events_of ms) ∙ new)
 
-module _ (hosts : List Host) (a b : Host) (s : Sockets) (q : IsPair s) where
+module _ (hosts : Network) (a b : Host) (ours : AreOurs hosts a b) (s : Sockets) (q : IsPair s) where
   pub unasked : (ms : List Moment) → Lawful hosts ms → (x : Life) → IsOf x (take (since a b ms) (lives_in ms)) → x.host ≡ b → x.peer ≡ a → sends x ≡ true
       → (k : ℕ) → Asks k x.own_stamp (side_of s Sender b a ms).said → ⊥
   unasked [] l x i host peer kind k asks = absurd i
@@ -116,7 +121,7 @@ module _ (hosts : List Host) (a b : Host) (s : Sockets) (q : IsPair s) where
     by false none rest =
         let o : Older (since a b ms) ms y x = older (since a b ms) ms y x (since_bound a b ms) (subst (λ (n : ℕ). IsOf x (take n (lives_in (y ∷ ms)))) (since_on a b y ms none) i) in
         let kind_o : sends o.life ≡ true = ap is_send_socket o.socket ∙ kind in
-        let over : o.life.ended ≡ true = (settled_s hosts a b (Own a b) (Heard a b) (all_given hosts a b) ms (below hosts y ms l) o.life o.there (o.host ∙ host) (o.peer ∙ peer) kind_o).over in
+        let over : o.life.ended ≡ true = (settled_s hosts a b (Own a b) (Heard a b) (all_given hosts a b ours) ms (below hosts y ms l) o.life o.there (o.host ∙ host) (o.peer ∙ peer) kind_o).over in
         let same : x.own_stamp ≡ o.life.own_stamp = ap (λ (z : Life). z.own_stamp) (o.same over) in
         let begins : stay.begins b a (placed_event (event_in y) (events_of ms)) (law_events ms) ≡ false =
         begins_same b a (event_in y) (events_of ms) ∙ begins_either b a (event_in y) (events_of ms) ∙ none in
@@ -125,7 +130,7 @@ module _ (hosts : List Host) (a b : Host) (s : Sockets) (q : IsPair s) where
         (said_now b a (at_texts s Sender) (at_texts s Receiver) (placed_event (event_in y) (events_of ms)) (law_events ms) (side_of s Sender b a ms) begins) asks in
         elim (asked_by k x.own_stamp (place (events_of ms)) (at_texts s Sender (stay.said_by b a 0 (placed_event (event_in y) (events_of ms)))) (side_of s Sender b a ms) (of_event s q Receiver b a (event_in y) (events_of ms)) spoke) [
           | inl new ↦
-              (let less : o.life.own_stamp < length (crossings_of ms) = own_below hosts ms (below hosts y ms l) o.life (of_take (since a b ms) o.life (lives_in ms) o.there) in
+              (let less : o.life.own_stamp < length (crossings_of ms) = own_below hosts ms (below hosts y ms l) o.life (ours_of hosts o.life b a (ours.1, ours.0) (o.host ∙ host, o.peer ∙ peer)) (of_take (since a b ms) o.life (lives_in ms) o.there) in
               let here : place (events_of ms) ≡ length (crossings_of ms) = place_same ms in
               absurd (omega (arith, less, here, new, same)))
           | inr old ↦ rest o.life o.there (o.host ∙ host) (o.peer ∙ peer) kind_o k (subst (λ (n : ℕ). Asks k n (side_of s Sender b a ms).said) same old)

@@ -1,5 +1,5 @@
 -- Two lives between whose hosts nothing is left to be done: nobody has closed their ends, but for a sender that drains.
-use Rattle.world_keeps_streams.proofs.Common.{◌≡◌, inl, inr, ℕ, Bool, true, false, List, [], ◌∷◌, ◌++◌, Option, Some, None, refl, ap, sym, subst, ◌∙◌, Host, is_receive_socket, is_send_socket, Command, End, Close, entry_at, is_answered, is_busy, is_open, is_receiving, was_closed, Closing, Entry, Stand, Standing, standing, marks, found_at, has_opened, pair_with, Moment, program, crossings_of, IsOfTwo, has_ends, origin_in, AreSilent}
+use Rattle.world_keeps_streams.proofs.Common.{◌≡◌, inl, inr, ℕ, Bool, true, false, List, [], ◌∷◌, ◌++◌, Option, Some, None, refl, ap, sym, subst, ◌∙◌, Host, is_receive_socket, is_send_socket, Command, End, Close, entry_at, is_answered, is_busy, is_open, is_receiving, was_closed, Closing, Entry, Stand, Standing, standing, marks, found_at, has_opened, pair_with, Moment, program, crossings_of, IsOfTwo, origin_in, AreSilent, Network, AreOurs}
 use Rattle.host_pairs.specs.declared.entry.Closing.TheVariants as closing
 use Rattle.host_keeps_pairing.specs.Ends.{close_waits, request_due}
 use Rattle.promise.specs.declared.life.Life.{Life}
@@ -13,6 +13,7 @@ use Rattle.world_keeps_streams.proofs.Requests.Sides.{Lawful}
 use Rattle.world_keeps_streams.proofs.Tidy.Pairs.{Each, IsTidy}
 use Rattle.world_keeps_streams.proofs.Tidy.Programs.{all_tidy}
 use Rattle.world_keeps_streams.proofs.Tidy.Two as two
+use Rattle.world_keeps_streams.proofs.Ours.{has_ends, ours_sender}
 
 -- ---- a CLS that waits
 
@@ -27,14 +28,15 @@ none_stands origin e [] x h is = nothing_due 0 e.mine e.asked (h.1 ∙ ap (λ (c
 none_stands origin e (s ∷ rest) x h is = h
 
 -- of no end where no command waits
-unqueued : (hosts : List Host) (ms : List Moment) → Lawful hosts ms → (a b : Host) (own foreign : ℕ) (e : Entry) → IsOfTwo own foreign → (pair_with b (program a ms).peers).queue ≡ []
+unqueued : (hosts : Network) (ms : List Moment) → Lawful hosts ms → (a b : Host) → AreOurs hosts a b
+    → (own foreign : ℕ) (e : Entry) → IsOfTwo own foreign → (pair_with b (program a ms).peers).queue ≡ []
     → entry_at own foreign (pair_with b (program a ms).peers).entries ≡ Some e → e.closing ≡ closing.Queued → ⊥
-unqueued hosts ms l a b own foreign e of_two none found =
+unqueued hosts ms l a b ours own foreign e of_two none found =
     let has : (x : End) × Stand true (origin_in (crossings_of ms) a b) 0 (standing e ∷ (found_at own foreign (pair_with b (program a ms).peers).entries e found).rest) [] x = (
-      (has_ends hosts ms l.0 l.1 l.2 a b own foreign of_two).0,
-      subst (λ (cs : List Command). Stand true (origin_in (crossings_of ms) a b) 0 (standing e ∷ (found_at own foreign (pair_with b (program a ms).peers).entries e found).rest) (marks 0 own foreign cs) (has_ends hosts ms l.0 l.1 l.2 a b own foreign of_two).0) none
-          (subst (λ (ss : List Standing). Stand true (origin_in (crossings_of ms) a b) 0 ss (marks 0 own foreign (pair_with b (program a ms).peers).queue) (has_ends hosts ms l.0 l.1 l.2 a b own foreign of_two).0)
-          (found_at own foreign (pair_with b (program a ms).peers).entries e found).first ((has_ends hosts ms l.0 l.1 l.2 a b own foreign of_two).1.ends 0)),
+      (has_ends hosts ms l.0 l.1 l.2 a b ours own foreign of_two).0,
+      subst (λ (cs : List Command). Stand true (origin_in (crossings_of ms) a b) 0 (standing e ∷ (found_at own foreign (pair_with b (program a ms).peers).entries e found).rest) (marks 0 own foreign cs) (has_ends hosts ms l.0 l.1 l.2 a b ours own foreign of_two).0) none
+          (subst (λ (ss : List Standing). Stand true (origin_in (crossings_of ms) a b) 0 ss (marks 0 own foreign (pair_with b (program a ms).peers).queue) (has_ends hosts ms l.0 l.1 l.2 a b ours own foreign of_two).0)
+          (found_at own foreign (pair_with b (program a ms).peers).entries e found).first ((has_ends hosts ms l.0 l.1 l.2 a b ours own foreign of_two).1.ends 0)),
     ) in
     none_stands (origin_in (crossings_of ms) a b) e (found_at own foreign (pair_with b (program a ms).peers).entries e found).rest has.0 has.1
 
@@ -51,13 +53,13 @@ all_answered busy free (Some k) = let none : is_busy busy k ≡ false = free k i
 
 -- ---- two lives
 
-module _ (hosts : List Host) (ms : List Moment) (l : Lawful hosts ms) (x s : Life) (f : closes.AtLink ms x) (q : HasPartner ms x s) (quiet : AreSilent x.host s.host ms)
+module _ (hosts : Network) (ms : List Moment) (l : Lawful hosts ms) (x s : Life) (f : closes.AtLink hosts ms x) (q : HasPartner ms x s) (quiet : AreSilent x.host s.host ms)
     (free : (k : ℕ) → is_busy (pair_with s.peer (program s.host ms).peers).busy k ≡ false) where
   mine : IsTidy (pair_with x.peer (program x.host ms).peers).busy f.end.end
-  mine = each_among (IsTidy (pair_with x.peer (program x.host ms).peers).busy) (pair_with x.peer (program x.host ms).peers).entries f.end.end (closes.at_it hosts ms l x f).0 (all_tidy hosts l.0 ms l.1 l.2 x.host x.peer)
+  mine = each_among (IsTidy (pair_with x.peer (program x.host ms).peers).busy) (pair_with x.peer (program x.host ms).peers).entries f.end.end (closes.at_it hosts ms l x f).0 (all_tidy hosts l.0 ms l.1 l.2 x.host f.ours.0 x.peer)
 
   theirs : IsTidy (pair_with s.peer (program s.host ms).peers).busy q.end.end
-  theirs = each_among (IsTidy (pair_with s.peer (program s.host ms).peers).busy) (pair_with s.peer (program s.host ms).peers).entries q.end.end (end_at s (program s.host ms) q.end).0 (all_tidy hosts l.0 ms l.1 l.2 s.host s.peer)
+  theirs = each_among (IsTidy (pair_with s.peer (program s.host ms).peers).busy) (pair_with s.peer (program s.host ms).peers).entries q.end.end (end_at s (program s.host ms) q.end).0 (all_tidy hosts l.0 ms l.1 l.2 s.host (ours_sender hosts q.matches f.ours).0 s.peer)
 
   receiving : is_receiving f.end.end ≡ true
   receiving = ap is_receive_socket (closes.own hosts ms l x f) ∙ f.receiving
@@ -67,7 +69,7 @@ module _ (hosts : List Host) (ms : List Moment) (l : Lawful hosts ms) (x s : Lif
 
   waits : f.end.end.closing ≡ closing.Queued → ⊥
   waits =
-      unqueued hosts ms l x.host x.peer x.socket x.foreign f.end.end of_two (subst (λ (h : Host). (pair_with h (program x.host ms).peers).queue ≡ []) (sym q.matches.peers.0) quiet.queue)
+      unqueued hosts ms l x.host x.peer f.ours x.socket x.foreign f.end.end of_two (subst (λ (h : Host). (pair_with h (program x.host ms).peers).queue ≡ []) (sym q.matches.peers.0) quiet.queue)
       (one.taker_found hosts ms l x s f q 1 (silent.j hosts ms l x s f q 0))
 
   taker_opened : has_opened f.end.end ≡ true

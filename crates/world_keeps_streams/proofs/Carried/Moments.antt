@@ -1,5 +1,5 @@
 -- The lives of a host with one peer, from one moment to the next: where it drops its ends, where it makes one call, and where it makes none.
-use Rattle.world_keeps_streams.proofs.Common.{◌≡◌, inl, inr, ℕ, Bool, true, false, List, [], ◌∷◌, ◌++◌, drop, length, refl, ap, sym, subst, ◌∙◌, Host, same_host, same_host-true, listens_on, Entry, IsHistory, IsTelling, ends_after, turn_of, NcpState, pair_with, Kept, HaveAddresses, Moment, event_in, events_of, program, IsTimeline, crossings_of, AreRefusing, IsLifeOf, mine_on, At, Elsewhere, GoodTurn, Near, Place, same_turned, keeps, calls_by, own_calls}
+use Rattle.world_keeps_streams.proofs.Common.{◌≡◌, inl, inr, ℕ, Bool, true, false, List, [], ◌∷◌, ◌++◌, drop, length, refl, ap, sym, subst, ◌∙◌, Host, same_host, same_host-true, listens_on, Entry, IsHistory, IsTelling, ends_after, turn_of, NcpState, pair_with, Kept, HaveAddresses, Moment, event_in, events_of, program, crossings_of, AreRefusing, IsLifeOf, mine_on, At, Elsewhere, GoodTurn, Near, Place, same_turned, keeps, calls_by, own_calls, Happened, Network, AreOurs}
 use Rattle.interface.specs.Mailboxes as mail
 use Rattle.stream_law.specs.Receivers.{Receiver}
 use Rattle.stream_law.specs.Senders.{Sender}
@@ -70,8 +70,8 @@ dropped_next number a b x ms off none =
 
 -- ---- where it keeps them
 
-module _ (number : ℕ → ℕ → ℕ → ℕ) (tells : IsTelling number) (hosts : List Host) (a b : Host) (x : Moment) (ms : List Moment) (addresses : HaveAddresses hosts) (run : mail.IsRun hosts (crossings_of (x ∷ ms))) (time : IsTimeline hosts (x ∷ ms))
-    (before : mail.IsRun hosts (crossings_of ms)) (time_before : IsTimeline hosts ms) (on : keeps a b (event_in x) (events_of ms) ≡ true) where
+module _ (number : ℕ → ℕ → ℕ → ℕ) (tells : IsTelling number) (hosts : Network) (a b : Host) (ours : AreOurs hosts a b) (x : Moment) (ms : List Moment) (addresses : HaveAddresses hosts.all) (run : mail.IsRun hosts.all (crossings_of (x ∷ ms))) (time : Happened hosts (x ∷ ms))
+    (before : mail.IsRun hosts.all (crossings_of ms)) (time_before : Happened hosts ms) (on : keeps a b (event_in x) (events_of ms) ≡ true) where
   -- all that is shown of the lives since then is shown of the calls and the book
   pub kept_next : CarryIn a b number (calls_by a b x ms ++ own_calls a b ms) (pair_with b (program a (x ∷ ms)).peers).entries (drop (since a b ms) (kept_in (x ∷ ms)).book.lives) → Carries number a b (x ∷ ms)
   kept_next c = rw on c
@@ -91,9 +91,9 @@ module _ (number : ℕ → ℕ → ℕ → ℕ) (tells : IsTelling number) (host
 
         old : AreOwned a b m.pair.entries (drop (since a b ms) (kept_in ms).book.lives)
         old = subst (λ (es : List Entry). AreOwned a b es (drop (since a b ms) (kept_in ms).book.lives)) (sym pair)
-            (owned_dropped a b (pair_with b (program a ms).peers).entries (since a b ms) (kept_in ms).book.lives (owned_now hosts ms addresses before time_before a b))
+            (owned_dropped a b (pair_with b (program a ms).peers).entries (since a b ms) (kept_in ms).book.lives (owned_now hosts ms addresses before time_before a b ours.0))
 
         now : AreOwned a b (ends_after b m) (After a b (deed_of m.call m.pair) (drop (since a b ms) (kept_in ms).book.lives))
         now = subst (λ (ls : List Life). AreOwned a b (ends_after b m) ls) same
             (subst (λ (es : List Entry). AreOwned a b es (drop (since a b ms) (kept_in (x ∷ ms)).book.lives)) (sym after)
-            (owned_dropped a b (pair_with b (program a (x ∷ ms)).peers).entries (since a b ms) (kept_in (x ∷ ms)).book.lives (owned_now hosts (x ∷ ms) addresses run time a b)))
+            (owned_dropped a b (pair_with b (program a (x ∷ ms)).peers).entries (since a b ms) (kept_in (x ∷ ms)).book.lives (owned_now hosts (x ∷ ms) addresses run time a b ours.0)))

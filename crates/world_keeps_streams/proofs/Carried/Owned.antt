@@ -1,5 +1,5 @@
 -- Lives that continue and their ends, by what world_keeps_lives has of each socket; and the lives of a book since a host dropped its ends.
-use Rattle.world_keeps_streams.proofs.Common.{◌≡◌, inl, inr, ℕ, zero, suc, ◌+◌, ◌≤◌, ◌==◌, Bool, true, false, if◌then◌else◌, List, [], ◌∷◌, ◌++◌, map, drop, length, refl, ap, sym, subst, ◌∙◌, eq-eqb, arith, length-append, Host, same_host, same_host-refl, Entry, Notice, pair_with, Request, Kept, all_told, lives_asked, lives_told, where_it, HaveAddresses, Asked, Crossed, Moment, event_in, events_of, program, IsTimeline, crossings_of, host_in, kept_by, notices_by, HasOpenEnd, IsLifeOf, at_socket, mine_on, At, Elsewhere, Near, Place, clash, live, keeps}
+use Rattle.world_keeps_streams.proofs.Common.{◌≡◌, inl, inr, ℕ, zero, suc, ◌+◌, ◌≤◌, ◌==◌, Bool, true, false, if◌then◌else◌, List, [], ◌∷◌, ◌++◌, map, drop, length, refl, ap, sym, subst, ◌∙◌, eq-eqb, arith, length-append, Host, same_host, same_host-refl, Entry, Notice, pair_with, Request, Kept, all_told, lives_asked, lives_told, where_it, HaveAddresses, Asked, Crossed, Moment, event_in, events_of, program, crossings_of, host_in, kept_by, notices_by, HasOpenEnd, IsLifeOf, at_socket, mine_on, At, Elsewhere, Near, Place, clash, keeps, Happened, Network}
 use Rattle.interface.specs.Mailboxes as mail
 use Rattle.interface.specs.declared.crossing.Crossing.TheVariants as crossing
 use Rattle.host_pairs.specs.declared.notice.Notice.TheVariants as notice
@@ -13,13 +13,16 @@ use Rattle.world_keeps_streams.proofs.Deeds.Told.{After}
 use Rattle.world_keeps_streams.proofs.Carried.Streams.{EndOf}
 use Rattle.world_keeps_streams.proofs.Carried.Step.{AreOwned}
 use Rattle.world_keeps_streams.proofs.Carried.Calls.{among_contains, since}
+use Rattle.world_keeps_streams.proofs.Ours.{live}
 
 -- ---- ends of lives
 
 -- after moments
-pub owned_now : (hosts : List Host) (ms : List Moment) → HaveAddresses hosts → mail.IsRun hosts (crossings_of ms) → IsTimeline hosts ms → (a b : Host) → AreOwned a b (pair_with b (program a ms).peers).entries (kept_in ms).book.lives
-owned_now hosts ms addresses run time a b x there host peer goes =
-    let h : HasOpenEnd (program x.host ms) x = live hosts ms addresses run time x (among_contains (kept_in ms).book.lives x there) goes in
+pub owned_now : (hosts : Network) (ms : List Moment) → HaveAddresses hosts.all → mail.IsRun hosts.all (crossings_of ms)
+    → Happened hosts ms → (a b : Host) → hosts.strange a ≡ false
+    → AreOwned a b (pair_with b (program a ms).peers).entries (kept_in ms).book.lives
+owned_now hosts ms addresses run time a b plain x there host peer goes =
+    let h : HasOpenEnd (program x.host ms) x = live hosts ms addresses run time x (subst (λ (g : Host). hosts.strange g ≡ false) (sym host) plain) (among_contains (kept_in ms).book.lives x there) goes in
     let one : mine_on x.socket (pair_with b (program a ms).peers).entries ≡ h.end ∷ [] =
     subst (λ (g : Host). mine_on x.socket (pair_with b (program g ms).peers).entries ≡ h.end ∷ []) host (subst (λ (g : Host). mine_on x.socket (pair_with g (program x.host ms).peers).entries ≡ h.end ∷ []) peer h.one) in
     record { end = h.end; one = one; foreign = h.foreign; asked = h.own; partner = h.partner }

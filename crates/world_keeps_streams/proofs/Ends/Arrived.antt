@@ -1,6 +1,9 @@
 -- An open receiving life counts all that came in on its link. So data of which a host got RFNM are among its bits,
 -- where it matches the life that sent them.
-use Rattle.world_keeps_streams.proofs.Common.{◌≡◌, ◌⊎◌, inl, inr, ℕ, suc, ◌+◌, ◌<◌, ◌≤◌, ◌==◌, Bool, true, false, if◌then◌else◌, List, [], ◌∷◌, ◌++◌, length, map, Option, Some, None, refl, ap, sym, subst, ◌∙◌, eq-eqb, arith, Contains, option_map, append_assoc, length-append, Seen, Host, SinceLastOut, went_out, Flow, Crossing, HostMessage, is_send_socket, orders_of, End, Stream, waiting_in, Inv, came_inv, some_is, waiting_of, waits_of, HasClosed, name_now, numbered, receiver_now, closed_first, IsCounted, Course, Going, stage, IsBeside, CrossedAt, texts_for, texts_of, texts_on, Match, Name, control_flow, last_out, own_request, Called, Kept, IsLawful, Asked, Crossed, Moment, contacts_of, crossings_of, WorldState, kept_fated, Linked, LinkedBook, book_run, odd_send, send_odd, own_calls, IsClosedByPartner, WasClosedByPartner}
+use Rattle.world_keeps_streams.proofs.Common.{◌≡◌, ◌⊎◌, inl, inr, ℕ, suc, ◌+◌, ◌<◌, ◌≤◌, ◌==◌, Bool, true, false, if◌then◌else◌, List, [], ◌∷◌, ◌++◌, length, map, Option, Some, None, refl, ap, sym, subst, ◌∙◌, eq-eqb, arith, Contains, option_map, append_assoc, length-append, Seen, Host, SinceLastOut, went_out, Flow, Crossing, HostMessage, is_send_socket, orders_of, End, Stream, waiting_in, Inv, came_inv, some_is, waiting_of, waits_of, HasClosed, name_now, numbered, receiver_now, closed_first, IsCounted, Course, Going, stage, IsBeside, CrossedAt, texts_for, texts_of, texts_on, Match, Name, control_flow, last_out, own_request, Called, Kept, IsLawful, Asked, Crossed, Moment, contacts_of, crossings_of, WorldState, kept_fated, Linked, LinkedBook, odd_send, send_odd, own_calls, IsClosedByPartner, WasClosedByPartner, Network, AreOurs}
+use Rattle.net_sim.specs.Among.{lives_among}
+use Rattle.net_sim.specs.Mixed.{mixed_kept}
+use Rattle.reset_law.specs.Network.{all_ours}
 use Rattle.interface.specs.declared.crossing.Answer.TheVariants as answer
 use Rattle.interface.specs.declared.crossing.Crossing.TheVariants as crossing
 use Rattle.stream_law.specs.Receivers.{Receiver}
@@ -12,7 +15,8 @@ use Rattle.promise.specs.declared.life.Fate.TheVariants as fate
 use Rattle.promise.specs.declared.life.Life.{Life}
 use Rattle.net_sim.specs.Told.{kept_in}
 use Rattle.world_keeps_lives.specs.Firsts.{IsSentIn}
-use Rattle.world_keeps_lives.proofs.lemmas.{end_link, named_there, same_out}
+use Rattle.world_keeps_lives.proofs.lemmas.Formed.{end_link}
+use Rattle.world_keeps_lives.proofs.lemmas.{named_there, same_out}
 use Rattle.world_keeps_streams.specs.Answered as moments
 use Rattle.world_keeps_streams.proofs.Books.All.{all_given}
 use Rattle.world_keeps_streams.proofs.Books.Answered.{answered}
@@ -25,7 +29,7 @@ use Rattle.world_keeps_streams.proofs.Books.Closes as closes
 use Rattle.world_keeps_streams.proofs.Books.Closes.{AtLink}
 use Rattle.world_keeps_streams.proofs.Books.Ended.{all_crossings}
 use Rattle.world_keeps_streams.proofs.Books.Ending.{at_link, never_closed}
-use Rattle.world_keeps_streams.proofs.Books.Firsts.{firsts, linked, together}
+use Rattle.world_keeps_streams.proofs.Books.Firsts.{sent_in, linked, together}
 use Rattle.world_keeps_streams.proofs.Books.Later.{closes_whole, named_request}
 use Rattle.world_keeps_streams.proofs.Books.Placed.{WentAt, before_end, before_later, crossed_end, crossed_one, link_later, none_out, texts_past, went_at}
 use Rattle.world_keeps_streams.proofs.Books.Run.{whole}
@@ -39,9 +43,10 @@ use Rattle.world_keeps_streams.proofs.Ends.Ties.{entry_is}
 use Rattle.world_keeps_streams.proofs.Lives.Fates.{beside_of, beside_over}
 use Rattle.world_keeps_streams.proofs.Lives.Lists.{Grown, IsOf, Named, contains, grown, is_of, named_itself, of_drop, of_left, of_map, of_parts}
 use Rattle.world_keeps_streams.proofs.Requests.Names.{request_grows}
-use Rattle.world_keeps_streams.proofs.Requests.Sides.{Heard, Lawful, Own, lives_in, lawful_among}
+use Rattle.world_keeps_streams.proofs.Requests.Sides.{Heard, Lawful, Own, lives_in, book_lawful}
 use Rattle.interface.proofs.lemmas.{unlike}
-use Rattle.reset_law.specs.Network.{all_ours}
+use Rattle.world_keeps_streams.proofs.Ours.{ours_of, ours_receiver, ours_sender}
+use Rattle.world_keeps_streams.proofs.Lives.Among.{among_now, now_kept}
 
 -- ---- in the law of streams: a receiver that hasn't closed first has taken all that came
 
@@ -75,8 +80,8 @@ took_all x h c end unclosed = by (x.receiver.over c) refl where
 
 -- ---- an open life counts all that came in
 
-module _ (hosts : List Host) (ms : List Moment) (l : Lawful hosts ms) where
-  module _ (x : Life) (i : IsBeside x fate.Open (kept_in ms).book.lives (kept_in ms).fates)
+module _ (hosts : Network) (ms : List Moment) (l : Lawful hosts ms) where
+  module _ (x : Life) (ours : AreOurs hosts x.host x.peer) (i : IsBeside x fate.Open (kept_in ms).book.lives (kept_in ms).fates)
       (kind : receives x ≡ true) where
     i_in : IsOf x (lives_in ms)
     i_in = beside_of (lives_in ms) (kept_in ms).fates x fate.Open i
@@ -84,8 +89,8 @@ module _ (hosts : List Host) (ms : List Moment) (l : Lawful hosts ms) where
     goes : x.ended ≡ false
     goes = beside_over (lives_in ms) (kept_in ms).fates x fate.Open (kept_fated ms) i
 
-    abbrev f : AtLink ms x
-    f = at_link hosts ms l x (beside_of (lives_in ms) (kept_in ms).fates x fate.Open i)
+    abbrev f : AtLink hosts ms x
+    f = at_link hosts ms l x ours (beside_of (lives_in ms) (kept_in ms).fates x fate.Open i)
         (beside_over (lives_in ms) (kept_in ms).fates x fate.Open (kept_fated ms) i) kind
 
     abbrev n : ℕ
@@ -116,7 +121,7 @@ module _ (hosts : List Host) (ms : List Moment) (l : Lawful hosts ms) where
       by true e =
           let now : (receiver_now numbered x.peer (suc n) (own_calls x.host x.peer ms)).first c ≡ true =
           ap (λ (r : Receiver). r.first c) (sym (closes.same hosts ms l x f)) ∙ e in
-          absurd (never_closed hosts ms l x i kind n end_now
+          absurd (never_closed hosts ms l x ours i kind n end_now
           (subst (λ (k : ℕ). HasClosed numbered x.peer (suc n) k (own_calls x.host x.peer ms))
           (closes.place hosts ms l x f).1
           (closed_first numbered x.peer (suc n) c (own_calls x.host x.peer ms) now)))
@@ -142,7 +147,7 @@ module _ (hosts : List Host) (ms : List Moment) (l : Lawful hosts ms) where
 
       taken : (end_of (key_of x) ms).taken ≡ true
       taken = sym (second v true (end_of (key_of x) ms).gone (end_of (key_of x) ms).taken
-          (sym is ∙ same ∙ (fits_now hosts ms l x fate.Open i).both.1 refl))
+          (sym is ∙ same ∙ (fits_now hosts ms l x fate.Open ours i).both.1 refl))
 
       now : IsClosedByPartner ms x
       now = record {
@@ -151,21 +156,21 @@ module _ (hosts : List Host) (ms : List Moment) (l : Lawful hosts ms) where
         goes = goes;
         end = f.end;
         closed = ap (λ (e : End). e.taken)
-            (sym (entry_is (all_ours hosts) ms (lawful_among hosts ms l) x.host x.peer (refl, refl) x.socket x.foreign f.end.end (closes.at_it hosts ms l x f).0 (closes.own hosts ms l x f) f.end.foreign).0) ∙ taken;
+            (sym (entry_is hosts ms l x.host x.peer ours x.socket x.foreign f.end.end (closes.at_it hosts ms l x f).0 (closes.own hosts ms l x f) f.end.foreign).0) ∙ taken;
         link = f.link;
         linked = f.linked;
         unclosed = λ h.
-            never_closed hosts ms l x i kind n end_now
+            never_closed hosts ms l x ours i kind n end_now
             (subst (λ (k : ℕ). HasClosed numbered x.peer k
             (name_now numbered x.peer (own_calls x.host x.peer ms) x.socket x.foreign) (own_calls x.host x.peer ms))
             (closes.place_is hosts ms l x f) h);
       }
 
-    counts_all : x.messages ≡ length (texts_on x (link_of (crossings_of ms) x) (crossings_of ms))
+    pub counts_all : x.messages ≡ length (texts_on x (link_of (crossings_of ms) x) (crossings_of ms))
     counts_all =
         (closes.going hosts ms l x f).messages ∙ took_all stream inv c end unclosed ∙ sym (came_as hosts ms l x f)
         ∙ ap (λ (o : Option ℕ). length (texts_on x o (crossings_of ms)))
-        (sym (end_link hosts ms l (together hosts) x (contains x (lives_in ms) i_in) goes f.end ∙ f.linked))
+        (sym (end_link hosts ms l (together hosts) x (among_now hosts ms x ours (contains x (lives_in ms) i_in)) goes f.end ∙ f.linked))
 
 -- ---- the two lives of a connection have one link
 
@@ -187,15 +192,15 @@ record PartnerAt (log : List Crossing) (x : Life) : Type 0 where
   flow : message.flow ≡ control_flow x.peer x.host
   crossed : CrossedAt x.partner_stamp (crossing.In message) log
 
-module _ (hosts : List Host) (ms : List Moment) (l : Lawful hosts ms) where
+module _ (hosts : Network) (ms : List Moment) (l : Lawful hosts ms) where
   abbrev log : List Crossing
   log = crossings_of ms
 
-  own_at : (x : Life) → IsOf x (lives_in ms) → OwnAt (crossings_of ms) x
-  own_at x i =
-      let b : LinkedBook (crossings_of ms) (lives_in ms) = linked hosts ms l in
+  own_at : (x : Life) → AreOurs hosts x.host x.peer → IsOf x (lives_in ms) → OwnAt (crossings_of ms) x
+  own_at x ours i =
+      let b : LinkedBook hosts (crossings_of ms) (lives_among hosts.strange (mixed_kept hosts.strange ms).book.lives) = linked hosts ms l in
       let r : (p : Linked) × Contains b.links p × (p.life ≡ x) =
-      life_of_link x b.links (subst (λ (ys : List Life). IsOf x ys) (sym b.all) i) in
+      life_of_link x b.links (subst (λ (ys : List Life). IsOf x ys) (sym b.all) (is_of x (lives_among hosts.strange (mixed_kept hosts.strange ms).book.lives) (among_now hosts ms x ours (contains x (lives_in ms) i)))) in
       subst (λ (y : Life). OwnAt (crossings_of ms) y) r.2
       (record {
         message = (b.first r.0 r.1).asked.own.message;
@@ -204,11 +209,11 @@ module _ (hosts : List Host) (ms : List Moment) (l : Lawful hosts ms) where
             (b.first r.0 r.1).asked.own.crossed;
       })
 
-  partner_at : (x : Life) → IsOf x (lives_in ms) → PartnerAt (crossings_of ms) x
-  partner_at x i =
-      let b : LinkedBook (crossings_of ms) (lives_in ms) = linked hosts ms l in
+  partner_at : (x : Life) → AreOurs hosts x.host x.peer → IsOf x (lives_in ms) → PartnerAt (crossings_of ms) x
+  partner_at x ours i =
+      let b : LinkedBook hosts (crossings_of ms) (lives_among hosts.strange (mixed_kept hosts.strange ms).book.lives) = linked hosts ms l in
       let r : (p : Linked) × Contains b.links p × (p.life ≡ x) =
-      life_of_link x b.links (subst (λ (ys : List Life). IsOf x ys) (sym b.all) i) in
+      life_of_link x b.links (subst (λ (ys : List Life). IsOf x ys) (sym b.all) (is_of x (lives_among hosts.strange (mixed_kept hosts.strange ms).book.lives) (among_now hosts ms x ours (contains x (lives_in ms) i)))) in
       subst (λ (y : Life). PartnerAt (crossings_of ms) y) r.2
       (record {
         message = (b.first r.0 r.1).asked.partner.message;
@@ -217,17 +222,17 @@ module _ (hosts : List Host) (ms : List Moment) (l : Lawful hosts ms) where
         crossed = (b.first r.0 r.1).asked.partner.crossed;
       })
 
-  module _ (x s : Life) (here : IsOf x (lives_in ms)) (there : IsOf s (lives_in ms))
+  module _ (x s : Life) (ours : AreOurs hosts x.host x.peer) (here : IsOf x (lives_in ms)) (there : IsOf s (lives_in ms))
       (m : Match (crossings_of ms) x s) where
     abbrev rts : OwnAt (crossings_of ms) x
-    rts = own_at x here
+    rts = own_at x ours here
 
     abbrev heard : PartnerAt (crossings_of ms) s
-    heard = partner_at s there
+    heard = partner_at s (ours_sender hosts m ours) there
 
     went : WentAt heard.message x.own_stamp (crossings_of ms)
     went =
-        went_at hosts (crossings_of ms) l.1 s.partner_stamp x.own_stamp heard.message heard.crossed
+        went_at hosts.all (crossings_of ms) l.1 s.partner_stamp x.own_stamp heard.message heard.crossed
         (ap (λ (g : Flow). last_out g (before s.partner_stamp (crossings_of ms))) heard.flow
         ∙ some_place s (last_out (control_flow s.peer s.host) (before s.partner_stamp (crossings_of ms)))
         (own_request x) m.answered)
@@ -249,14 +254,14 @@ module _ (hosts : List Host) (ms : List Moment) (l : Lawful hosts ms) where
         ∙ sym (named_there true s.peer s.host s.foreign s.socket s.partner_stamp heard.message
         (crossings_of ms) heard.flow heard.crossed)
 
-    one_link : link_of (crossings_of ms) x ≡ link_of (crossings_of ms) s
+    pub one_link : link_of (crossings_of ms) x ≡ link_of (crossings_of ms) s
     one_link =
         ap (λ (v : Bool). if v then own_named (crossings_of ms) x else partner_named (crossings_of ms) x) m.receiving
         ∙ names_same
         ∙ sym (ap (λ (v : Bool). if v then own_named (crossings_of ms) s else partner_named (crossings_of ms) s)
         (send_odd s.socket m.sending))
 
-    flows : (k : ℕ) → flow_of x k ≡ flow_of s k
+    pub flows : (k : ℕ) → flow_of x k ≡ flow_of s k
     flows k =
         ap (λ (v : Bool). if v then to x.peer x.host else to x.host x.peer) m.receiving
         ∙ ap (λ (h : Host). to h x.host) m.peers.0 ∙ ap (λ (h : Host). to s.host h) (sym m.peers.1)
@@ -266,13 +271,13 @@ module _ (hosts : List Host) (ms : List Moment) (l : Lawful hosts ms) where
 
 -- ---- lives, later
 
-record LaterLife (ms : List Moment) (x : Life) : Type 0 where
-  life : Life
-  there : IsOf life (lives_in ms)
-  names : Named x life
-  counts : x.messages ≤ life.messages
+pub record LaterLife (ms : List Moment) (x : Life) : Type 0 where
+  pub life : Life
+  pub there : IsOf life (lives_in ms)
+  pub names : Named x life
+  pub counts : x.messages ≤ life.messages
 
-later_life : (newer older : List Moment) (x : Life) → IsOf x (lives_in older) → LaterLife (newer ++ older) x
+pub later_life : (newer older : List Moment) (x : Life) → IsOf x (lives_in older) → LaterLife (newer ++ older) x
 later_life [] older x i = record { life = x; there = i; names = named_itself x; counts = omega arith }
 later_life (y ∷ newer) older x i =
     let o : LaterLife (newer ++ older) x = later_life newer older x i in
@@ -297,7 +302,7 @@ later_life (y ∷ newer) older x i =
     }
 
 -- what is so of a life, but for what it counts, has and was granted, is so of one with its names
-abbrev bare : Host → ℕ → Host → ℕ → ℕ → ℕ → Life
+abbrev pub bare : Host → ℕ → Host → ℕ → ℕ → ℕ → Life
 bare host socket peer foreign own partner = record {
   host = host;
   socket = socket;
@@ -312,10 +317,10 @@ bare host socket peer foreign own partner = record {
   ended = false;
 }
 
-abbrev bare_of : Life → Life
+abbrev pub bare_of : Life → Life
 bare_of x = bare x.host x.socket x.peer x.foreign x.own_stamp x.partner_stamp
 
-by_names : (P : Life → Type 0) (x y : Life) → Named x y → P (bare_of x) → P (bare_of y)
+pub by_names : (P : Life → Type 0) (x y : Life) → Named x y → P (bare_of x) → P (bare_of y)
 by_names P x y n p =
     subst (λ (k : Host). P (bare k y.socket y.peer y.foreign y.own_stamp y.partner_stamp)) (sym n.host)
     (subst (λ (k : ℕ). P (bare x.host k y.peer y.foreign y.own_stamp y.partner_stamp)) (sym n.socket)
@@ -343,16 +348,17 @@ counted_by log place m count x less s = record {
 
 -- ---- who granted what was sent
 
-granter : (hosts : List Host) (ms : List Moment) → Lawful hosts ms → (s : Life) → IsOf s (lives_in ms) → sends s ≡ true
+pub granter : (hosts : Network) (ms : List Moment) → Lawful hosts ms → (s : Life) → AreOurs hosts s.host s.peer
+    → IsOf s (lives_in ms) → sends s ≡ true
     → 1 ≤ s.messages → (r : Life) × IsOf r (lives_in ms) × Match (crossings_of ms) r s
-granter hosts ms l s i kind some = elim (of_parts (since s.peer s.host ms) s (lives_in ms) i) [
+granter hosts ms l s ours i kind some = elim (of_parts (since s.peer s.host ms) s (lives_in ms) i) [
   | inl early ↦ old (settled_s hosts s.peer s.host (Own s.peer s.host) (Heard s.peer s.host)
-      (all_given hosts s.peer s.host) ms l s early refl refl kind).granted
+      (all_given hosts s.peer s.host (ours.1, ours.0)) ms l s early refl refl kind).granted
   | inr late ↦
       (let w : Whole s.peer s.host (Own s.peer s.host) (Heard s.peer s.host) ms =
-      whole hosts s.peer s.host (Own s.peer s.host) (Heard s.peer s.host) (all_given hosts s.peer s.host) ms l in
+      whole hosts s.peer s.host (Own s.peer s.host) (Heard s.peer s.host) (all_given hosts s.peer s.host (ours.1, ours.0)) ms l in
       new w (granted_of s.peer s.host (Own s.peer s.host) (Heard s.peer s.host) ms
-      ((all_given hosts s.peer s.host).matched ms l) w s late refl refl kind))
+      ((all_given hosts s.peer s.host (ours.1, ours.0)).matched ms l) w s late refl refl kind))
 ] where
   none : s.messages ≡ 0 → (r : Life) × IsOf r (lives_in ms) × Match (crossings_of ms) r s
   none e = absurd (omega (arith, e, some))
@@ -380,10 +386,11 @@ match_sender log x s t n m = record {
   answered = request_named log s t n ∙ m.answered;
 }
 
-match_later : (hosts : List Host) (newer older : List Moment) → Lawful hosts older → (x s y t : Life)
+pub match_later : (hosts : Network) (newer older : List Moment) → Lawful hosts older → (x s y t : Life)
+    → AreOurs hosts x.host x.peer
     → IsOf x (lives_in older) → IsOf s (lives_in older) → Named x y → Named s t → Match (crossings_of older) x s
     → Match (crossings_of (newer ++ older)) y t
-match_later hosts newer older l x s y t i j n k m =
+match_later hosts newer older l x s y t ours i j n k m =
     match_named (crossings_of (newer ++ older)) x y t n (match_sender (crossings_of (newer ++ older)) x s t k
     (subst (λ (log : List Crossing). Match log x s) (sym (all_crossings newer older))
     (record {
@@ -391,13 +398,13 @@ match_later hosts newer older l x s y t i j n k m =
       sending = m.sending;
       peers = m.peers;
       sockets = m.sockets;
-      asked = request_grows hosts older l (crossings_of newer) x (contains x (lives_in older) i) ∙ m.asked;
-      answered = request_grows hosts older l (crossings_of newer) s (contains s (lives_in older) j) ∙ m.answered;
+      asked = request_grows hosts older l (crossings_of newer) x ours (contains x (lives_in older) i) ∙ m.asked;
+      answered = request_grows hosts older l (crossings_of newer) s (ours_sender hosts m ours) (contains s (lives_in older) j) ∙ m.answered;
     })))
 
 -- ---- a message that was taken
 
-link_known : (x : Life) (o : Option ℕ) (f : Flow) → option_map (flow_of x) o ≡ Some f
+pub link_known : (x : Life) (o : Option ℕ) (f : Flow) → option_map (flow_of x) o ≡ Some f
     → (k : ℕ) × (o ≡ Some k) × (flow_of x k ≡ f)
 link_known x None f e = absurd (let no : None ≡ Some f = e in cc)
 link_known x (Some k) f e = (k, refl, (let same : Some (flow_of x k) ≡ Some f = e in cc))
@@ -407,9 +414,9 @@ flow_same : (x s : Life) (o : Option ℕ) → ((k : ℕ) → flow_of x k ≡ flo
 flow_same x s None same = refl
 flow_same x s (Some k) same = ap (λ (f : Flow). Some f) (same k)
 
-module _ (hosts : List Host) (newer older : List Moment) (f : Flow) (m : HostMessage)
+module _ (hosts : Network) (newer older : List Moment) (f : Flow) (m : HostMessage)
     (l : Lawful hosts (newer ++ Crossed (crossing.In m) ∷ older)) (out : SinceLastOut f (crossings_of older))
-    (is_m : out.message ≡ m) (off : (f.link.0 == 0) ≡ false) where
+    (is_m : out.message ≡ m) (off : (f.link.0 == 0) ≡ false) (ours : AreOurs hosts f.source f.destination) where
   abbrev all : List Moment
   all = newer ++ Crossed (crossing.In m) ∷ older
 
@@ -450,15 +457,18 @@ module _ (hosts : List Host) (newer older : List Moment) (f : Flow) (m : HostMes
   off_out = ap (λ (g : Flow). g.link.0 == 0) out.flow ∙ off
 
   -- the sending life as it was then
-  abbrev was : (x : Life) × Contains (lives_in older) x × IsSentIn (crossings_of older)
+  abbrev was : (x : Life) × Contains (lives_among hosts.strange (mixed_kept hosts.strange older).book.lives) x × IsSentIn (crossings_of older)
       (length out.before) out.message x
-  was = (firsts hosts older old).sent (length out.before) out.message out_there off_out
+  was = sent_in hosts older old (length out.before) out.message (subst (λ (g : Flow). AreOurs hosts g.source g.destination) (sym out.flow) ours) out_there off_out
 
   abbrev s : Life
   s = was.0
 
   s_in : IsOf s (lives_in older)
-  s_in = is_of s (lives_in older) was.1
+  s_in = is_of s (lives_in older) (now_kept hosts older s was.1).0
+
+  of_s : AreOurs hosts s.host s.peer
+  of_s = (now_kept hosts older s was.1).1
 
   sent : IsSentIn (crossings_of older) (length out.before) out.message s
   sent = was.2
@@ -487,8 +497,8 @@ module _ (hosts : List Host) (newer older : List Moment) (f : Flow) (m : HostMes
     below = let less : length out.before < length (crossings_of older) = out_less in omega (arith, less)
 
     link : link_of (more ++ crossings_of older) s ≡ link_of (crossings_of older) s
-    link = link_later more (crossings_of older) s (own_below hosts older old s s_in)
-        (partner_below hosts older old s s_in)
+    link = link_later more (crossings_of older) s (own_below hosts older old s of_s s_in)
+        (partner_below hosts older old s of_s s_in)
 
   counted : IsCounted whole_log (length out.before) out.message now.life
   counted =
@@ -502,12 +512,18 @@ module _ (hosts : List Host) (newer older : List Moment) (f : Flow) (m : HostMes
   -- ---- the receiving life that matches it
 
   abbrev gave : (r : Life) × IsOf r (lives_in older) × Match (crossings_of older) r s
-  gave = granter hosts older old s s_in kind
+  gave = granter hosts older old s of_s s_in kind
       (let c : length (texts_on s (link_of (crossings_of older) s) (before (length out.before) (crossings_of older)))
       < s.messages = sent.counted in omega (arith, c))
 
   abbrev r : Life
   r = gave.0
+
+  of_r : AreOurs hosts r.host r.peer
+  of_r = ours_receiver hosts gave.2 of_s
+
+  of_now : AreOurs hosts now.life.host now.life.peer
+  of_now = ours_of hosts now.life s.host s.peer of_s (now.names.host, now.names.peer)
 
   abbrev r_now : LaterLife all r
   r_now = subst (λ (ns : List Moment). LaterLife ns r) (append_assoc newer (Crossed (crossing.In m) ∷ []) older)
@@ -518,7 +534,7 @@ module _ (hosts : List Host) (newer older : List Moment) (f : Flow) (m : HostMes
       subst (λ (ns : List Moment). Match (crossings_of ns) r_now.life now.life)
       (append_assoc newer (Crossed (crossing.In m) ∷ []) older)
       (match_later hosts (newer ++ Crossed
-      (crossing.In m) ∷ []) older old r s r_now.life now.life gave.1 s_in r_now.names now.names gave.2)
+      (crossing.In m) ∷ []) older old r s r_now.life now.life of_r gave.1 s_in r_now.names now.names gave.2)
 
   module _ (x : Life) (i : IsBeside x fate.Open (kept_in all).book.lives (kept_in all).fates)
       (match : Match whole_log x now.life) where
@@ -527,24 +543,24 @@ module _ (hosts : List Host) (newer older : List Moment) (f : Flow) (m : HostMes
 
     same : x ≡ r_now.life
     same =
-        one_receiver hosts Own Heard (λ a b. all_given hosts a b) all l x r_now.life now.life x_in r_now.there match still
+        one_receiver hosts all l x r_now.life now.life of_now x_in r_now.there match still
 
     own : x.own_stamp < length (crossings_of older)
     own =
         let e : x.own_stamp ≡ r.own_stamp = ap (λ (y : Life). y.own_stamp) same ∙ r_now.names.own in
-        let less : r.own_stamp < length (crossings_of older) = own_below hosts older old r gave.1 in
+        let less : r.own_stamp < length (crossings_of older) = own_below hosts older old r of_r gave.1 in
         omega (arith, e, less)
 
     partner : x.partner_stamp < length (crossings_of older)
     partner =
         let e : x.partner_stamp ≡ r.partner_stamp = ap (λ (y : Life). y.partner_stamp) same ∙ r_now.names.partner in
-        let less : r.partner_stamp < length (crossings_of older) = partner_below hosts older old r gave.1 in
+        let less : r.partner_stamp < length (crossings_of older) = partner_below hosts older old r of_r gave.1 in
         omega (arith, e, less)
 
     flow : option_map (flow_of x) (link_of whole_log x) ≡ Some out.message.flow
     flow =
-        ap (λ (o : Option ℕ). option_map (flow_of x) o) (one_link hosts all l x now.life x_in now.there match)
-        ∙ flow_same x now.life (link_of whole_log now.life) (flows hosts all l x now.life x_in now.there match)
+        ap (λ (o : Option ℕ). option_map (flow_of x) o) (one_link hosts all l x now.life (ours_receiver hosts match of_now) x_in now.there match)
+        ∙ flow_same x now.life (link_of whole_log now.life) (flows hosts all l x now.life (ours_receiver hosts match of_now) x_in now.there match)
         ∙ counted.flow
 
     abbrev on : (k : ℕ) × (link_of whole_log x ≡ Some k) × (flow_of x k ≡ out.message.flow)
@@ -576,7 +592,7 @@ module _ (hosts : List Host) (newer older : List Moment) (f : Flow) (m : HostMes
           ap (λ (o : Option ℕ). length (texts_on x o (before (length (crossings_of older)) whole_log))) on.1
           ∙ ap (λ (xs : List Crossing). length (texts_for x on.0 xs)) before_is in
           let all_is : x.messages ≡ length (texts_for x on.0 whole_log) =
-          counts_all hosts all l x i match.receiving ∙ ap (λ (o : Option ℕ). length (texts_on x o whole_log)) on.1 in
+          counts_all hosts all l x (ours_receiver hosts match of_now) i match.receiving ∙ ap (λ (o : Option ℕ). length (texts_on x o whole_log)) on.1 in
           let less : length (texts_for x on.0 (crossings_of older)) < length (texts_for x on.0 whole_log) = fewer in
           omega (arith, was_is, all_is, less));
     }
@@ -623,13 +639,13 @@ parted (Crossed d ∷ ms) (b ∷ newer) older c e =
 abbrev Arrival : List Moment → List Crossing → Flow → Type 0
 Arrival ms older f = HasArrived (crossings_of ms) older (kept_in ms).book.lives (kept_in ms).fates f
 
-arrival : (hosts : List Host) (later since older : List Moment) (c : Crossing) (f : Flow) (m : HostMessage)
+arrival : (hosts : Network) (later since older : List Moment) (c : Crossing) (f : Flow) (m : HostMessage)
     → Lawful hosts (later ++ Crossed c ∷ (since ++ Crossed (crossing.In m) ∷ older))
     → (out : SinceLastOut f (crossings_of older)) → out.message ≡ m
-    → went_out f (crossings_of since) ≡ false → (f.link.0 == 0) ≡ false
+    → went_out f (crossings_of since) ≡ false → (f.link.0 == 0) ≡ false → AreOurs hosts f.source f.destination
     → Arrival (later ++ Crossed c ∷ (since ++ Crossed (crossing.In m) ∷ older))
     (crossings_of (since ++ Crossed (crossing.In m) ∷ older)) f
-arrival hosts later since older c f m l out is_m none off =
+arrival hosts later since older c f m l out is_m none off ours =
     subst (λ (ns : List Moment). Arrival ns (crossings_of (since ++ Crossed (crossing.In m) ∷ older)) f)
     (append_assoc later (Crossed c ∷ since) (Crossed (crossing.In m) ∷ older)) (record {
       out = record {
@@ -643,19 +659,19 @@ arrival hosts later since older c f m l out is_m none off =
         flow = out.flow;
         last = none_out f (crossings_of since) (crossing.In m ∷ out.since) none out.last;
       };
-      sender = (now hosts newer older f m k out is_m off).life;
-      there = contains (now hosts newer older f m k out is_m off).life
-          (lives_in (newer ++ Crossed (crossing.In m) ∷ older)) (now hosts newer older f m k out is_m off).there;
-      sending = sending hosts newer older f m k out is_m off;
-      sent = counted hosts newer older f m k out is_m off;
+      sender = (now hosts newer older f m k out is_m off ours).life;
+      there = contains (now hosts newer older f m k out is_m off ours).life
+          (lives_in (newer ++ Crossed (crossing.In m) ∷ older)) (now hosts newer older f m k out is_m off ours).there;
+      sending = sending hosts newer older f m k out is_m off ours;
+      sent = counted hosts newer older f m k out is_m off ours;
       place = length (crossings_of older);
-      after = out_less hosts newer older f m k out is_m off;
+      after = out_less hosts newer older f m k out is_m off ours;
       taken = subst (λ (log : List Crossing). CrossedAt (length (crossings_of older)) (crossing.In out.message) log)
           (sym (all_crossings since (Crossed (crossing.In m) ∷ older)))
           (subst (λ (z : HostMessage). CrossedAt (length (crossings_of older)) (crossing.In out.message)
           (crossings_of since ++ crossing.In z ∷ crossings_of older)) is_m
           (crossed_end (crossings_of since) (crossings_of older) (crossing.In out.message)));
-      arrived = λ x i match. arrived hosts newer older f m k out is_m off x i match;
+      arrived = λ x i match. arrived hosts newer older f m k out is_m off ours x i match;
     }) where
       newer : List Moment
       newer = later ++ Crossed c ∷ since
@@ -664,34 +680,43 @@ arrival hosts later since older c f m l out is_m none off =
       k = subst (λ (ns : List Moment). Lawful hosts ns)
           (sym (append_assoc later (Crossed c ∷ since) (Crossed (crossing.In m) ∷ older))) l
 
-pub arrived_book : (hosts : List Host) (ms : List Moment) → Lawful hosts ms
+-- where a host with a program got RFNM for what it sent to another, it arrived
+pub answers : (hosts : Network) (ms : List Moment) → Lawful hosts ms → (newer older : List Crossing) (f : Flow)
+    → crossings_of ms ≡ newer ++ crossing.Answer answer.Rfnm f ∷ older
+    → (f.link.0 == 0) ≡ false → AreOurs hosts f.source f.destination → Arrival ms older f
+answers hosts ms l newer older f e off ours =
+    let p : Parted ms (crossing.Answer answer.Rfnm f) older =
+    parted ms newer older (crossing.Answer answer.Rfnm f) e in
+    let k : Lawful hosts (p.later ++ Crossed (crossing.Answer answer.Rfnm f) ∷ p.earlier) =
+    subst (λ (ns : List Moment). Lawful hosts ns) p.is l in
+    let h : moments.HasArrived f p.earlier = answered hosts p.earlier f ours
+    (rest_lawful hosts p.later (Crossed (crossing.Answer answer.Rfnm f) ∷ p.earlier) k) in
+    let along : p.later ++ Crossed (crossing.Answer answer.Rfnm f) ∷ p.earlier
+    ≡ p.later ++ Crossed (crossing.Answer answer.Rfnm f) ∷
+    (h.since ++ Crossed (crossing.In h.message) ∷ h.before) =
+    ap (λ (ns : List Moment). p.later ++ Crossed (crossing.Answer answer.Rfnm f) ∷ ns) h.is in
+    subst (λ (ns : List Moment). Arrival ns older f) (sym (p.is ∙ along))
+    (subst (λ (log : List Crossing). Arrival
+    (p.later ++ Crossed (crossing.Answer answer.Rfnm f) ∷
+    (h.since ++ Crossed (crossing.In h.message) ∷ h.before)) log f)
+    (ap (λ (ns : List Moment). crossings_of ns) (sym h.is) ∙ p.below)
+    (arrival hosts p.later h.since h.before (crossing.Answer answer.Rfnm f) f h.message
+    (subst (λ (ns : List Moment). Lawful hosts ns) along k) h.out h.whole h.last off ours))
+
+-- an open one whose partner's CLS has come has all that it sent
+pub closed_all : (hosts : Network) (ms : List Moment) → Lawful hosts ms → (x s : Life) (own : Bool)
+    → AreOurs hosts x.host x.peer → IsBeside x fate.Open (kept_in ms).book.lives (kept_in ms).fates
+    → stage (contacts_of ms) x (crossings_of ms) ≡ Going own true → Contains (kept_in ms).book.lives s → Match (crossings_of ms) x s → (x.bits ≡ s.bits) × (x.messages ≡ s.messages)
+unfolding closed_by_partner
+closed_all hosts ms l x s own ours i is there m = closes_whole hosts ms l x ours (closed_by_partner hosts ms l x ours i m.receiving own is) ours s there m
+
+pub arrived_book : (hosts : List Host) (ms : List Moment) → Lawful (all_ours hosts) ms
     → ArrivedBook (contacts_of ms) (crossings_of ms) (kept_in ms).book.lives (kept_in ms).fates
 arrived_book hosts ms l = record {
-  all = λ x i kind. counts_all hosts ms l x i kind;
-  closed = λ x s own i is there m. closes_whole hosts ms l x
-      (closed_by_partner hosts ms l x i m.receiving own is) s there m;
-  answered = each;
-} where
-  each : (newer older : List Crossing) (f : Flow) → crossings_of ms ≡ newer ++ crossing.Answer answer.Rfnm f ∷ older
-      → (f.link.0 == 0) ≡ false → Arrival ms older f
-  each newer older f e off =
-      let p : Parted ms (crossing.Answer answer.Rfnm f) older =
-      parted ms newer older (crossing.Answer answer.Rfnm f) e in
-      let k : Lawful hosts (p.later ++ Crossed (crossing.Answer answer.Rfnm f) ∷ p.earlier) =
-      subst (λ (ns : List Moment). Lawful hosts ns) p.is l in
-      let h : moments.HasArrived f p.earlier = answered hosts p.earlier f
-      (rest_lawful hosts p.later (Crossed (crossing.Answer answer.Rfnm f) ∷ p.earlier) k) in
-      let along : p.later ++ Crossed (crossing.Answer answer.Rfnm f) ∷ p.earlier
-      ≡ p.later ++ Crossed (crossing.Answer answer.Rfnm f) ∷
-      (h.since ++ Crossed (crossing.In h.message) ∷ h.before) =
-      ap (λ (ns : List Moment). p.later ++ Crossed (crossing.Answer answer.Rfnm f) ∷ ns) h.is in
-      subst (λ (ns : List Moment). Arrival ns older f) (sym (p.is ∙ along))
-      (subst (λ (log : List Crossing). Arrival
-      (p.later ++ Crossed (crossing.Answer answer.Rfnm f) ∷
-      (h.since ++ Crossed (crossing.In h.message) ∷ h.before)) log f)
-      (ap (λ (ns : List Moment). crossings_of ns) (sym h.is) ∙ p.below)
-      (arrival hosts p.later h.since h.before (crossing.Answer answer.Rfnm f) f h.message
-      (subst (λ (ns : List Moment). Lawful hosts ns) along k) h.out h.whole h.last off))
+  all = λ x i kind. counts_all (all_ours hosts) ms l x (refl, refl) i kind;
+  closed = λ x s own i is there m. closed_all (all_ours hosts) ms l x s own (refl, refl) i is there m;
+  answered = λ newer older f e off. answers (all_ours hosts) ms l newer older f e off (refl, refl);
+}
 
 -- ---- worlds
 
@@ -704,4 +729,4 @@ world_arrived seen hosts w lawful =
     (sym lawful.whole.crossings)
     (subst (λ (k : Kept). ArrivedBook (contacts_of lawful.whole.moments)
     (crossings_of lawful.whole.moments) k.book.lives k.fates) (sym lawful.whole.kept)
-    (arrived_book hosts lawful.whole.moments (lawful.addresses, book_run seen hosts w lawful, lawful.whole.timeline))))
+    (arrived_book hosts lawful.whole.moments (book_lawful seen hosts w lawful))))

@@ -24,7 +24,7 @@ use Rattle.world_keeps_streams.proofs.Calls.Leads.{is_reset}
 use Rattle.world_keeps_streams.proofs.Deeds.Effects.{Among, found_among}
 use Rattle.world_keeps_streams.proofs.Ends.Marks.{never}
 use Rattle.world_keeps_streams.proofs.Ends.Owes.{AData, AReply, AReset, Outs, Several, outs, pair_is}
-use Rattle.world_keeps_streams.proofs.Requests.Sides.{LawfulAmong, below_among, coupled_among}
+use Rattle.world_keeps_streams.proofs.Requests.Sides.{Lawful, below, coupled_in}
 use Rattle.world_keeps_streams.proofs.Steps.Streams.{all_allowed}
 use Rattle.world_keeps_streams.proofs.Ends.Holds.{AllOn, Has, has_calls, holds, on_if, on_message, on_next, on_request}
 use Rattle.world_keeps_streams.proofs.Facts.{no_zero}
@@ -75,16 +75,16 @@ module _ (hosts : Network) (a b : Host) (ours : AreOurs hosts a b) (l : ℕ) (of
       is_some ((pair a b (events_of ms)).out l) ≡ true → Resting (pair a b (events_of ms))
       ⊎ Has (holds l) (pair_with b (program a ms).peers).entries
 
-  agrees : (ms : List Moment) → LawfulAmong hosts ms
+  agrees : (ms : List Moment) → Lawful hosts ms
       → Agrees (pair_with b (program a ms).peers) (pair a b (events_of ms))
-  agrees ms lawful = story_agrees hosts ms a b ours (coupled_among hosts ms lawful).story
+  agrees ms lawful = story_agrees hosts ms a b ours (coupled_in hosts ms lawful).story
 
-  on_now : (ms : List Moment) → LawfulAmong hosts ms → is_some ((pair a b (events_of ms)).out l) ≡ true
+  on_now : (ms : List Moment) → Lawful hosts ms → is_some ((pair a b (events_of ms)).out l) ≡ true
       → is_busy (pair_with b (program a ms).peers).busy l ≡ true
   on_now ms lawful out = sym ((agrees ms lawful).busy l) ∙ out
 
   -- ends are those of a pair that is ready
-  ready_now : (ms : List Moment) → LawfulAmong hosts ms → Has (holds l) (pair_with b (program a ms).peers).entries
+  ready_now : (ms : List Moment) → Lawful hosts ms → Has (holds l) (pair_with b (program a ms).peers).entries
       → (pair a b (events_of ms)).phase ≡ phase.Ready
   ready_now ms lawful h = by (is_ready (pair_with b (program a ms).peers).phase) refl where
     by : (v : Bool) → is_ready (pair_with b (program a ms).peers).phase ≡ v
@@ -94,7 +94,7 @@ module _ (hosts : Network) (a b : Host) (ours : AreOurs hosts a b) (l : ℕ) (of
         absurd (subst (λ (es : List Entry). Among h.0 es) (idle hosts lawful.0 ms lawful.1 lawful.2 a b ours e).0 h.1)
 
   -- which stays so
-  keep : (y : Moment) (ms : List Moment) → LawfulAmong hosts (y ∷ ms)
+  keep : (y : Moment) (ms : List Moment) → Lawful hosts (y ∷ ms)
       → (pair a b (events_of (y ∷ ms))).phase ≡ phase.Ready
       → stay.takes_reset a b (event_in y) ≡ false → AllOn l (calls_by a b y ms)
       → Has (holds l) (pair_with b (program a ms).peers).entries
@@ -106,8 +106,8 @@ module _ (hosts : Network) (a b : Host) (ours : AreOurs hosts a b) (l : ℕ) (of
       (λ (cs : List calls.Moment). AreAllowed numbered b (suc zero) cs) is
       (all_allowed hosts lawful.0 (suc zero) (no_zero zero) a b ours (y ∷ ms) lawful.1 lawful.2)) on
       (subst (λ (es : List Entry). Has (holds l) es) (sym was.1) h))) where
-        lower : LawfulAmong hosts ms
-        lower = below_among hosts y ms lawful
+        lower : Lawful hosts ms
+        lower = below hosts y ms lawful
 
         now : Chained a b (y ∷ ms)
         now = chain hosts lawful.0 (y ∷ ms) lawful.1 lawful.2 a b ours
@@ -125,12 +125,12 @@ module _ (hosts : Network) (a b : Host) (ours : AreOurs hosts a b) (l : ℕ) (of
         is = ap (λ (v : Bool). if v then calls_by a b y ms ++ own_calls a b ms else []) kept
 
   -- nothing becomes of the pair by the law
-  quiet : (y : Moment) (ms : List Moment) → LawfulAmong hosts (y ∷ ms) → pair a b (events_of (y ∷ ms)) ≡ pair a b
+  quiet : (y : Moment) (ms : List Moment) → Lawful hosts (y ∷ ms) → pair a b (events_of (y ∷ ms)) ≡ pair a b
       (events_of ms) → stay.takes_reset a b (event_in y) ≡ false → (is_busy
       (pair_with b (program a ms).peers).busy l ≡ true → AllOn l (calls_by a b y ms)) → Claim ms → Claim (y ∷ ms)
   quiet y ms lawful same none on old out = by (old was) where
-    lower : LawfulAmong hosts ms
-    lower = below_among hosts y ms lawful
+    lower : Lawful hosts ms
+    lower = below hosts y ms lawful
 
     was : is_some ((pair a b (events_of ms)).out l) ≡ true
     was = ap (λ (p : Pair). is_some (p.out l)) (sym same) ∙ out
@@ -146,18 +146,18 @@ module _ (hosts : Network) (a b : Host) (ours : AreOurs hosts a b) (l : ℕ) (of
   apart k zero_link e = never (sym (eq-eqb l 0 (eqb-true l k e ∙ zero_link)) ∙ off_zero)
 
   -- what goes out to the peer
-  module _ (m : HostMessage) (ms : List Moment) (lawful : LawfulAmong hosts (Crossed (crossing.Out m) ∷ ms))
+  module _ (m : HostMessage) (ms : List Moment) (lawful : Lawful hosts (Crossed (crossing.Out m) ∷ ms))
       (from : a ≡ m.flow.source) (to : b ≡ m.flow.destination) (old : Claim ms) where
     abbrev y : Moment
     y = Crossed (crossing.Out m)
 
-    lower : LawfulAmong hosts ms
-    lower = below_among hosts (Crossed (crossing.Out m)) ms lawful
+    lower : Lawful hosts ms
+    lower = below hosts (Crossed (crossing.Out m)) ms lawful
 
     n : IsNext (program a ms) m
     n =
         subst (λ (h : Host). IsNext (program h ms) m) (sym from)
-        ((coupled_among hosts (Crossed (crossing.Out m) ∷ ms) lawful).story.0 (subst (λ (h : Host). hosts.strange h ≡ false) from ours.0))
+        ((coupled_in hosts (Crossed (crossing.Out m) ∷ ms) lawful).story.0 (subst (λ (h : Host). hosts.strange h ≡ false) from ours.0))
 
     with_peer : AreOurs hosts a n.peer.host
     with_peer = (ours.0, subst (λ (h : Host). hosts.strange h ≡ false) (to ∙ ap (λ (x : HostMessage). x.flow.destination) n.message) ours.1)
@@ -167,7 +167,7 @@ module _ (hosts : Network) (a b : Host) (ours : AreOurs hosts a b) (l : ℕ) (of
         subst (λ (h : Host). MaySend (pair h b (events_of ms)) m.flow.link.0 (message_on m.flow.link.0 m.text))
         (sym from)
         (subst (λ (h : Host). MaySend (pair m.flow.source h (events_of ms)) m.flow.link.0
-        (message_on m.flow.link.0 m.text)) (sym to) ((coupled_among hosts (Crossed (crossing.Out m) ∷ ms) lawful).run.1 (subst (λ (h : Host). hosts.strange h ≡ false) from ours.0, subst (λ (h : Host). hosts.strange h ≡ false) to ours.1)))
+        (message_on m.flow.link.0 m.text)) (sym to) ((coupled_in hosts (Crossed (crossing.Out m) ∷ ms) lawful).run.1 (subst (λ (h : Host). hosts.strange h ≡ false) from ours.0, subst (λ (h : Host). hosts.strange h ≡ false) to ours.1)))
 
     on : AllOn l (calls_by a b (Crossed (crossing.Out m)) ms)
     on =
@@ -269,7 +269,7 @@ module _ (hosts : Network) (a b : Host) (ours : AreOurs hosts a b) (l : ℕ) (of
   and_not true w e = e
   and_not false w e = refl
 
-  out_next : (m : HostMessage) (ms : List Moment) → LawfulAmong hosts (Crossed (crossing.Out m) ∷ ms) → Claim ms
+  out_next : (m : HostMessage) (ms : List Moment) → Lawful hosts (Crossed (crossing.Out m) ∷ ms) → Claim ms
       → Claim (Crossed (crossing.Out m) ∷ ms)
   out_next m ms lawful old = by (same_host a m.flow.source) (same_host b m.flow.destination) refl refl where
     away : (same_host a m.flow.source && same_host b m.flow.destination) ≡ false → Claim (Crossed (crossing.Out m) ∷ ms)
@@ -287,12 +287,12 @@ module _ (hosts : Network) (a b : Host) (ours : AreOurs hosts a b) (l : ℕ) (of
     by true false e f = away (and_not (same_host a m.flow.source) (same_host b m.flow.destination) f)
     by false w e f = away (ap (λ (v : Bool). v && same_host b m.flow.destination) e)
 
-  in_next : (m : HostMessage) (ms : List Moment) → LawfulAmong hosts (Crossed (crossing.In m) ∷ ms) → Claim ms
+  in_next : (m : HostMessage) (ms : List Moment) → Lawful hosts (Crossed (crossing.In m) ∷ ms) → Claim ms
       → Claim (Crossed (crossing.In m) ∷ ms)
   in_next m ms lawful old =
       by (same_host a m.flow.destination && same_host b m.flow.source) refl (message_on m.flow.link.0 m.text) refl where
-        lower : LawfulAmong hosts ms
-        lower = below_among hosts (Crossed (crossing.In m)) ms lawful
+        lower : Lawful hosts ms
+        lower = below hosts (Crossed (crossing.In m)) ms lawful
 
         on : is_busy (pair_with b (program a ms).peers).busy l ≡ true → AllOn l (calls_by a b (Crossed (crossing.In m)) ms)
         on busy =
@@ -335,11 +335,11 @@ module _ (hosts : Network) (a b : Host) (ours : AreOurs hosts a b) (l : ℕ) (of
                   inr (keep (Crossed (crossing.In m)) ms lawful (ap (λ (p : Pair). p.phase) (is true e Reply f)
                   ∙ ap reply_phase (ready_now ms lower h)) (takes true e Reply f) (on (on_now ms lower out)) h)
 
-  told_next : (kind : Answer) (f : Flow) (ms : List Moment) → LawfulAmong hosts (Crossed (crossing.Answer kind f) ∷ ms)
+  told_next : (kind : Answer) (f : Flow) (ms : List Moment) → Lawful hosts (Crossed (crossing.Answer kind f) ∷ ms)
       → Claim ms → Claim (Crossed (crossing.Answer kind f) ∷ ms)
   told_next kind f ms lawful old = by (same_host a f.source && same_host b f.destination) refl where
-    lower : LawfulAmong hosts ms
-    lower = below_among hosts (Crossed (crossing.Answer kind f)) ms lawful
+    lower : Lawful hosts ms
+    lower = below hosts (Crossed (crossing.Answer kind f)) ms lawful
 
     is : (v : Bool) → (same_host a f.source && same_host b f.destination) ≡ v
         → pair a b (events_of (Crossed (crossing.Answer kind f) ∷ ms)) ≡ pair_moved (when v (Hear f.link.0 kind))
@@ -398,7 +398,7 @@ module _ (hosts : Network) (a b : Host) (ours : AreOurs hosts a b) (l : ℕ) (of
         (program a (Crossed (crossing.Answer kind f) ∷ ms)).peers).entries) (sym (is true e))
         (answered kind refl (is true e) e (ap (λ (p : Pair). is_some (p.out l)) (sym (is true e)) ∙ out))
 
-  start_next : (y : Moment) (g : Host) (ms : List Moment) → LawfulAmong hosts (y ∷ ms)
+  start_next : (y : Moment) (g : Host) (ms : List Moment) → Lawful hosts (y ∷ ms)
       → pair a b (events_of (y ∷ ms)) ≡ pair_moved (when (same_host a g) Begin) (pair a b (events_of ms))
       → stay.takes_reset a b (event_in y) ≡ false → AllOn l (calls_by a b y ms) → Claim ms → Claim (y ∷ ms)
   start_next y g ms lawful is none on old = by (same_host a g) refl where
@@ -410,7 +410,7 @@ module _ (hosts : Network) (a b : Host) (ours : AreOurs hosts a b) (l : ℕ) (of
         quiet y ms lawful (is ∙ ap (λ (w : Bool). pair_moved (when w Begin) (pair a b (events_of ms))) e) none
         (λ busy. on) old
 
-  asked_next : (g : Host) (r : Request) (ms : List Moment) → LawfulAmong hosts (Asked g r ∷ ms) → Claim ms
+  asked_next : (g : Host) (r : Request) (ms : List Moment) → Lawful hosts (Asked g r ∷ ms) → Claim ms
       → Claim (Asked g r ∷ ms)
   asked_next g (request.Contact peer) ms lawful old = by (same_host a g && same_host b peer) refl where
     is : (v : Bool) → (same_host a g && same_host b peer) ≡ v → pair a b
@@ -428,25 +428,25 @@ module _ (hosts : Network) (a b : Host) (ours : AreOurs hosts a b) (l : ℕ) (of
 
   -- ---- all moments
 
-  pub busy_held : (ms : List Moment) → LawfulAmong hosts ms → is_some ((pair a b (events_of ms)).out l) ≡ true
+  pub busy_held : (ms : List Moment) → Lawful hosts ms → is_some ((pair a b (events_of ms)).out l) ≡ true
       → Resting (pair a b (events_of ms)) ⊎ Has (holds l) (pair_with b (program a ms).peers).entries
   busy_held [] lawful = λ out. never (sym out)
   busy_held (Crossed (crossing.Out m) ∷ ms) lawful =
-      out_next m ms lawful (busy_held ms (below_among hosts (Crossed (crossing.Out m)) ms lawful))
+      out_next m ms lawful (busy_held ms (below hosts (Crossed (crossing.Out m)) ms lawful))
   busy_held (Crossed (crossing.In m) ∷ ms) lawful =
-      in_next m ms lawful (busy_held ms (below_among hosts (Crossed (crossing.In m)) ms lawful))
+      in_next m ms lawful (busy_held ms (below hosts (Crossed (crossing.In m)) ms lawful))
   busy_held (Crossed (crossing.Answer kind f) ∷ ms) lawful =
-      told_next kind f ms lawful (busy_held ms (below_among hosts (Crossed (crossing.Answer kind f)) ms lawful))
+      told_next kind f ms lawful (busy_held ms (below hosts (Crossed (crossing.Answer kind f)) ms lawful))
   busy_held (Crossed (crossing.Down g) ∷ ms) lawful =
       start_next (Crossed (crossing.Down g)) g ms lawful refl refl tt (busy_held ms
-      (below_among hosts (Crossed (crossing.Down g)) ms lawful))
+      (below hosts (Crossed (crossing.Down g)) ms lawful))
   busy_held (Crossed (crossing.Up g) ∷ ms) lawful =
       start_next (Crossed (crossing.Up g)) g ms lawful refl refl tt (busy_held ms
-      (below_among hosts (Crossed (crossing.Up g)) ms lawful))
-  busy_held (Asked g r ∷ ms) lawful = asked_next g r ms lawful (busy_held ms (below_among hosts (Asked g r) ms lawful))
+      (below hosts (Crossed (crossing.Up g)) ms lawful))
+  busy_held (Asked g r ∷ ms) lawful = asked_next g r ms lawful (busy_held ms (below hosts (Asked g r) ms lawful))
 
   -- a pair that is ready and owes nothing
-  pub busy_open : (ms : List Moment) → LawfulAmong hosts ms → (pair_with b (program a ms).peers).phase ≡ phase.Ready
+  pub busy_open : (ms : List Moment) → Lawful hosts ms → (pair_with b (program a ms).peers).phase ≡ phase.Ready
       → (pair_with b (program a ms).peers).owed ≡ false → is_busy (pair_with b (program a ms).peers).busy l ≡ true
       → Has (holds l) (pair_with b (program a ms).peers).entries
   busy_open ms lawful ready owes busy = elim (busy_held ms lawful ((agrees ms lawful).busy l ∙ busy)) [

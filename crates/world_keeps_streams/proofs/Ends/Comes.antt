@@ -20,24 +20,24 @@ use Rattle.world_keeps_streams.proofs.Ends.Owes.{when_on}
 use Rattle.world_keeps_streams.proofs.Ends.Ties.{end_in, fits_here, has_now, itself, law_end, once}
 use Rattle.world_keeps_streams.proofs.Lives.Fates.{TellsOpening, TellsReset}
 use Rattle.world_keeps_streams.proofs.Lives.LeavesEnds.{quiet_tells, reply_quiet, reset_quiet}
-use Rattle.world_keeps_streams.proofs.Requests.Sides.{LawfulAmong, below_among, coupled_among}
+use Rattle.world_keeps_streams.proofs.Requests.Sides.{Lawful, below, coupled_in}
 use Rattle.world_keeps_pairing.proofs.lemmas as served
 use Rattle.world_keeps_streams.proofs.Ends.Kinds.{Kind, ItDrops, ItHears, ItIdles, ItStays, among_none, kept_ends, kept_resets, off_any, off_over, off_sent, off_taken, openings_some, pace, spare_any, spare_sent, spare_taken}
 use Rattle.reset_law.specs.Network.{AreOurs, Network}
 
-module _ (hosts : Network) (m : HostMessage) (ms : List Moment) (l : LawfulAmong hosts (Crossed (crossing.In m) ∷ ms))
+module _ (hosts : Network) (m : HostMessage) (ms : List Moment) (l : Lawful hosts (Crossed (crossing.In m) ∷ ms))
     (ours : AreOurs hosts m.flow.destination m.flow.source) (socket foreign own partner : ℕ) where
   abbrev it : Life
   it = new_life m.flow.destination socket m.flow.source foreign own partner
 
-  lower_in : LawfulAmong hosts ms
-  lower_in = below_among hosts (Crossed (crossing.In m)) ms l
+  lower_in : Lawful hosts ms
+  lower_in = below hosts (Crossed (crossing.In m)) ms l
 
   back : AreOurs hosts m.flow.source m.flow.destination
   back = (ours.1, ours.0)
 
   c : Coupled hosts (Crossed (crossing.In m) ∷ ms)
-  c = coupled_among hosts (Crossed (crossing.In m) ∷ ms) l
+  c = coupled_in hosts (Crossed (crossing.In m) ∷ ms) l
 
   mine : same_host (program m.flow.destination ms).own m.flow.destination ≡ true
   mine = ap (λ (h : Host). same_host h m.flow.destination) (program_own m.flow.destination ms) ∙ same_host-refl m.flow.destination

@@ -1,5 +1,5 @@
 -- What goes out next to a host with which a contact was asked for is an RST.
-use Rattle.world_keeps_streams.proofs.Common.{◌≡◌, ℕ, suc, ◌<◌, ◌≤◌, ◌==◌, ◌&&◌, ◌||◌, not, Bool, true, false, if◌then◌else◌, List, [], ◌∷◌, ◌++◌, length, Some, refl, ap, sym, subst, ◌∙◌, arith, list_any, Seen, Host, same_host, Answer, Crossing, HostMessage, same_host-true, Legal, orders_of, PairState, Parcel, what_goes, both, not_is, MayGo, Phase, Message, Begin, Hear, Send, Take, Other, when, Pair, pair, pair_moved, pair_with, Asked, Crossed, IsNext, Moment, events_of, places, program, contacts_of, crossings_of, message_on, story_agrees, Called, is_contact, IsLawful, WorldState, book_run}
+use Rattle.world_keeps_streams.proofs.Common.{◌≡◌, ℕ, suc, ◌<◌, ◌≤◌, ◌==◌, ◌&&◌, ◌||◌, not, Bool, true, false, if◌then◌else◌, List, [], ◌∷◌, ◌++◌, length, Some, refl, ap, sym, subst, ◌∙◌, arith, list_any, Seen, Host, same_host, Answer, Crossing, HostMessage, same_host-true, Legal, orders_of, PairState, Parcel, what_goes, both, not_is, MayGo, Phase, Message, Begin, Hear, Send, Take, Other, when, Pair, pair, pair_moved, pair_with, Asked, Crossed, IsNext, Moment, events_of, places, program, contacts_of, crossings_of, message_on, story_agrees, Called, is_contact, IsLawful, WorldState}
 use Rattle.reset_law.specs.Network.{AreOurs, Network, all_ours}
 use Rattle.std.proofs.lemmas.List.{append-nil}
 use Rattle.std.proofs.lemmas.List.Elements.{filter-append}
@@ -18,7 +18,7 @@ use Rattle.sockets.specs.declared.request.Request.TheVariants as request
 use Rattle.world_keeps_streams.proofs.Ends.Courses.{any_with, contacts_below, is_there, none_there, not_there}
 use Rattle.world_keeps_streams.proofs.Ends.Marks.{never}
 use Rattle.world_keeps_streams.proofs.Ends.Owes.{AData, AReply, AReset, Outs, Several, next_out, outs, pair_is}
-use Rattle.world_keeps_streams.proofs.Requests.Sides.{Lawful, LawfulAmong, below_among, coupled_among, lawful_among}
+use Rattle.world_keeps_streams.proofs.Requests.Sides.{Lawful, below, coupled_in, book_lawful}
 use Rattle.interface.proofs.lemmas.{or_nothing}
 
 -- ---- whether a contact was the last thing, moment by moment
@@ -111,38 +111,38 @@ module _ (hosts : Network) (h p : Host) (plain : hosts.strange h ≡ false) wher
   abbrev Wants : List Moment → Type 0
   Wants ms = ((pair h p (events_of ms)).phase ≡ phase.Want) × (is_up hosts.all h (events_of ms) ≡ true)
 
-  wants : (ms : List Moment) → LawfulAmong hosts ms → calling h p ms ≡ true → Wants ms
+  wants : (ms : List Moment) → Lawful hosts ms → calling h p ms ≡ true → Wants ms
   wants [] l e = never (sym e)
   wants (Crossed (crossing.Out m) ∷ ms) l e =
       let parts : (calling h p ms ≡ true) × (not (same_host h m.flow.source && same_host p m.flow.destination) ≡ true) =
       both (calling h p ms) (not (same_host h m.flow.source && same_host p m.flow.destination)) e in
-      let w : Wants ms = wants ms (below_among hosts (Crossed (crossing.Out m)) ms l) parts.0 in (
+      let w : Wants ms = wants ms (below hosts (Crossed (crossing.Out m)) ms l) parts.0 in (
         ap (λ (v : Bool). (pair_moved (when v (Send m.flow.link.0 (message_on m.flow.link.0 m.text)))
             (pair h p (events_of ms))).phase) (not_is (same_host h m.flow.source && same_host p m.flow.destination) parts.1)
             ∙ w.0,
         w.1,
       )
   wants (Crossed (crossing.In m) ∷ ms) l e =
-      let w : Wants ms = wants ms (below_among hosts (Crossed (crossing.In m)) ms l) e in (
+      let w : Wants ms = wants ms (below hosts (Crossed (crossing.In m)) ms l) e in (
         taken_want (same_host h m.flow.destination && same_host p m.flow.source) (message_on m.flow.link.0 m.text)
             (pair h p (events_of ms)) w.0,
         w.1,
       )
   wants (Crossed (crossing.Answer kind f) ∷ ms) l e =
-      let w : Wants ms = wants ms (below_among hosts (Crossed (crossing.Answer kind f)) ms l) e in
+      let w : Wants ms = wants ms (below hosts (Crossed (crossing.Answer kind f)) ms l) e in
       (told_want (same_host h f.source && same_host p f.destination) f.link.0 kind (pair h p (events_of ms)) w.0, w.1)
   wants (Crossed (crossing.Down g) ∷ ms) l e =
       let parts : (calling h p ms ≡ true) × (not (same_host h g) ≡ true) =
       both (calling h p ms) (not (same_host h g)) e in
-      let w : Wants ms = wants ms (below_among hosts (Crossed (crossing.Down g)) ms l) parts.0 in
+      let w : Wants ms = wants ms (below hosts (Crossed (crossing.Down g)) ms l) parts.0 in
       let off : same_host h g ≡ false = not_is (same_host h g) parts.1 in (
         ap (λ (v : Bool). (pair_moved (when v Begin) (pair h p (events_of ms))).phase) off ∙ w.0,
         ap (λ (v : Bool). if v then false else is_up hosts.all h (events_of ms)) off ∙ w.1,
       )
   wants (Crossed (crossing.Up g) ∷ ms) l e =
-      by (same_host h g) refl (wants ms (below_among hosts (Crossed (crossing.Up g)) ms l) e) where
+      by (same_host h g) refl (wants ms (below hosts (Crossed (crossing.Up g)) ms l) e) where
         down : is_up hosts.all g (events_of ms) ≡ false
-        down = (coupled_among hosts (Crossed (crossing.Up g) ∷ ms) l).run.0.1
+        down = (coupled_in hosts (Crossed (crossing.Up g) ∷ ms) l).run.0.1
 
         by : (v : Bool) → same_host h g ≡ v → Wants ms → Wants (Crossed (crossing.Up g) ∷ ms)
         by true here w =
@@ -152,9 +152,9 @@ module _ (hosts : Network) (h p : Host) (plain : hosts.strange h ≡ false) wher
           ap (λ (v : Bool). if v then true else is_up hosts.all h (events_of ms)) off ∙ w.1,
         )
   wants (Asked g (request.Contact q) ∷ ms) l e =
-      by (same_host h g && same_host p q) refl e (wants ms (below_among hosts (Asked g (request.Contact q)) ms l)) where
+      by (same_host h g && same_host p q) refl e (wants ms (below hosts (Asked g (request.Contact q)) ms l)) where
         up : hosts.strange g ≡ false → is_up hosts.all g (events_of ms) ≡ true
-        up = (coupled_among hosts (Asked g (request.Contact q) ∷ ms) l).run.1
+        up = (coupled_in hosts (Asked g (request.Contact q) ∷ ms) l).run.1
 
         is_host : (same_host h g && same_host p q) ≡ true → h ≡ g
         is_host here = same_host-true h g (both (same_host h g) (same_host p q) here).0
@@ -171,7 +171,7 @@ module _ (hosts : Network) (h p : Host) (plain : hosts.strange h ≡ false) wher
               ∙ (rest t).0,
           (rest t).1,
         )
-  wants (Asked g r ∷ ms) l e = wants ms (below_among hosts (Asked g r) ms l) e
+  wants (Asked g r ∷ ms) l e = wants ms (below hosts (Asked g r) ms l) e
 
 -- ---- of contacts, those between hosts with programs
 
@@ -261,15 +261,15 @@ module _ (hosts : Network) where
       more_calls cs c log (let l : suc (length log) ≤ c.place = le in omega (arith, l)) are
 
   -- what goes out while an RST waits
-  reset_goes : (m : HostMessage) (ms : List Moment) → LawfulAmong hosts (Crossed (crossing.Out m) ∷ ms)
+  reset_goes : (m : HostMessage) (ms : List Moment) → Lawful hosts (Crossed (crossing.Out m) ∷ ms)
       → AreOurs hosts m.flow.source m.flow.destination → calling m.flow.source m.flow.destination ms ≡ true → (m.flow.link.0 ≡ 0)
       × (orders_of m.text ≡ Legal command.Rst ∷ [])
   reset_goes m ms l ours t = by (outs hosts ms lower m.flow.source m n with_peer) where
-    lower : LawfulAmong hosts ms
-    lower = below_among hosts (Crossed (crossing.Out m)) ms l
+    lower : Lawful hosts ms
+    lower = below hosts (Crossed (crossing.Out m)) ms l
 
     n : IsNext (program m.flow.source ms) m
-    n = (coupled_among hosts (Crossed (crossing.Out m) ∷ ms) l).story.0 ours.0
+    n = (coupled_in hosts (Crossed (crossing.Out m) ∷ ms) l).story.0 ours.0
 
     with_peer : AreOurs hosts m.flow.source n.peer.host
     with_peer = (ours.0, subst (λ (g : Host). hosts.strange g ≡ false) (ap (λ (y : HostMessage). y.flow.destination) n.message) ours.1)
@@ -279,7 +279,7 @@ module _ (hosts : Network) where
         ap (λ (q : PairState). q.phase) (sym (pair_is hosts ms lower m.flow.source m n with_peer))
         ∙ ap (λ (x : Host). (pair_with x (program m.flow.source ms).peers).phase)
         (ap (λ (y : HostMessage). y.flow.destination) (sym n.message))
-        ∙ sym (story_agrees hosts ms m.flow.source m.flow.destination ours (coupled_among hosts ms lower).story).phase
+        ∙ sym (story_agrees hosts ms m.flow.source m.flow.destination ours (coupled_in hosts ms lower).story).phase
         ∙ (wants hosts m.flow.source m.flow.destination ours.0 ms lower t).0
 
     go : (x : Parcel) → n.parcel ≡ x → MayGo n.peer.pair x
@@ -295,12 +295,12 @@ module _ (hosts : Network) where
     by (Several count is zero orders) = absurd (unready (go (parcel.Commands count) is).0.ready)
     by (AData e size count is away) = absurd (unready (go (parcel.Bytes e size count) is).0.ready)
 
-  pub contacts_now_are : (ms : List Moment) → LawfulAmong hosts ms
+  pub contacts_now_are : (ms : List Moment) → Lawful hosts ms
       → AreContacts (contacts_among hosts.strange (contacts_of ms)) (crossings_of ms)
   contacts_now_are [] l = tt
   contacts_now_are (Crossed (crossing.Out m) ∷ ms) l = (
     (λ t. goes (now_among hosts.strange m.flow.source m.flow.destination (contacts_of ms) (crossings_of ms)) t),
-    contacts_now_are ms (below_among hosts (Crossed (crossing.Out m)) ms l),
+    contacts_now_are ms (below hosts (Crossed (crossing.Out m)) ms l),
   ) where
     calls : Bool
     calls = contacts_now (contacts_of ms) m.flow.source m.flow.destination (crossings_of ms)
@@ -317,17 +317,17 @@ module _ (hosts : Network) where
         reset_goes m ms l (not_is (hosts.strange m.flow.source) ours.0, not_is (hosts.strange m.flow.destination) ours.1)
         (sym (calls_same m.flow.source m.flow.destination ms) ∙ parts.1)
   contacts_now_are (Crossed (crossing.In m) ∷ ms) l =
-      contacts_now_are ms (below_among hosts (Crossed (crossing.In m)) ms l)
+      contacts_now_are ms (below hosts (Crossed (crossing.In m)) ms l)
   contacts_now_are (Crossed (crossing.Answer kind f) ∷ ms) l =
-      contacts_now_are ms (below_among hosts (Crossed (crossing.Answer kind f)) ms l)
+      contacts_now_are ms (below hosts (Crossed (crossing.Answer kind f)) ms l)
   contacts_now_are (Crossed (crossing.Down g) ∷ ms) l =
-      contacts_now_are ms (below_among hosts (Crossed (crossing.Down g)) ms l)
+      contacts_now_are ms (below hosts (Crossed (crossing.Down g)) ms l)
   contacts_now_are (Crossed (crossing.Up g) ∷ ms) l =
-      contacts_now_are ms (below_among hosts (Crossed (crossing.Up g)) ms l)
+      contacts_now_are ms (below hosts (Crossed (crossing.Up g)) ms l)
   contacts_now_are (Asked g (request.Contact q) ∷ ms) l =
       subst (λ (cs : List Called). AreContacts cs (crossings_of ms))
       (sym (filter-append (λ (c : Called). not (hosts.strange c.host) && not (hosts.strange c.peer)) (contacts_of ms) (new ∷ [])))
-      (by (not (hosts.strange g) && not (hosts.strange q)) (contacts_now_are ms (below_among hosts (Asked g (request.Contact q)) ms l))) where
+      (by (not (hosts.strange g) && not (hosts.strange q)) (contacts_now_are ms (below hosts (Asked g (request.Contact q)) ms l))) where
         new : Called
         new = record { host = g; place = places ms; peer = q }
 
@@ -342,19 +342,18 @@ module _ (hosts : Network) where
         by false rest = subst (λ (cs : List Called). AreContacts cs (crossings_of ms)) (sym (append-nil among)) rest
   contacts_now_are (Asked g r ∷ ms) l =
       subst (λ (cs : List Called). AreContacts (contacts_among hosts.strange cs) (crossings_of ms))
-      (sym (append-nil (contacts_of ms))) (contacts_now_are ms (below_among hosts (Asked g r) ms l))
+      (sym (append-nil (contacts_of ms))) (contacts_now_are ms (below hosts (Asked g r) ms l))
 
 -- where all hosts run the program, of all contacts
-pub contacts_are : (hosts : List Host) (ms : List Moment) → Lawful hosts ms
+pub contacts_are : (hosts : List Host) (ms : List Moment) → Lawful (all_ours hosts) ms
     → AreContacts (contacts_of ms) (crossings_of ms)
 contacts_are hosts ms l =
     subst (λ (cs : List Called). AreContacts cs (crossings_of ms)) (among_all (contacts_of ms))
-    (contacts_now_are (all_ours hosts) ms (lawful_among hosts ms l))
+    (contacts_now_are (all_ours hosts) ms l)
 
 pub world_contacts : {C : Type 0} (seen : C → Seen) (hosts : List Host) (w : WorldState C) → IsLawful seen hosts w
     → AreContacts w.kept.book.contacts w.kept.book.crossings
 world_contacts seen hosts w lawful =
     subst (λ (cs : List Called). AreContacts cs w.kept.book.crossings) (sym lawful.whole.contacts)
     (subst (λ (log : List Crossing). AreContacts (contacts_of lawful.whole.moments) log) (sym lawful.whole.crossings)
-    (contacts_are hosts lawful.whole.moments
-    (lawful.addresses, book_run seen hosts w lawful, lawful.whole.timeline)))
+    (contacts_are hosts lawful.whole.moments (book_lawful seen hosts w lawful)))

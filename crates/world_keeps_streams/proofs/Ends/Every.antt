@@ -9,7 +9,7 @@ use Rattle.world_keeps_streams.proofs.Ends.Courses.{course_in, key_of}
 use Rattle.world_keeps_streams.proofs.Ends.Fails.{asked_here, down_here, off_host, told_here, up_here}
 use Rattle.world_keeps_streams.proofs.Ends.Kinds.{Kind, away, beside, out_here, pace}
 use Rattle.world_keeps_streams.proofs.Ends.Ties.{end_in}
-use Rattle.world_keeps_streams.proofs.Requests.Sides.{LawfulAmong, coupled_among}
+use Rattle.world_keeps_streams.proofs.Requests.Sides.{Lawful, coupled_in}
 use Rattle.world_keeps_streams.proofs.Facts.{middle_off}
 use Rattle.reset_law.specs.Network.{AreOurs, Network}
 
@@ -17,7 +17,7 @@ first_off : (a b c : Bool) → a ≡ false → (a && b && c) ≡ false
 first_off a b c e = ap (λ (v : Bool). v && b && c) e
 
 module _ (hosts : Network) (x : Life) (ours : AreOurs hosts x.host x.peer) where
-  out_every : (m : HostMessage) (ms : List Moment) → LawfulAmong hosts (Crossed (crossing.Out m) ∷ ms)
+  out_every : (m : HostMessage) (ms : List Moment) → Lawful hosts (Crossed (crossing.Out m) ∷ ms)
       → Kind (key_of x) (Crossed (crossing.Out m)) ms
   out_every m ms l = by (same_host x.host m.flow.source) (same_host x.peer m.flow.destination) refl refl where
     same_pace : (v : Bool)
@@ -28,7 +28,7 @@ module _ (hosts : Network) (x : Life) (ours : AreOurs hosts x.host x.peer) where
         (course_in (key_of x) ms) else course_in (key_of x) ms)) e
 
     own : same_host x.host m.flow.source ≡ true → IsNext (program x.host ms) m
-    own e = subst (λ (h : Host). IsNext (program h ms) m) (sym (same_host-true x.host m.flow.source e)) ((coupled_among hosts (Crossed (crossing.Out m) ∷ ms) l).story.0 (subst (λ (h : Host). hosts.strange h ≡ false) (same_host-true x.host m.flow.source e) ours.0))
+    own e = subst (λ (h : Host). IsNext (program h ms) m) (sym (same_host-true x.host m.flow.source e)) ((coupled_in hosts (Crossed (crossing.Out m) ∷ ms) l).story.0 (subst (λ (h : Host). hosts.strange h ≡ false) (same_host-true x.host m.flow.source e) ours.0))
 
     by : (v w : Bool) → same_host x.host m.flow.source ≡ v → same_host x.peer m.flow.destination ≡ w → Kind (key_of x) (Crossed (crossing.Out m)) ms
     by true true e f = out_here (key_of x) hosts ours m ms l e f
@@ -40,14 +40,14 @@ module _ (hosts : Network) (x : Life) (ours : AreOurs hosts x.host x.peer) where
         (ap (λ (v : Bool). end_in (at x.socket x.foreign (pair_with x.peer (if v then (offered (program x.host ms) (places ms)).0 else program x.host ms).peers).entries)) e
         ∙ ap (λ (q : PairState). end_in (at x.socket x.foreign q.entries)) (offer_leaves (program x.host ms) (places ms) (own e).peer (own e).parcel x.peer (own e).next (ap (λ (y : HostMessage). same_host x.peer y.flow.destination) (sym (own e).message) ∙ f))) (λ d. d) where
           next : IsNext (program m.flow.source ms) m
-          next = (coupled_among hosts (Crossed (crossing.Out m) ∷ ms) l).story.0 (subst (λ (h : Host). hosts.strange h ≡ false) (same_host-true x.host m.flow.source e) ours.0)
+          next = (coupled_in hosts (Crossed (crossing.Out m) ∷ ms) l).story.0 (subst (λ (h : Host). hosts.strange h ≡ false) (same_host-true x.host m.flow.source e) ours.0)
     by false w e f =
         away (key_of x) (Crossed (crossing.Out m)) ms (off_host x.host m.flow.source e)
         (same_pace true (first_off (same_host x.host m.flow.source) (same_host x.peer m.flow.destination)
         (0 == m.flow.link.0) e))
         (ap (λ (v : Bool). end_in (at x.socket x.foreign (pair_with x.peer (if v then (offered (program x.host ms) (places ms)).0 else program x.host ms).peers).entries)) e) (λ d. d)
 
-  in_every : (m : HostMessage) (ms : List Moment) → LawfulAmong hosts (Crossed (crossing.In m) ∷ ms)
+  in_every : (m : HostMessage) (ms : List Moment) → Lawful hosts (Crossed (crossing.In m) ∷ ms)
       → Kind (key_of x) (Crossed (crossing.In m)) ms
   in_every m ms l = by (same_host x.host m.flow.destination) (same_host x.peer m.flow.source) refl refl where
     same_pace : (same_host x.peer m.flow.source && same_host x.host m.flow.destination && 0 == m.flow.link.0) ≡ false
@@ -73,7 +73,7 @@ module _ (hosts : Network) (x : Life) (ours : AreOurs hosts x.host x.peer) where
         (0 == m.flow.link.0) e))
         (ap (λ (v : Bool). end_in (at x.socket x.foreign (pair_with x.peer (if v then (accepted (program x.host ms) (inbound.Message m) (places ms)).0 else program x.host ms).peers).entries)) e) (λ d. d)
 
-  told_every : (kind : Answer) (f : Flow) (ms : List Moment) → LawfulAmong hosts (Crossed (crossing.Answer kind f) ∷ ms)
+  told_every : (kind : Answer) (f : Flow) (ms : List Moment) → Lawful hosts (Crossed (crossing.Answer kind f) ∷ ms)
       → Kind (key_of x) (Crossed (crossing.Answer kind f)) ms
   told_every kind f ms l = by (same_host x.host f.source) (same_host x.peer f.destination) refl refl where
     off_both : (a b c d : Bool) → (b && c) ≡ false → (a && (b && c) && d) ≡ false
@@ -101,7 +101,7 @@ module _ (hosts : Network) (x : Life) (ours : AreOurs hosts x.host x.peer) where
         (same_pace (ap (λ (v : Bool). v && same_host x.peer f.destination) e))
         (ap (λ (v : Bool). end_in (at x.socket x.foreign (pair_with x.peer (if v then (accepted (program x.host ms) (inbound.Answer kind f) (places ms)).0 else program x.host ms).peers).entries)) e) (λ d. d)
 
-  pub kind_here : (y : Moment) (ms : List Moment) → LawfulAmong hosts (y ∷ ms) → Kind (key_of x) y ms
+  pub kind_here : (y : Moment) (ms : List Moment) → Lawful hosts (y ∷ ms) → Kind (key_of x) y ms
   kind_here (Crossed (crossing.Out m)) ms l = out_every m ms l
   kind_here (Crossed (crossing.In m)) ms l = in_every m ms l
   kind_here (Crossed (crossing.Answer kind f)) ms l = told_every kind f ms l

@@ -19,7 +19,7 @@ use Rattle.world_keeps_streams.proofs.Ends.Owes.{owes_is}
 use Rattle.world_keeps_streams.proofs.Ends.Ties.{end_in, has_now, itself, law_end, once}
 use Rattle.world_keeps_streams.proofs.Lives.Fates.{TellsEnd, TellsOpening, TellsReset}
 use Rattle.world_keeps_streams.proofs.Lives.LeavesEnds.{answer_quiet, quiet_tells, request_quiet}
-use Rattle.world_keeps_streams.proofs.Requests.Sides.{LawfulAmong, below_among, coupled_among}
+use Rattle.world_keeps_streams.proofs.Requests.Sides.{Lawful, below, coupled_in}
 use Rattle.world_keeps_streams.proofs.Ends.Kinds.{Kind, ItDrops, ItIdles, ItStays, ItStops, away, end_of, openings_some, pace}
 use Rattle.reset_law.proofs.lemmas.{ready_phase}
 use Rattle.reset_law.specs.Network.{AreOurs, Network}
@@ -36,9 +36,11 @@ if_nothing : (v : Bool) → (if v then nothing else nothing) ≡ nothing
 if_nothing true = refl
 if_nothing false = refl
 
-module _ (hosts : Network) (kind : Answer) (f : Flow) (ms : List Moment) (l : LawfulAmong hosts (Crossed (crossing.Answer kind f) ∷ ms)) (ours : AreOurs hosts f.source f.destination) (socket foreign own partner : ℕ) where
-  lower_told : LawfulAmong hosts ms
-  lower_told = below_among hosts (Crossed (crossing.Answer kind f)) ms l
+module _ (hosts : Network) (kind : Answer) (f : Flow) (ms : List Moment)
+    (l : Lawful hosts (Crossed (crossing.Answer kind f) ∷ ms)) (ours : AreOurs hosts f.source f.destination)
+    (socket foreign own partner : ℕ) where
+  lower_told : Lawful hosts ms
+  lower_told = below hosts (Crossed (crossing.Answer kind f)) ms l
 
   has_told : HasEnd itself socket foreign (pair_with f.destination (program f.source ms).peers) (law_end f.source f.destination socket foreign ms)
   has_told = has_now hosts ms lower_told f.source f.destination ours socket foreign
@@ -54,13 +56,13 @@ module _ (hosts : Network) (kind : Answer) (f : Flow) (ms : List Moment) (l : La
   phase_is : (pair_moved (Some (Hear f.link.0 kind)) (pair f.source f.destination (events_of ms))).phase ≡ (pair_with f.destination (accepted (program f.source ms) (inbound.Answer kind f) (places ms)).0.peers).phase
   phase_is =
       ap (λ (v : Bool). (pair_moved (when v (Hear f.link.0 kind)) (pair f.source f.destination (events_of ms))).phase) (sym both_refl)
-      ∙ (story_agrees hosts (Crossed (crossing.Answer kind f) ∷ ms) f.source f.destination ours (coupled_among hosts (Crossed (crossing.Answer kind f) ∷ ms) l).story).phase
+      ∙ (story_agrees hosts (Crossed (crossing.Answer kind f) ∷ ms) f.source f.destination ours (coupled_in hosts (Crossed (crossing.Answer kind f) ∷ ms) l).story).phase
       ∙ ap (λ (v : Bool). (pair_with f.destination (if v then (accepted (program f.source ms) (inbound.Answer kind f) (places ms)).0 else program f.source ms).peers).phase) (same_host-refl f.source) where
         both_refl : (same_host f.source f.source && same_host f.destination f.destination) ≡ true
         both_refl = let a : same_host f.source f.source ≡ true = same_host-refl f.source in let b : same_host f.destination f.destination ≡ true = same_host-refl f.destination in rw (a, b) refl
 
   was : Agrees (pair_with f.destination (program f.source ms).peers) (pair f.source f.destination (events_of ms))
-  was = story_agrees hosts ms f.source f.destination ours (coupled_among hosts ms lower_told).story
+  was = story_agrees hosts ms f.source f.destination ours (coupled_in hosts ms lower_told).story
 
 -- notices of an answer that leaves the pair ready: none
 rfnm_notices : (s : NcpState) (f : Flow) (stamp : ℕ) → (accepted s (inbound.Answer answer.Rfnm f) stamp).1 ≡ []
@@ -123,7 +125,8 @@ module _ (hosts : Network) (f : Flow) (ms : List Moment) (ours : AreOurs hosts f
     up = λ d. d;
   })
 
-  failed_kind : (kind : Answer) (l : LawfulAmong hosts (Crossed (crossing.Answer kind f) ∷ ms)) → fails kind ≡ true → (pair_moved (Some (Hear f.link.0 kind)) (pair f.source f.destination (events_of ms))).phase ≡ failed_phase (pair f.source f.destination (events_of ms)).phase (pair f.source f.destination (events_of ms)).owed
+  failed_kind : (kind : Answer) (l : Lawful hosts (Crossed (crossing.Answer kind f) ∷ ms)) → fails kind ≡ true
+      → (pair_moved (Some (Hear f.link.0 kind)) (pair f.source f.destination (events_of ms))).phase ≡ failed_phase (pair f.source f.destination (events_of ms)).phase (pair f.source f.destination (events_of ms)).owed
       → is_ready (pair_with f.destination (program f.source ms).peers).phase ≡ true → (v : Bool) → (course_in that ms).owes ≡ v → Kind that (Crossed (crossing.Answer kind f)) ms
   failed_kind kind l fail phases ready v owes = by v owes where
     before : Agrees (pair_with f.destination (program f.source ms).peers) (pair f.source f.destination (events_of ms))
@@ -153,7 +156,9 @@ module _ (hosts : Network) (f : Flow) (ms : List Moment) (ours : AreOurs hosts f
       up = λ d. d;
     })
 
-  ready_kind : (kind : Answer) (l : LawfulAmong hosts (Crossed (crossing.Answer kind f) ∷ ms)) → is_ready (pair_with f.destination (program f.source ms).peers).phase ≡ true → Kind that (Crossed (crossing.Answer kind f)) ms
+  ready_kind : (kind : Answer) (l : Lawful hosts (Crossed (crossing.Answer kind f) ∷ ms))
+      → is_ready (pair_with f.destination (program f.source ms).peers).phase ≡ true
+      → Kind that (Crossed (crossing.Answer kind f)) ms
   ready_kind answer.Rfnm l ready =
       stays_told answer.Rfnm (told_ends hosts answer.Rfnm f ms l ours socket foreign own partner ∙ if_ready_end _ (end_of that ms) (ap is_ready (sym (phase_is hosts answer.Rfnm f ms l ours socket foreign own partner) ∙ ap (rfnm_phase f.link.0) law_ready) ∙ rfnm_ready f.link.0)) refl
       (rfnm_notices (program f.source ms) f (places ms)) where
@@ -161,7 +166,7 @@ module _ (hosts : Network) (f : Flow) (ms : List Moment) (ours : AreOurs hosts f
         law_ready = (was hosts answer.Rfnm f ms l ours socket foreign own partner).phase ∙ ready_phase (pair_with f.destination (program f.source ms).peers).phase ready
   ready_kind kind l ready = failed_kind kind l refl refl ready (course_in that ms).owes refl
 
-  pub told_here : (kind : Answer) (l : LawfulAmong hosts (Crossed (crossing.Answer kind f) ∷ ms))
+  pub told_here : (kind : Answer) (l : Lawful hosts (Crossed (crossing.Answer kind f) ∷ ms))
       → Kind that (Crossed (crossing.Answer kind f)) ms
   told_here kind l = by (is_ready (pair_with f.destination (program f.source ms).peers).phase) refl where
     none : is_ready (pair_with f.destination (program f.source ms).peers).phase ≡ false → end_of that ms ≡ nothing
@@ -227,13 +232,13 @@ module _ (k : Life) where
     by false u = u
 
   module _ (hosts : Network) (ours : AreOurs hosts k.host k.peer) where
-    asked_ends : (g : Host) (r : Request) (ms : List Moment) (l : LawfulAmong hosts (Asked g r ∷ ms))
+    asked_ends : (g : Host) (r : Request) (ms : List Moment) (l : Lawful hosts (Asked g r ∷ ms))
         → same_host k.host g ≡ true → end_of k (Asked g r ∷ ms) ≡ after_request k.peer r (end_of k ms)
     asked_ends g r ms l e =
         ap (λ (v : Bool). end_in (at k.socket k.foreign (pair_with k.peer (if v then served (program k.host ms) r else program k.host ms).peers).entries)) e
         ∙ once k.socket k.foreign (pair_with k.peer (served (program k.host ms) r).peers) (after_request k.peer r (end_of k ms))
         (request_keeps itself k.socket k.foreign (program k.host ms) r k.peer (end_of k ms) (subst (λ (h : Host). refusal (program h ms) r ≡ None) (sym (same_host-true k.host g e)) (l.2.0 (subst (λ (h : Host). hosts.strange h ≡ false) (same_host-true k.host g e) ours.0)).2)
-        (has_now hosts ms (below_among hosts (Asked g r) ms l) k.host k.peer ours k.socket k.foreign))
+        (has_now hosts ms (below hosts (Asked g r) ms l) k.host k.peer ours k.socket k.foreign))
 
     asked_away : (g : Host) (r : Request) (ms : List Moment) → same_host k.host g ≡ false
         → pace (course_in k (Asked g r ∷ ms)) ≡ pace (course_in k ms)
@@ -241,7 +246,7 @@ module _ (k : Life) where
         ap (λ (v : Bool). pace (contacted_if (v && same_host k.peer peer) (places ms) (course_in k ms))) e
     asked_away g r ms e = refl
 
-    asked_on : (g : Host) (r : Request) (ms : List Moment) (l : LawfulAmong hosts (Asked g r ∷ ms))
+    asked_on : (g : Host) (r : Request) (ms : List Moment) (l : Lawful hosts (Asked g r ∷ ms))
         → same_host k.host g ≡ true → Kind k (Asked g r) ms
     unfolding served_notices
     asked_on g (request.Contact peer) ms l e = by (same_host k.peer peer) refl where
@@ -272,7 +277,8 @@ module _ (k : Life) where
       up = λ d. d;
     })
 
-    pub asked_here : (g : Host) (r : Request) (ms : List Moment) (l : LawfulAmong hosts (Asked g r ∷ ms)) → Kind k (Asked g r) ms
+    pub asked_here : (g : Host) (r : Request) (ms : List Moment) (l : Lawful hosts (Asked g r ∷ ms))
+        → Kind k (Asked g r) ms
     asked_here g r ms l = by (same_host k.host g) refl where
       by : (v : Bool) → same_host k.host g ≡ v → Kind k (Asked g r) ms
       by true e = asked_on g r ms l e

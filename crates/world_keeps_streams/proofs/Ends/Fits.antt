@@ -1,5 +1,5 @@
 -- At all moments each life of the book has a fate that its stage leaves. One that continues is as far as its end is by the law of pairing.
-use Rattle.world_keeps_streams.proofs.Common.{◌≡◌, ◌⊎◌, inl, inr, ℕ, ◌==◌, ◌&&◌, not, Bool, true, false, if◌then◌else◌, List, [], ◌∷◌, Option, Some, None, is_some, refl, ap, sym, subst, ◌∙◌, arith, eqb-true, Contains, Seen, Host, Crossing, both, has_cls, is_called_off, is_due, is_ending, is_mine_on, is_sent, Closing, Entry, Notice, End, Ask, Close, Mark, came_from, standing, all_lives_gone, all_lives_taken, with_openings, all_gone, plain, pair_with, Asking, Cause, Course, Dropped, Going, Over, Stage, Stopped, cut, own_asked, own_closed, partner_asked, partner_closed, IsBeside, Called, Fate, Kept, IsLawful, Crossed, Moment, places, program, contacts_of, crossings_of, WorldState, host_in, notices_by, kept_fated, HasOpenEnd, live, unopened, book_run, or_from}
+use Rattle.world_keeps_streams.proofs.Common.{◌≡◌, ◌⊎◌, inl, inr, ℕ, ◌==◌, ◌&&◌, not, Bool, true, false, if◌then◌else◌, List, [], ◌∷◌, Option, Some, None, is_some, refl, ap, sym, subst, ◌∙◌, arith, eqb-true, Contains, Seen, Host, Crossing, both, has_cls, is_called_off, is_due, is_ending, is_mine_on, is_sent, Closing, Entry, Notice, End, Ask, Close, Mark, came_from, standing, all_lives_gone, all_lives_taken, with_openings, all_gone, plain, pair_with, Asking, Cause, Course, Dropped, Going, Over, Stage, Stopped, cut, own_asked, own_closed, partner_asked, partner_closed, IsBeside, Called, Fate, Kept, IsLawful, Crossed, Moment, places, program, contacts_of, crossings_of, WorldState, host_in, notices_by, kept_fated, HasOpenEnd, unopened, or_from, AreOurs}
 use Rattle.std.proofs.lemmas.Bool.{or_left, or_right}
 use Rattle.promise.specs.Ends.{Leaves}
 use Rattle.interface.specs.declared.crossing.Crossing.TheVariants as crossing
@@ -14,7 +14,6 @@ use Rattle.promise.specs.declared.life.Life.{Life}
 use Rattle.net_sim.specs.Told.{kept_in}
 use Rattle.world_keeps_streams.proofs.Books.Arrives.{end_at}
 use Rattle.world_keeps_streams.proofs.Books.Ending.{no_close_opening}
-use Rattle.world_keeps_streams.proofs.Books.Run.{below}
 use Rattle.world_keeps_streams.proofs.Deeds.Effects.{Among}
 use Rattle.world_keeps_streams.proofs.Ends.Courses.{course_in, course_key, course_same, key_named, key_of}
 use Rattle.world_keeps_streams.proofs.Ends.Every.{kind_here}
@@ -28,11 +27,14 @@ use Rattle.world_keeps_streams.proofs.Ends.Unshut.{Unshut, is_shut, unshut_next}
 use Rattle.world_keeps_streams.proofs.Lives.Fates.{Came, How, IsBegun, IsCls, IsDown, Moved, TellsEnd, TellsOpening, TellsReset, beside_of, beside_over, came, ends_named, opening_named, resets_named, cls_over}
 use Rattle.world_keeps_streams.proofs.Lives.Lists.{Named, contains}
 use Rattle.world_keeps_streams.proofs.Lives.Opened.{contains_among, no_openings}
-use Rattle.world_keeps_streams.proofs.Requests.Sides.{Lawful, coupled_in, LawfulAmong, below_among, lawful_among}
+use Rattle.world_keeps_streams.proofs.Requests.Sides.{Lawful, coupled_in, below, book_lawful}
 use Rattle.world_keeps_streams.proofs.Books.Began.{sent_cls}
 use Rattle.world_keeps_lives.proofs.lemmas.{none_some}
 use Rattle.reset_law.specs.Network.{Network, all_ours}
-use Rattle.net_sim.proofs.lemmas.AllOurs.{happened}
+use Rattle.net_sim.specs.Among.{beside_among, lives_among}
+use Rattle.world_keeps_streams.proofs.Ours.{live, ours_of}
+use Rattle.world_keeps_lives.proofs.lemmas.AllOurs.{among_all, beside_all}
+use Rattle.world_keeps_streams.proofs.Lives.Among.{in_beside}
 
 -- ---- stages and fates
 
@@ -148,7 +150,7 @@ module _ (k : Life) (y : Moment) (ms : List Moment) (f : Fate) where
   stops_now off unended unreset (inr (inr (inr b))) = b.0
 
   -- one that went, where its end is there as long as it continues
-  module _ (hosts : Network) (kind : (z : Moment) (zs : List Moment) → LawfulAmong hosts (z ∷ zs) → Kind k z zs) (l : LawfulAmong hosts (y ∷ ms)) (was : IsGoing k (end_of k ms)) (is : is_over f ≡ false → IsGoing k (end_of k (y ∷ ms))) (stage : stage_of k ms ≡ Going (end_of k ms).gone (end_of k ms).taken)
+  module _ (hosts : Network) (kind : (z : Moment) (zs : List Moment) → Lawful hosts (z ∷ zs) → Kind k z zs) (l : Lawful hosts (y ∷ ms)) (was : IsGoing k (end_of k ms)) (is : is_over f ≡ false → IsGoing k (end_of k (y ∷ ms))) (stage : stage_of k ms ≡ Going (end_of k ms).gone (end_of k ms).taken)
       (becomes : Becomes) where
     gone_off : end_of k (y ∷ ms) ≡ nothing → is_over f ≡ false → ⊥
     gone_off none goes = none_some k.own_stamp (sym (ap (λ (e : End). e.asked) none) ∙ (is goes).asked)
@@ -179,7 +181,7 @@ module _ (k : Life) (y : Moment) (ms : List Moment) (f : Fate) where
           (stage_now ∙ on.stage ∙ ap (λ (e : End). Going e.gone e.taken) (sym s.ends))
       by (inr over) =
           let cls : IsCls f = closes_now (λ goes.
-          over.left (places ms) (asked_below k hosts kind ms (below_among hosts y ms l) k.own_stamp was.asked) (s.may (places ms) (omega arith)) (ap (λ (e : End). e.asked) (sym s.ends) ∙ (is goes).asked)) s.unreset s.up becomes in
+          over.left (places ms) (asked_below k hosts kind ms (below hosts y ms l) k.own_stamp was.asked) (s.may (places ms) (omega arith)) (ap (λ (e : End). e.asked) (sym s.ends) ∙ (is goes).asked)) s.unreset s.up becomes in
           fit_over k (y ∷ ms) (Over (Closed false) (places ms)) f (stage_now ∙ over.stage) (cls_over f cls) (cls_leaves false (places ms) f cls)
 
     hears : Hears k y ms → Fit k (y ∷ ms) f
@@ -219,10 +221,10 @@ module _ (k : Life) (y : Moment) (ms : List Moment) (f : Fate) where
       by (inr quiet) = absurd (gone_off s.ends (goes_on quiet.0 quiet.1 s.up becomes))
 
   -- one that begins
-  module _ (hosts : Network) (kind : (z : Moment) (zs : List Moment) → LawfulAmong hosts (z ∷ zs) → Kind k z zs) (l : LawfulAmong hosts (y ∷ ms)) (clear : ((end_of k ms).gone ≡ false) × ((end_of k ms).taken ≡ false))
+  module _ (hosts : Network) (kind : (z : Moment) (zs : List Moment) → Lawful hosts (z ∷ zs) → Kind k z zs) (l : Lawful hosts (y ∷ ms)) (clear : ((end_of k ms).gone ≡ false) × ((end_of k ms).taken ≡ false))
       (is : is_over f ≡ false → IsGoing k (end_of k (y ∷ ms))) (host : host_in y ≡ k.host) (opens : TellsOpening k (notices_by y ms)) (becomes : Becomes) where
-    old : LawfulAmong hosts ms
-    old = below_among hosts y ms l
+    old : Lawful hosts ms
+    old = below hosts y ms l
 
     abbrev Begins : Type 0
     Begins =
@@ -395,26 +397,29 @@ module _ (k : Life) (y : Moment) (ms : List Moment) (f : Fate) (ended : f ≡ fa
 
 -- ---- all lives at all moments
 
-module _ (hosts : List Host) where
+module _ (hosts : Network) where
   -- one that isn't over has its end
-  goes_now : (ms : List Moment) → Lawful hosts ms → (x : Life) (f : Fate) → IsBeside x f (kept_in ms).book.lives (kept_in ms).fates → is_over f ≡ false → IsGoing (key_of x) (end_of (key_of x) ms)
-  goes_now ms l x f i goes =
+  goes_now : (ms : List Moment) → Lawful hosts ms → (x : Life) (f : Fate) → AreOurs hosts x.host x.peer
+      → IsBeside x f (kept_in ms).book.lives (kept_in ms).fates → is_over f ≡ false
+      → IsGoing (key_of x) (end_of (key_of x) ms)
+  goes_now ms l x f ours i goes =
       let open_end : HasOpenEnd (program x.host ms) x =
-      live hosts ms l.0 l.1 l.2 x (contains x (kept_in ms).book.lives (beside_of (kept_in ms).book.lives (kept_in ms).fates x f i)) (beside_over (kept_in ms).book.lives (kept_in ms).fates x f (kept_fated ms) i ∙ goes) in
-      let g : IsGoing x (end_of (key_of x) ms) = going (all_ours hosts) ms (lawful_among hosts ms l) x (refl, refl) open_end in
+      live hosts ms l.0 l.1 l.2 x ours.0 (contains x (kept_in ms).book.lives (beside_of (kept_in ms).book.lives (kept_in ms).fates x f i)) (beside_over (kept_in ms).book.lives (kept_in ms).fates x f (kept_fated ms) i ∙ goes) in
+      let g : IsGoing x (end_of (key_of x) ms) = going hosts ms l x ours open_end in
       record { asked = g.asked; partner = g.partner; live = g.live }
 
   -- before it begins no CLS of its end was taken, and none went out
-  module _ (y : Moment) (ms : List Moment) (l : Lawful hosts (y ∷ ms)) (x : Life) (host : host_in y ≡ x.host) (opens : TellsOpening x (notices_by y ms)) where
+  module _ (y : Moment) (ms : List Moment) (l : Lawful hosts (y ∷ ms)) (x : Life) (ours : AreOurs hosts x.host x.peer)
+      (host : host_in y ≡ x.host) (opens : TellsOpening x (notices_by y ms)) where
     not_shut : ((e : Entry) → Among e (pair_with x.peer (program x.host ms).peers).entries → e.own ≡ x.socket → e.foreign ≡ x.foreign → is_ending e ≡ true) → ⊥
     not_shut shut =
         let old : Lawful hosts ms = below hosts y ms l in
         no_openings x (notices_by y ms)
-        (unopened x.peer x.socket x.foreign (all_ours hosts) old.0 ms old.1 (happened hosts ms old.2) y refl (coupled_in hosts (y ∷ ms) l).story
+        (unopened x.peer x.socket x.foreign hosts old.0 ms old.1 old.2 y (subst (λ (h : Host). hosts.strange h ≡ false) (sym host) ours.0) (coupled_in hosts (y ∷ ms) l).story
         (λ e there own foreign. shut e (contains_among (pair_with x.peer (program x.host ms).peers).entries e (subst (λ (h : Host). Contains (pair_with x.peer (program h ms).peers).entries e) host there)) own foreign)) opens
 
     ends_as : (e : Entry) → Among e (pair_with x.peer (program x.host ms).peers).entries → e.own ≡ x.socket → e.foreign ≡ x.foreign → end_of (key_of x) ms ≡ plain itself (standing e)
-    ends_as e there own foreign = (entry_is (all_ours hosts) ms (lawful_among hosts ms (below hosts y ms l)) x.host x.peer (refl, refl) x.socket x.foreign e there own foreign).0
+    ends_as e there own foreign = (entry_is hosts ms (below hosts y ms l) x.host x.peer ours x.socket x.foreign e there own foreign).0
 
     clear_before : ((end_of (key_of x) ms).gone ≡ false) × ((end_of (key_of x) ms).taken ≡ false)
     clear_before = (by_gone (end_of (key_of x) ms).gone refl, by_taken (end_of (key_of x) ms).taken refl) where
@@ -434,11 +439,11 @@ module _ (hosts : List Host) where
       by false t = refl
       by true t =
           absurd (not_shut (λ d i at to. ap is_ending (one_end hosts ms
-          (below hosts y ms l) x d e i there at to own foreign) ∙ t))
+          (below hosts y ms l) x ours d e i there at to own foreign) ∙ t))
 
     unshut_before : IsFresh (key_of x) ms → Unshut x ms
     unshut_before fresh e there own foreign =
-        unshut_end hosts ms old x e (unending e there own foreign) (by fresh) where
+        unshut_end hosts ms old x ours e (unending e there own foreign) (by fresh) where
           old : Lawful hosts ms
           old = below hosts y ms l
 
@@ -452,25 +457,25 @@ module _ (hosts : List Host) where
 
           by : IsFresh (key_of x) ms → is_due e.closing ≡ false
           by (inl s) =
-              undue_heard hosts ms old x e there own (unending e there own foreign)
+              undue_heard hosts ms old x ours e there own (unending e there own foreign)
               (ap (λ (o : Option ℕ). is_some o && is_some e.partner) (sym (ap (λ (z : End). z.asked)
               (ends_as e there own foreign)) ∙ s.0)) s.1 s.2
           by (inr none) =
               let off : is_some e.partner ≡ false =
               no_partner e.partner (sym (ap (λ (z : End). z.partner) (ends_as e there own foreign)) ∙ none) in
-              undue_asked hosts ms old x e there own (unending e there own foreign)
+              undue_asked hosts ms old x ours e there own (unending e there own foreign)
               (and_off (is_some e.asked) (is_some e.partner) off) off
 
   -- one whose user hasn't closed it says no CLS first
-  not_gone : (ms : List Moment) → Lawful hosts ms → (x : Life) (f : Fate)
+  pub not_gone : (ms : List Moment) → Lawful hosts ms → (x : Life) (f : Fate) → AreOurs hosts x.host x.peer
       → IsBeside x f (kept_in ms).book.lives (kept_in ms).fates → is_over f ≡ false → Unshut x ms
       → (end_of (key_of x) ms).gone ≡ true → ⊥
-  not_gone ms l x f i goes unshut gone =
+  not_gone ms l x f ours i goes unshut gone =
       clash_shut (is_shut h.end) (shut h.end.mine h.end.closing h.end.partner_closed mine (sym gone_is ∙ gone) taken)
       (unshut h.end there.0 own h.foreign) where
         h : HasOpenEnd (program x.host ms) x
         h =
-            live hosts ms l.0 l.1 l.2 x (contains x (kept_in ms).book.lives
+            live hosts ms l.0 l.1 l.2 x ours.0 (contains x (kept_in ms).book.lives
             (beside_of (kept_in ms).book.lives (kept_in ms).fates x f i)) (beside_over (kept_in ms).book.lives
             (kept_in ms).fates x f (kept_fated ms) i ∙ goes)
 
@@ -484,7 +489,7 @@ module _ (hosts : List Host) where
         own = eqb-true h.end.own x.socket (both h.end.mine (h.end.own == x.socket) there.1).1
 
         is : law_end x.host x.peer x.socket x.foreign ms ≡ plain itself (standing h.end)
-        is = (entry_is (all_ours hosts) ms (lawful_among hosts ms l) x.host x.peer (refl, refl) x.socket x.foreign h.end there.0 own h.foreign).0
+        is = (entry_is hosts ms l x.host x.peer ours x.socket x.foreign h.end there.0 own h.foreign).0
 
         gone_is : (end_of (key_of x) ms).gone ≡ is_sent h.end.closing
         gone_is = ap (λ (z : End). z.gone) is
@@ -492,7 +497,7 @@ module _ (hosts : List Host) where
         taken : h.end.partner_closed ≡ false
         taken =
             sym (ap (λ (z : End). z.taken) is) ∙ not_second_of (end_of (key_of x) ms).gone (end_of (key_of x) ms).taken
-            (goes_now ms l x f i goes).live gone where
+            (goes_now ms l x f ours i goes).live gone where
               not_second_of : (v w : Bool) → (v && w) ≡ false → v ≡ true → w ≡ false
               not_second_of true w e t = e
               not_second_of false w e t = never (sym t)
@@ -528,17 +533,18 @@ module _ (hosts : List Host) where
       (end_of (key_of x) (y ∷ ms)).taken) × ((course_in (key_of x) (y ∷ ms)).early ≡ false) × IsFresh (key_of x) ms
 
   pub begun_now : (y : Moment) (ms : List Moment) → Lawful hosts (y ∷ ms) → (x : Life) (f : Fate)
+      → AreOurs hosts x.host x.peer
       → IsBeside x f (kept_in (y ∷ ms)).book.lives (kept_in (y ∷ ms)).fates
       → IsBegun (host_in y) (notices_by y ms) x f → HasBegun y ms x f
-  begun_now y ms l x f i b =
-      begins (key_of x) y ms f (all_ours hosts) (kind_here (all_ours hosts) x (refl, refl)) (lawful_among hosts (y ∷ ms) l) (clear_before y ms l x b.host b.opens)
-      (goes_now (y ∷ ms) l x f i) b.host (openings_named x (notices_by y ms) b.opens) (how_key y ms x f (inl b.how))
-      (kind_here (all_ours hosts) x (refl, refl) y ms (lawful_among hosts (y ∷ ms) l))
+  begun_now y ms l x f ours i b =
+      begins (key_of x) y ms f hosts (kind_here hosts x ours) l (clear_before y ms l x ours b.host b.opens)
+      (goes_now (y ∷ ms) l x f ours i) b.host (openings_named x (notices_by y ms) b.opens) (how_key y ms x f (inl b.how))
+      (kind_here hosts x ours y ms l)
 
-  pub fits_now : (ms : List Moment) → Lawful hosts ms → (x : Life) (f : Fate)
+  pub fits_now : (ms : List Moment) → Lawful hosts ms → (x : Life) (f : Fate) → AreOurs hosts x.host x.peer
       → IsBeside x f (kept_in ms).book.lives (kept_in ms).fates → IsFit (key_of x) ms f
-  fits_now [] l x f i = absurd i
-  fits_now (y ∷ ms) l x f i = by (came y ms x f i) (fits_now ms (below hosts y ms l)) where
+  fits_now [] l x f ours i = absurd i
+  fits_now (y ∷ ms) l x f ours i = by (came y ms x f i) (fits_now ms (below hosts y ms l)) where
     old : Lawful hosts ms
     old = below hosts y ms l
 
@@ -546,9 +552,10 @@ module _ (hosts : List Host) where
         → z.ended ≡ is_over h
     ended_now ns z h there = beside_over (kept_in ns).book.lives (kept_in ns).fates z h (kept_fated ns) there
 
-    continued : (w : Life) (g : Fate) → IsBeside w g (kept_in ms).book.lives (kept_in ms).fates → Moved y ms w g x f
+    continued : (w : Life) (g : Fate) → AreOurs hosts w.host w.peer
+        → IsBeside w g (kept_in ms).book.lives (kept_in ms).fates → Moved y ms w g x f
         → IsFit (key_of w) ms g → IsFit (key_of w) (y ∷ ms) f
-    continued w g there m was = of (is_over g) refl where
+    continued w g of_w there m was = of (is_over g) refl where
       of : (v : Bool) → is_over g ≡ v → IsFit (key_of w) (y ∷ ms) f
       of true over =
           let s : (c : Cause) × (n : ℕ) × (stage_of (key_of w) ms ≡ Over c n) =
@@ -567,52 +574,56 @@ module _ (hosts : List Host) where
           }
       of false goes = record {
         both =
-            step (key_of w) y ms f (all_ours hosts) (kind_here (all_ours hosts) w (refl, refl)) (lawful_among hosts (y ∷ ms) l) (goes_now ms old w g there goes)
+            step (key_of w) y ms f hosts (kind_here hosts w of_w) l (goes_now ms old w g of_w there goes)
             (λ on. subst (λ (k : Life). IsGoing k (end_of k (y ∷ ms))) (key_named w x m.named)
-            (goes_now (y ∷ ms) l x f i on)) (was.both.1 goes) (how_key y ms w f (m.how goes))
-            (kind_here (all_ours hosts) w (refl, refl) y ms (lawful_among hosts (y ∷ ms) l));
+            (goes_now (y ∷ ms) l x f ours i on)) (was.both.1 goes) (how_key y ms w f (m.how goes))
+            (kind_here hosts w of_w y ms l);
         early = begun_stays (key_of w) y ms (ap is_asking (was.both.1 goes)) was.early;
         unshut =
-            λ o. unshut_next (all_ours hosts) y ms (lawful_among hosts (y ∷ ms) l) w (refl, refl) (ended_now ms w g there ∙ goes) (m.unclosed o) (was.unshut (m.opens o));
+            λ o. unshut_next hosts y ms l w of_w (ended_now ms w g there ∙ goes) (m.unclosed o) (was.unshut (m.opens o));
         first = λ n st ended. elim (m.ends ended) [
           | inl over ↦ never (sym (ap is_over over) ∙ goes)
-          | inr t ↦ not_gone ms old w g there goes (was.unshut t.0) (first_gone (key_of w) y ms f ended n
-              (kind_here (all_ours hosts) w (refl, refl) y ms (lawful_among hosts (y ∷ ms) l)) (goes_now ms old w g there goes) (was.both.1 goes)
+          | inr t ↦ not_gone ms old w g of_w there goes (was.unshut t.0) (first_gone (key_of w) y ms f ended n
+              (kind_here hosts w of_w y ms l) (goes_now ms old w g of_w there goes) (was.both.1 goes)
               (how_key y ms w f (m.how goes)) st)
         ];
       }
 
-    by : Came y ms x f → ((w : Life) (g : Fate) → IsBeside w g (kept_in ms).book.lives (kept_in ms).fates
+    by : Came y ms x f
+        → ((w : Life) (g : Fate) → AreOurs hosts w.host w.peer → IsBeside w g (kept_in ms).book.lives (kept_in ms).fates
         → IsFit (key_of w) ms g) → IsFit (key_of x) (y ∷ ms) f
     by (inl o) before =
         subst (λ (k : Life). IsFit k (y ∷ ms) f) (sym (key_named o.0 x o.3.named))
-        (continued o.0 o.1 o.2 o.3 (before o.0 o.1 o.2))
+        (let of_w : AreOurs hosts o.0.host o.0.peer = ours_of hosts o.0 x.host x.peer ours (sym o.3.named.host, sym o.3.named.peer) in continued o.0 o.1 of_w o.2 o.3 (before o.0 o.1 of_w o.2))
     by (inr b) before = record {
       both = fit_goes (key_of x) (y ∷ ms) f begun.0 begun.1;
       early = begun.2;
       unshut =
-          λ o. unshut_next (all_ours hosts) y ms (lawful_among hosts (y ∷ ms) l) x (refl, refl) (ended_now (y ∷ ms) x f i ∙ begun.0) (no_close_opening y ms x b.opens) (unshut_before y ms l x b.host b.opens begun.3);
+          λ o. unshut_next hosts y ms l x ours (ended_now (y ∷ ms) x f i ∙ begun.0) (no_close_opening y ms x b.opens) (unshut_before y ms l x ours b.host b.opens begun.3);
       first =
           λ n st ended. going_over (key_of x) y ms f ended n (end_of (key_of x) (y ∷ ms)).gone
           (end_of (key_of x) (y ∷ ms)).taken (sym begun.1 ∙ st);
     } where
       begun : HasBegun y ms x f
-      begun = begun_now y ms l x f i b
+      begun = begun_now y ms l x f ours i b
 
 -- ---- by crossings and contacts
 
 -- each life begins as it should, and is left its fate
-pub over_now : (hosts : List Host) (ms : List Moment) → Lawful hosts ms
-    → AreLeft (contacts_of ms) (crossings_of ms) (kept_in ms).book.lives (kept_in ms).fates
-over_now hosts ms l x f i = record {
+pub over_now : (hosts : Network) (ms : List Moment) → Lawful hosts ms
+    → AreLeft (contacts_of ms) (crossings_of ms) (lives_among hosts.strange (kept_in ms).book.lives) (beside_among hosts.strange (kept_in ms).book.lives (kept_in ms).fates)
+over_now hosts ms l x f b = record {
   begins = ap (λ (k : Course). k.early) same ∙ fit.early;
   fate =
       subst (λ (s : Stage). Leaves s f) (sym (ap (λ (k : Course). k.stage) same))
-      (left_by (stage_of (key_of x) ms) f fit.both.0 (λ p is o. not_gone hosts ms l x f i (ap is_over o) (fit.unshut o)
+      (left_by (stage_of (key_of x) ms) f fit.both.0 (λ p is o. not_gone hosts ms l x f i.1 i.0 (ap is_over o) (fit.unshut o)
       (gone_of p is (fit.both.1 (ap is_over o)))) fit.first);
 } where
+  i : IsBeside x f (kept_in ms).book.lives (kept_in ms).fates × AreOurs hosts x.host x.peer
+  i = in_beside hosts x f (kept_in ms).book.lives (kept_in ms).fates b
+
   fit : IsFit (key_of x) ms f
-  fit = fits_now hosts ms l x f i
+  fit = fits_now hosts ms l x f i.1 i.0
 
   same : course (contacts_of ms) x (crossings_of ms) ≡ course_in (key_of x) ms
   same = sym (course_key (contacts_of ms) x (crossings_of ms)) ∙ course_same (key_of x) ms
@@ -623,6 +634,14 @@ over_now hosts ms l x f i = record {
       let both_are : Going true p ≡ Going (end_of (key_of x) ms).gone (end_of (key_of x) ms).taken = sym is
       ∙ now in let first : true ≡ (end_of (key_of x) ms).gone = cc in sym first
 
+-- where all hosts run the program, so it is of all lives
+pub all_over : (hosts : List Host) (ms : List Moment) → Lawful (all_ours hosts) ms
+    → AreLeft (contacts_of ms) (crossings_of ms) (kept_in ms).book.lives (kept_in ms).fates
+all_over hosts ms l =
+    subst (λ (ls : List Life). AreLeft (contacts_of ms) (crossings_of ms) ls (kept_in ms).fates) (among_all (kept_in ms).book.lives)
+    (subst (λ (fs : List Fate). AreLeft (contacts_of ms) (crossings_of ms) (lives_among (λ h. false) (kept_in ms).book.lives) fs)
+    (beside_all (kept_in ms).book.lives (kept_in ms).fates) (over_now (all_ours hosts) ms l))
+
 pub world_over : {C : Type 0} (seen : C → Seen) (hosts : List Host) (w : WorldState C) → IsLawful seen hosts w
     → AreLeft w.kept.book.contacts w.kept.book.crossings w.kept.book.lives w.kept.fates
 world_over seen hosts w lawful =
@@ -632,4 +651,4 @@ world_over seen hosts w lawful =
     (sym lawful.whole.crossings)
     (subst (λ (k : Kept). AreLeft (contacts_of lawful.whole.moments)
     (crossings_of lawful.whole.moments) k.book.lives k.fates) (sym lawful.whole.kept)
-    (over_now hosts lawful.whole.moments (lawful.addresses, book_run seen hosts w lawful, lawful.whole.timeline))))
+    (all_over hosts lawful.whole.moments (book_lawful seen hosts w lawful))))

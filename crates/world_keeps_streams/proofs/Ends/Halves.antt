@@ -1,6 +1,6 @@
 -- Before a life begins: while only one of its requests is there, its stage is that of this one, and no CLS, reset or
 -- stop has come since. And one that has begun, or is over, stays so.
-use Rattle.world_keeps_streams.proofs.Common.{◌≡◌, inl, inr, ℕ, ◌+◌, ◌<◌, ◌≤◌, ◌==◌, ◌&&◌, ◌||◌, not, Bool, true, false, if◌then◌else◌, List, [], ◌∷◌, Some, refl, ap, sym, subst, ◌∙◌, arith, eqb-true, Host, same_host, Legal, Order, Wrong, orders_of, Command, both, End, Mark, Asked, Crossed, Moment, places, Asking, Cause, Course, Dropped, Going, Over, Stage, Stopped, all_gone, cut, each, ended_by, fails, heard, own_asked, own_closed, own_step, partner_asked, partner_closed, partner_step, said, control_flow, or_from}
+use Rattle.world_keeps_streams.proofs.Common.{◌≡◌, inl, inr, ℕ, ◌+◌, ◌<◌, ◌≤◌, ◌==◌, ◌&&◌, ◌||◌, not, Bool, true, false, if◌then◌else◌, List, [], ◌∷◌, Some, refl, ap, sym, subst, ◌∙◌, arith, eqb-true, same_host, Legal, Order, Wrong, orders_of, Command, both, End, Mark, Asked, Crossed, Moment, places, Asking, Cause, Course, Dropped, Going, Over, Stage, Stopped, all_gone, cut, each, ended_by, fails, heard, own_asked, own_closed, own_step, partner_asked, partner_closed, partner_step, said, control_flow, or_from}
 use Rattle.interface.specs.Mailboxes.{same_flow}
 use Rattle.interface.specs.declared.crossing.Crossing.TheVariants as crossing
 use Rattle.ncp_control.specs.declared.command.Command.TheVariants as command
@@ -13,7 +13,7 @@ use Rattle.world_keeps_streams.proofs.Ends.Courses.{contacted_if, course_in, mov
 use Rattle.world_keeps_streams.proofs.Ends.Kinds.{ItDrops, ItHears, ItIdles, ItSays, ItStays, ItStops, Kind, Pace, end_of, pace, stage_of}
 use Rattle.world_keeps_streams.proofs.Ends.MarkedEnds.{asked_heard, heard_from, heard_gone, heard_open, heard_still, heard_taken, own_first, own_stays, own_unclosed, partner_first, partner_said, partner_stays, partner_unclosed, said_from, said_gone, said_none, said_open, said_taken}
 use Rattle.world_keeps_streams.proofs.Ends.Marks.{NoClose, begun_own, begun_own_closed, begun_partner, begun_partner_closed, is_asking, not_half, own_early, own_marks, partner_early, partner_marks}
-use Rattle.world_keeps_streams.proofs.Requests.Sides.{LawfulAmong, below_among}
+use Rattle.world_keeps_streams.proofs.Requests.Sides.{Lawful, below}
 use Rattle.world_keeps_lives.proofs.lemmas.{none_some}
 use Rattle.reset_law.specs.Network.{Network}
 
@@ -230,7 +230,8 @@ module _ (x : Life) where
 
 -- ---- one request is there
 
-module _ (x : Life) (hosts : Network) (kind : (y : Moment) (ms : List Moment) → LawfulAmong hosts (y ∷ ms) → Kind x y ms) where
+module _ (x : Life) (hosts : Network)
+    (kind : (y : Moment) (ms : List Moment) → Lawful hosts (y ∷ ms) → Kind x y ms) where
   no_ask : {A : Type 0} (e : End) (a : ℕ) → e ≡ nothing → e.asked ≡ Some a → A
   no_ask e a none is = none_some a (sym (ap (λ (f : End). f.asked) none) ∙ is)
 
@@ -238,9 +239,9 @@ module _ (x : Life) (hosts : Network) (kind : (y : Moment) (ms : List Moment) �
   no_partner e a none is = none_some a (sym (ap (λ (f : End). f.partner) none) ∙ is)
 
   -- its own, which was sent before
-  pub asked_below : (ms : List Moment) → LawfulAmong hosts ms → (a : ℕ) → (end_of x ms).asked ≡ Some a → a < places ms
+  pub asked_below : (ms : List Moment) → Lawful hosts ms → (a : ℕ) → (end_of x ms).asked ≡ Some a → a < places ms
   asked_below [] l a is = none_some a is
-  asked_below (y ∷ ms) l a is = by (kind y ms l) (asked_below ms (below_among hosts y ms l) a) where
+  asked_below (y ∷ ms) l a is = by (kind y ms l) (asked_below ms (below hosts y ms l) a) where
     later : a < places ms → a < places (y ∷ ms)
     later less = let n : places ms ≤ places (y ∷ ms) = places_next y ms in omega (arith, n, less)
 
@@ -256,9 +257,9 @@ module _ (x : Life) (hosts : Network) (kind : (y : Moment) (ms : List Moment) �
     by (ItIdles s) before = no_ask (end_of x (y ∷ ms)) a s.ends is
 
   -- and its partner's, which was taken
-  partner_below : (ms : List Moment) → LawfulAmong hosts ms → (b : ℕ) → (end_of x ms).partner ≡ Some b → b < places ms
+  partner_below : (ms : List Moment) → Lawful hosts ms → (b : ℕ) → (end_of x ms).partner ≡ Some b → b < places ms
   partner_below [] l b is = none_some b is
-  partner_below (y ∷ ms) l b is = by (kind y ms l) (partner_below ms (below_among hosts y ms l) b) where
+  partner_below (y ∷ ms) l b is = by (kind y ms l) (partner_below ms (below hosts y ms l) b) where
     later : b < places ms → b < places (y ∷ ms)
     later less = let n : places ms ≤ places (y ∷ ms) = places_next y ms in omega (arith, n, less)
 
@@ -316,13 +317,13 @@ module _ (x : Life) (hosts : Network) (kind : (y : Moment) (ms : List Moment) �
         (ap (λ (t : Stage). partner_early x (places ms) marks t) h.0 ∙ on),
   )
 
-  pub half_own : (ms : List Moment) → LawfulAmong hosts ms → (end_of x ms).asked ≡ Some x.own_stamp
+  pub half_own : (ms : List Moment) → Lawful hosts ms → (end_of x ms).asked ≡ Some x.own_stamp
       → (end_of x ms).gone ≡ false → (end_of x ms).taken ≡ false → places ms ≤ x.partner_stamp
       → Half (Asking true false) ms
   half_own [] l is on unheard le = none_some x.own_stamp is
   half_own (y ∷ ms) l is on unheard le = by (kind y ms l) (half_own ms old) where
-    old : LawfulAmong hosts ms
-    old = below_among hosts y ms l
+    old : Lawful hosts ms
+    old = below hosts y ms l
 
     here : places ms ≤ x.partner_stamp
     here = let n : places ms ≤ places (y ∷ ms) = places_next y ms in omega (arith, n, le)
@@ -380,12 +381,12 @@ module _ (x : Life) (hosts : Network) (kind : (y : Moment) (ms : List Moment) �
         (ap (λ (e : End). e.gone) (sym s.ends) ∙ on) (ap (λ (e : End). e.taken) (sym s.ends) ∙ unheard) here)
     by (ItIdles s) before = no_ask (end_of x (y ∷ ms)) x.own_stamp s.ends is
 
-  pub half_partner : (ms : List Moment) → LawfulAmong hosts ms → (end_of x ms).partner ≡ Some x.partner_stamp
+  pub half_partner : (ms : List Moment) → Lawful hosts ms → (end_of x ms).partner ≡ Some x.partner_stamp
       → (end_of x ms).gone ≡ false → (end_of x ms).taken ≡ false → places ms ≤ x.own_stamp → Half (Asking false true) ms
   half_partner [] l is on unheard le = none_some x.partner_stamp is
   half_partner (y ∷ ms) l is on unheard le = by (kind y ms l) (half_partner ms old) where
-    old : LawfulAmong hosts ms
-    old = below_among hosts y ms l
+    old : Lawful hosts ms
+    old = below hosts y ms l
 
     here : places ms ≤ x.own_stamp
     here = let n : places ms ≤ places (y ∷ ms) = places_next y ms in omega (arith, n, le)

@@ -23,7 +23,7 @@ use Rattle.world_keeps_streams.proofs.Ends.Marks.{AllHere, AskOnce, all_said, al
 use Rattle.world_keeps_streams.proofs.Ends.Owes.{AData, AReply, AReset, Outs, Several, next_out, outs, owes_is, pair_is, queue_plain, when_on}
 use Rattle.world_keeps_streams.proofs.Ends.Ties.{end_in, entry_is, has_now, itself, law_end, once}
 use Rattle.world_keeps_streams.proofs.Lives.Fates.{IsDown, IsEnd, IsOpening, IsResetting, TellsEnd, TellsOpening, TellsReset}
-use Rattle.world_keeps_streams.proofs.Requests.Sides.{LawfulAmong, below_among, coupled_among}
+use Rattle.world_keeps_streams.proofs.Requests.Sides.{Lawful, below, coupled_in}
 use Rattle.reset_law.specs.Network.{AreOurs, Network}
 
 -- ---- what notices say of a life
@@ -279,7 +279,7 @@ module _ (k : Life) where
     spare_taken (o ∷ os) none = (tt, spare_taken os (append_none (mark_in place k.foreign k.socket o) (marks_in place k.foreign k.socket os) none).1)
 
   module _ (hosts : Network) (ours : AreOurs hosts k.host k.peer) where
-    module _ (ms : List Moment) (l : LawfulAmong hosts ms) where
+    module _ (ms : List Moment) (l : Lawful hosts ms) where
       -- the ends of its sockets, by tests of them
       pub off_any : (e : Entry) → Among e (pair_with k.peer (program k.host ms).peers).entries → e.own ≡ k.socket → e.foreign ≡ k.foreign → false ≡ false
       off_any e i is there = refl
@@ -295,15 +295,16 @@ module _ (k : Life) where
 
     -- ---- what goes out
 
-    module _ (m : HostMessage) (ms : List Moment) (l : LawfulAmong hosts (Crossed (crossing.Out m) ∷ ms)) (from : same_host k.host m.flow.source ≡ true) (to : same_host k.peer m.flow.destination ≡ true) where
+    module _ (m : HostMessage) (ms : List Moment) (l : Lawful hosts (Crossed (crossing.Out m) ∷ ms))
+        (from : same_host k.host m.flow.source ≡ true) (to : same_host k.peer m.flow.destination ≡ true) where
       abbrev y : Moment
       y = Crossed (crossing.Out m)
 
-      lower : LawfulAmong hosts ms
-      lower = below_among hosts (Crossed (crossing.Out m)) ms l
+      lower : Lawful hosts ms
+      lower = below hosts (Crossed (crossing.Out m)) ms l
 
       n : IsNext (program k.host ms) m
-      n = subst (λ (h : Host). IsNext (program h ms) m) (sym (same_host-true k.host m.flow.source from)) ((coupled_among hosts (Crossed (crossing.Out m) ∷ ms) l).story.0 (subst (λ (g : Host). hosts.strange g ≡ false) (same_host-true k.host m.flow.source from) ours.0))
+      n = subst (λ (h : Host). IsNext (program h ms) m) (sym (same_host-true k.host m.flow.source from)) ((coupled_in hosts (Crossed (crossing.Out m) ∷ ms) l).story.0 (subst (λ (g : Host). hosts.strange g ≡ false) (same_host-true k.host m.flow.source from) ours.0))
 
       there : n.peer.host ≡ k.peer
       there = sym (same_host-true k.peer m.flow.destination to ∙ ap (λ (x : HostMessage). x.flow.destination) n.message)

@@ -12,7 +12,7 @@ use Rattle.net_sim.proofs.lemmas.{cleared_waits, fetched_waits}
 use Rattle.world_keeps_streams.proofs.Ends.Marks.{AllHere, AskOnce, NoAsk, marks_here}
 use Rattle.world_keeps_streams.proofs.Ends.Owes.{AData, AReply, AReset, Outs, Several, outs}
 use Rattle.world_keeps_streams.proofs.Ends.Ties.{LikeMarks, has_now, itself, law_end, like_marks}
-use Rattle.world_keeps_streams.proofs.Requests.Sides.{LawfulAmong, below_among, coupled_among}
+use Rattle.world_keeps_streams.proofs.Requests.Sides.{Lawful, below, coupled_in}
 use Rattle.reset_law.specs.Network.{AreOurs, Network}
 
 -- ---- marks
@@ -60,13 +60,13 @@ legal_marks place own foreign (c ∷ cs) =
 abbrev OnceIn : List Order → Type 0
 OnceIn os = (own foreign place : ℕ) → AskOnce (marks_in place own foreign os)
 
-module _ (hosts : Network) (m : HostMessage) (ms : List Moment) (l : LawfulAmong hosts
+module _ (hosts : Network) (m : HostMessage) (ms : List Moment) (l : Lawful hosts
     (Crossed (crossing.Out m) ∷ ms)) (ours : AreOurs hosts m.flow.source m.flow.destination) where
-  lower : LawfulAmong hosts ms
-  lower = below_among hosts (Crossed (crossing.Out m)) ms l
+  lower : Lawful hosts ms
+  lower = below hosts (Crossed (crossing.Out m)) ms l
 
   n : IsNext (program m.flow.source ms) m
-  n = (coupled_among hosts (Crossed (crossing.Out m) ∷ ms) l).story.0 ours.0
+  n = (coupled_in hosts (Crossed (crossing.Out m) ∷ ms) l).story.0 ours.0
 
   with_peer : AreOurs hosts m.flow.source n.peer.host
   with_peer = (ours.0, subst (λ (g : Host). hosts.strange g ≡ false) (ap (λ (y : HostMessage). y.flow.destination) n.message) ours.1)
@@ -103,16 +103,16 @@ AllOnce hosts [] = Unit {0}
 AllOnce hosts (crossing.Out m ∷ log) = (AreOurs hosts m.flow.source m.flow.destination → (m.flow.link.0 == 0) ≡ true → OnceIn (orders_of m.text)) × AllOnce hosts log
 AllOnce hosts (c ∷ log) = AllOnce hosts log
 
-all_once : (hosts : Network) (ms : List Moment) → LawfulAmong hosts ms → AllOnce hosts (crossings_of ms)
+all_once : (hosts : Network) (ms : List Moment) → Lawful hosts ms → AllOnce hosts (crossings_of ms)
 all_once hosts [] l = tt
 all_once hosts (Crossed (crossing.Out m) ∷ ms) l =
-    (out_once hosts m ms l, all_once hosts ms (below_among hosts (Crossed (crossing.Out m)) ms l))
-all_once hosts (Crossed (crossing.In m) ∷ ms) l = all_once hosts ms (below_among hosts (Crossed (crossing.In m)) ms l)
+    (out_once hosts m ms l, all_once hosts ms (below hosts (Crossed (crossing.Out m)) ms l))
+all_once hosts (Crossed (crossing.In m) ∷ ms) l = all_once hosts ms (below hosts (Crossed (crossing.In m)) ms l)
 all_once hosts (Crossed (crossing.Answer kind f) ∷ ms) l =
-    all_once hosts ms (below_among hosts (Crossed (crossing.Answer kind f)) ms l)
-all_once hosts (Crossed (crossing.Down h) ∷ ms) l = all_once hosts ms (below_among hosts (Crossed (crossing.Down h)) ms l)
-all_once hosts (Crossed (crossing.Up h) ∷ ms) l = all_once hosts ms (below_among hosts (Crossed (crossing.Up h)) ms l)
-all_once hosts (Asked h r ∷ ms) l = all_once hosts ms (below_among hosts (Asked h r) ms l)
+    all_once hosts ms (below hosts (Crossed (crossing.Answer kind f)) ms l)
+all_once hosts (Crossed (crossing.Down h) ∷ ms) l = all_once hosts ms (below hosts (Crossed (crossing.Down h)) ms l)
+all_once hosts (Crossed (crossing.Up h) ∷ ms) l = all_once hosts ms (below hosts (Crossed (crossing.Up h)) ms l)
+all_once hosts (Asked h r ∷ ms) l = all_once hosts ms (below hosts (Asked h r) ms l)
 
 abbrev text_in : mail.Box → List Bool
 text_in mail.Empty = []
@@ -140,10 +140,10 @@ waits_once hosts f ours p text (crossing.Down h ∷ log) zero all is = waits_onc
 waits_once hosts f ours p text (crossing.Up h ∷ log) zero all is =
     waits_once hosts f ours p text log zero all (cleared_waits (mail.box_of f log) p text (same_host f.source h) is)
 
-pub in_once : (hosts : Network) (m : HostMessage) (ms : List Moment) → LawfulAmong hosts (Crossed (crossing.In m) ∷ ms)
+pub in_once : (hosts : Network) (m : HostMessage) (ms : List Moment) → Lawful hosts (Crossed (crossing.In m) ∷ ms)
     → AreOurs hosts m.flow.source m.flow.destination → (m.flow.link.0 == 0) ≡ true → (own foreign place : ℕ) → AskOnce (marks_in place own foreign (orders_of m.text))
 in_once hosts m ms l ours zero =
     let w : (place : ℕ) × (mail.box_of m.flow (crossings_of ms) ≡ mail.Waiting place m.text) =
     waits_with (mail.box_of m.flow (crossings_of ms)) m.text l.1.0.1 in
     waits_once hosts m.flow ours w.0 m.text (crossings_of ms) zero (all_once hosts ms
-    (below_among hosts (Crossed (crossing.In m)) ms l)) w.1
+    (below hosts (Crossed (crossing.In m)) ms l)) w.1

@@ -1,7 +1,5 @@
 -- A life that begins: no user of its host has closed its end before.
-use Rattle.world_keeps_streams.proofs.Common.{◌≡◌, ◌⊎◌, inl, inr, ℕ, ◌==◌, ◌&&◌, ◌||◌, not, Bool, true, false, List, [], ◌∷◌, filter, length, Option, Some, None, is_some, refl, ap, sym, subst, ◌∙◌, eq-eqb, list_any, Host, same_host, or_false, same_host-true, has_cls, is_answered, is_at, is_busy, is_called_off, is_due, is_ending, is_link, is_mine_on, is_receiving, sends_on, Closing, Entry, has_opened, name_now, numbered, sender_now, marks, pair_with, Moment, program, mine_on, held, own_calls, story_agrees}
-use Rattle.net_sim.proofs.lemmas.AllOurs.{happened}
-use Rattle.reset_law.specs.Network.{all_ours}
+use Rattle.world_keeps_streams.proofs.Common.{◌≡◌, ◌⊎◌, inl, inr, ℕ, ◌==◌, ◌&&◌, ◌||◌, not, Bool, true, false, List, [], ◌∷◌, filter, length, Option, Some, None, is_some, refl, ap, sym, subst, ◌∙◌, eq-eqb, list_any, Host, same_host, or_false, same_host-true, has_cls, is_answered, is_at, is_busy, is_called_off, is_due, is_ending, is_link, is_mine_on, is_receiving, sends_on, Closing, Entry, has_opened, name_now, numbered, sender_now, marks, pair_with, Moment, program, mine_on, own_calls, story_agrees, Network, AreOurs}
 use Rattle.host_keeps_streams.specs.Ends.{AreSender}
 use Rattle.host_pairs.specs.declared.entry.Closing.TheVariants as closing
 use Rattle.ncp_control.specs.declared.phase.Phase.TheVariants as phase
@@ -17,11 +15,12 @@ use Rattle.world_keeps_streams.proofs.Ends.Marks.{never}
 use Rattle.world_keeps_streams.proofs.Ends.Ties.{has_now, itself, law_end}
 use Rattle.world_keeps_streams.proofs.Ends.Unshut.{is_shut}
 use Rattle.world_keeps_streams.proofs.Lives.Left.{at_it, one_of}
-use Rattle.world_keeps_streams.proofs.Requests.Sides.{Lawful, coupled_in, lawful_among}
+use Rattle.world_keeps_streams.proofs.Requests.Sides.{Lawful, coupled_in}
 use Rattle.world_keeps_streams.proofs.Steps.Streams.{has_sender}
 use Rattle.world_keeps_streams.proofs.Tidy.Pairs.{Each, IsTidy}
 use Rattle.world_keeps_streams.proofs.Tidy.Programs.{all_tidy}
 use Rattle.world_keeps_streams.proofs.Facts.{clash}
+use Rattle.world_keeps_streams.proofs.Ours.{held}
 
 -- ---- lists
 
@@ -57,7 +56,8 @@ only_sender name (x ∷ y ∷ ys) s e f h i j = absurd h
 
 -- ---- an end that didn't open isn't due
 
-module _ (hosts : List Host) (ms : List Moment) (l : Lawful hosts ms) (x : Life) where
+module _ (hosts : Network) (ms : List Moment) (l : Lawful hosts ms) (x : Life)
+    (ours : AreOurs hosts x.host x.peer) where
   abbrev es : List Entry
   es = (pair_with x.peer (program x.host ms).peers).entries
 
@@ -69,7 +69,7 @@ module _ (hosts : List Host) (ms : List Moment) (l : Lawful hosts ms) (x : Life)
       one_of itself 0 (filter (is_at x.socket x.foreign) (pair_with x.peer (program x.host ms).peers).entries)
       (marks 0 x.socket x.foreign (pair_with x.peer (program x.host ms).peers).queue)
       (law_end x.host x.peer x.socket x.foreign ms) e f
-      ((has_now (all_ours hosts) ms (lawful_among hosts ms l) x.host x.peer (refl, refl) x.socket x.foreign).ends 0)
+      ((has_now hosts ms l x.host x.peer ours x.socket x.foreign).ends 0)
       (among_kept (is_at x.socket x.foreign) (pair_with x.peer (program x.host ms).peers).entries e i
       (at_it x.socket x.foreign e a b)) (among_kept (is_at x.socket x.foreign)
       (pair_with x.peer (program x.host ms).peers).entries f j (at_it x.socket x.foreign f c d))
@@ -82,7 +82,7 @@ module _ (hosts : List Host) (ms : List Moment) (l : Lawful hosts ms) (x : Life)
       by true t = refl
       by false t =
           clash (has_cls e.closing) (refusing_among (pair_with x.peer (program x.host ms).peers).entries e
-          ((held x.host x.socket hosts l.0 ms l.1 l.2).steady.refusing x.peer) there t)
+          ((held x.host x.socket hosts l.0 ours.0 ms l.1 l.2).steady.refusing x.peer) there t)
           (or_false (has_cls e.closing) e.partner_closed goes).0
 
     on_socket : is_mine_on x.socket e ≡ true
@@ -93,7 +93,7 @@ module _ (hosts : List Host) (ms : List Moment) (l : Lawful hosts ms) (x : Life)
 
     -- nothing was handed over to be sent
     empty : e.bits ≡ []
-    empty = elim (held x.host x.socket hosts l.0 ms l.1 l.2).socket [
+    empty = elim (held x.host x.socket hosts l.0 ours.0 ms l.1 l.2).socket [
       | inl free ↦ absurd (subst (λ (xs : List Entry). Among e xs) (free.none x.peer) among_mine)
       | inr owned ↦ of owned (same_host x.peer owned.peer) refl
     ] where
@@ -111,7 +111,7 @@ module _ (hosts : List Host) (ms : List Moment) (l : Lawful hosts ms) (x : Life)
     tidy : IsTidy (pair_with x.peer (program x.host ms).peers).busy e
     tidy =
         each_among (IsTidy (pair_with x.peer (program x.host ms).peers).busy)
-        (pair_with x.peer (program x.host ms).peers).entries e (all_tidy hosts l.0 ms l.1 l.2 x.host x.peer) there
+        (pair_with x.peer (program x.host ms).peers).entries e (all_tidy hosts l.0 ms l.1 l.2 x.host ours.0 x.peer) there
 
     -- it has to close once no answer is waited for on its link
     undue : (is_receiving e ≡ false → is_answered (pair_with x.peer (program x.host ms).peers).busy e.link ≡ true)
@@ -153,7 +153,7 @@ module _ (hosts : List Host) (ms : List Moment) (l : Lawful hosts ms) (x : Life)
       away : (k : ℕ) → e.link ≡ Some k → (k == 0) ≡ false
       away k is =
           ap on_control (sym is) ∙ any_off (λ f. on_control f.link) (pair_with x.peer
-          (program x.host ms).peers).entries e (story_agrees (all_ours hosts) ms x.host x.peer (refl, refl) (coupled_in hosts ms l).story).linked there
+          (program x.host ms).peers).entries e (story_agrees hosts ms x.host x.peer ours (coupled_in hosts ms l).story).linked there
 
       answered : is_receiving e ≡ false → (o : Option ℕ) → e.link ≡ o → is_answered
           (pair_with x.peer (program x.host ms).peers).busy o ≡ true
@@ -169,14 +169,14 @@ module _ (hosts : List Host) (ms : List Moment) (l : Lawful hosts ms) (x : Life)
             only_sender (name_now numbered x.peer (own_calls x.host x.peer ms))
             (filter (sends_on k) (pair_with x.peer (program x.host ms).peers).entries)
             (sender_now numbered x.peer k (own_calls x.host x.peer ms)) e h.0
-            (has_sender (all_ours hosts) l.0 k (away k is) x.host x.peer (refl, refl) ms l.1 (happened hosts ms l.2)).here
+            (has_sender hosts l.0 k (away k is) x.host x.peer ours ms l.1 l.2).here
             (among_kept (sends_on k) (pair_with x.peer (program x.host ms).peers).entries e there here)
             (among_kept (sends_on k) (pair_with x.peer (program x.host ms).peers).entries h.0 h.1 parts.sends) in
             never (sym (ap (λ (v : Bool). v && is_some h.0.partner) parts.asked ∙ parts.partner)
             ∙ ap has_opened (sym same) ∙ fresh)
 
         by : (v : Bool) → is_busy (pair_with x.peer (program x.host ms).peers).busy k ≡ v → not v ≡ true
-        by true busy = absurd (other (busy_open (all_ours hosts) x.host x.peer (refl, refl) k (away k is) ms (lawful_among hosts ms l) ready owes busy))
+        by true busy = absurd (other (busy_open hosts x.host x.peer ours k (away k is) ms l ready owes busy))
         by false free = refl
 
   open_closing : (c : Closing) → has_cls c ≡ false → is_due c ≡ false → is_called_off c ≡ false

@@ -13,7 +13,7 @@ use Rattle.promise.specs.Ends.{asks_for, closes}
 use Rattle.promise.specs.declared.life.Life.{Life}
 use Rattle.world_keeps_streams.proofs.Ends.Courses.{course_in}
 use Rattle.world_keeps_streams.proofs.Ends.Marks.{heard_plain, said_plain}
-use Rattle.world_keeps_streams.proofs.Requests.Sides.{LawfulAmong, below_among, coupled_among}
+use Rattle.world_keeps_streams.proofs.Requests.Sides.{Lawful, below, coupled_in}
 use Rattle.world_keeps_pairing.proofs.lemmas as served
 use Rattle.reset_law.specs.Network.{AreOurs, Network}
 
@@ -25,12 +25,13 @@ pub data Outs (q : PairState) (p : Parcel) (m : HostMessage) : Type 0 where
   Several : (count : ℕ) → (is : p ≡ parcel.Commands count) → (zero : m.flow.link.0 ≡ 0) → (orders : orders_of m.text ≡ map Legal (take count q.queue)) → Outs q p m
   AData : (e : Entry) → (size count : ℕ) → (is : p ≡ parcel.Bytes e size count) → (away : (m.flow.link.0 == 0) ≡ false) → Outs q p m
 
-module _ (hosts : Network) (ms : List Moment) (l : LawfulAmong hosts ms) (h : Host) (m : HostMessage) (n : IsNext (program h ms) m) (ours : AreOurs hosts h n.peer.host) where
+module _ (hosts : Network) (ms : List Moment) (l : Lawful hosts ms) (h : Host) (m : HostMessage)
+    (n : IsNext (program h ms) m) (ours : AreOurs hosts h n.peer.host) where
   pub pair_is : pair_with n.peer.host (program h ms).peers ≡ n.peer.pair
   pair_is = next_pair (program h ms).peers n.peer n.parcel n.order n.next
 
   agrees : Agrees (pair_with n.peer.host (program h ms).peers) (pair h n.peer.host (events_of ms))
-  agrees = story_agrees hosts ms h n.peer.host ours (coupled_among hosts ms l).story
+  agrees = story_agrees hosts ms h n.peer.host ours (coupled_in hosts ms l).story
 
   pub queue_plain : ArePlain n.peer.pair.queue
   queue_plain = subst (λ (q : PairState). ArePlain q.queue) pair_is agrees.plain
@@ -115,16 +116,17 @@ module _ (hosts : Network) (x : Life) (ours : AreOurs hosts x.host x.peer) where
   abbrev IsOwed : List Moment → Type 0
   IsOwed ms = (course_in x ms).owes ≡ (pair x.host x.peer (events_of ms)).owed
 
-  out_owed : (m : HostMessage) (ms : List Moment) → LawfulAmong hosts (Crossed (crossing.Out m) ∷ ms) → IsOwed ms → IsOwed (Crossed (crossing.Out m) ∷ ms)
+  out_owed : (m : HostMessage) (ms : List Moment) → Lawful hosts (Crossed (crossing.Out m) ∷ ms) → IsOwed ms
+      → IsOwed (Crossed (crossing.Out m) ∷ ms)
   out_owed m ms l old = by (same_host x.host m.flow.source) (same_host x.peer m.flow.destination) refl refl where
     on : same_host x.host m.flow.source ≡ true → same_host x.peer m.flow.destination ≡ true
         → (if 0 == m.flow.link.0 then each (said x (places ms)) (orders_of m.text) (course_in x ms) else course_in x ms).owes ≡ (pair_sent m.flow.link.0 (message_on m.flow.link.0 m.text) (pair x.host x.peer (events_of ms))).owed
     on e f = of (outs hosts ms lower x.host m n with_peer) where
-      lower : LawfulAmong hosts ms
-      lower = below_among hosts (Crossed (crossing.Out m)) ms l
+      lower : Lawful hosts ms
+      lower = below hosts (Crossed (crossing.Out m)) ms l
 
       n : IsNext (program x.host ms) m
-      n = subst (λ (h : Host). IsNext (program h ms) m) (sym (same_host-true x.host m.flow.source e)) ((coupled_among hosts (Crossed (crossing.Out m) ∷ ms) l).story.0 (subst (λ (g : Host). hosts.strange g ≡ false) (same_host-true x.host m.flow.source e) ours.0))
+      n = subst (λ (h : Host). IsNext (program h ms) m) (sym (same_host-true x.host m.flow.source e)) ((coupled_in hosts (Crossed (crossing.Out m) ∷ ms) l).story.0 (subst (λ (g : Host). hosts.strange g ≡ false) (same_host-true x.host m.flow.source e) ours.0))
 
       with_peer : AreOurs hosts x.host n.peer.host
       with_peer = (ours.0, subst (λ (g : Host). hosts.strange g ≡ false) (same_host-true x.peer m.flow.destination f ∙ ap (λ (y : HostMessage). y.flow.destination) n.message) ours.1)
@@ -156,7 +158,8 @@ module _ (hosts : Network) (x : Life) (ours : AreOurs hosts x.host x.peer) where
     by true false e f = old
     by false w e f = old
 
-  in_owed : (m : HostMessage) (ms : List Moment) → LawfulAmong hosts (Crossed (crossing.In m) ∷ ms) → IsOwed ms → IsOwed (Crossed (crossing.In m) ∷ ms)
+  in_owed : (m : HostMessage) (ms : List Moment) → Lawful hosts (Crossed (crossing.In m) ∷ ms) → IsOwed ms
+      → IsOwed (Crossed (crossing.In m) ∷ ms)
   in_owed m ms l old = by (same_host x.host m.flow.destination) (same_host x.peer m.flow.source) refl refl where
     on : same_host x.host m.flow.destination ≡ true → same_host x.peer m.flow.source ≡ true → Sort m.flow.link.0 m.text → (if 0 == m.flow.link.0 then each (heard x (places ms)) (orders_of m.text) (course_in x ms) else course_in x ms).owes ≡ (took (message_on m.flow.link.0 m.text) (pair x.host x.peer (events_of ms))).owed
     on e f (AnRst zero orders is) =
@@ -167,7 +170,7 @@ module _ (hosts : Network) (x : Life) (ours : AreOurs hosts x.host x.peer) where
         ∙ ap (λ (t : Message). (took t (pair x.host x.peer (events_of ms))).owed) (sym is)
     on e f (AText is) = text (m.flow.link.0 == 0) refl ∙ old ∙ ap (λ (t : Message). (took t (pair x.host x.peer (events_of ms))).owed) (sym is) where
       plain : (m.flow.link.0 == 0) ≡ true → AllPlain (orders_of m.text)
-      plain = subst (λ (t : Message). IsApart m.flow.link.0 m.text t) is ((coupled_among hosts (Crossed (crossing.In m) ∷ ms) l).story.0 (subst (λ (g : Host). hosts.strange g ≡ false) (same_host-true x.peer m.flow.source f) ours.1, subst (λ (g : Host). hosts.strange g ≡ false) (same_host-true x.host m.flow.destination e) ours.0))
+      plain = subst (λ (t : Message). IsApart m.flow.link.0 m.text t) is ((coupled_in hosts (Crossed (crossing.In m) ∷ ms) l).story.0 (subst (λ (g : Host). hosts.strange g ≡ false) (same_host-true x.peer m.flow.source f) ours.1, subst (λ (g : Host). hosts.strange g ≡ false) (same_host-true x.host m.flow.destination e) ours.0))
 
       text : (v : Bool) → (m.flow.link.0 == 0) ≡ v → (if 0 == m.flow.link.0 then each (heard x (places ms)) (orders_of m.text) (course_in x ms) else course_in x ms).owes ≡ (course_in x ms).owes
       text true zero =
@@ -197,21 +200,22 @@ module _ (hosts : Network) (x : Life) (ours : AreOurs hosts x.host x.peer) where
   stops true j k p old e = e
   stops false j k p old e = old
 
-  pub owes_law : (ms : List Moment) → LawfulAmong hosts ms → IsOwed ms
+  pub owes_law : (ms : List Moment) → Lawful hosts ms → IsOwed ms
   owes_law [] l = refl
-  owes_law (Crossed (crossing.Out m) ∷ ms) l = out_owed m ms l (owes_law ms (below_among hosts (Crossed (crossing.Out m)) ms l))
-  owes_law (Crossed (crossing.In m) ∷ ms) l = in_owed m ms l (owes_law ms (below_among hosts (Crossed (crossing.In m)) ms l))
+  owes_law (Crossed (crossing.Out m) ∷ ms) l = out_owed m ms l (owes_law ms (below hosts (Crossed (crossing.Out m)) ms l))
+  owes_law (Crossed (crossing.In m) ∷ ms) l = in_owed m ms l (owes_law ms (below hosts (Crossed (crossing.In m)) ms l))
   owes_law (Crossed (crossing.Answer kind f) ∷ ms) l =
-      cut_same (fails kind && (same_host x.host f.source && same_host x.peer f.destination) && not (course_in x ms).owes) (places ms) (course_in x ms) ∙ owes_law ms (below_among hosts (Crossed (crossing.Answer kind f)) ms l)
+      cut_same (fails kind && (same_host x.host f.source && same_host x.peer f.destination) && not (course_in x ms).owes) (places ms) (course_in x ms) ∙ owes_law ms (below hosts (Crossed (crossing.Answer kind f)) ms l)
       ∙ sym (told_same (are x.host x.peer f.source f.destination) f.link.0 kind (pair x.host x.peer (events_of ms)))
   owes_law (Crossed (crossing.Down h) ∷ ms) l =
-      stops (same_host x.host h) (record (ended_by (cut Stopped (places ms)) (course_in x ms)) { owes = false }) (course_in x ms) (pair x.host x.peer (events_of ms)) (owes_law ms (below_among hosts (Crossed (crossing.Down h)) ms l)) refl
+      stops (same_host x.host h) (record (ended_by (cut Stopped (places ms)) (course_in x ms)) { owes = false }) (course_in x ms) (pair x.host x.peer (events_of ms)) (owes_law ms (below hosts (Crossed (crossing.Down h)) ms l)) refl
   owes_law (Crossed (crossing.Up h) ∷ ms) l =
-      stops (same_host x.host h) (record (course_in x ms) { owes = false }) (course_in x ms) (pair x.host x.peer (events_of ms)) (owes_law ms (below_among hosts (Crossed (crossing.Up h)) ms l)) refl
+      stops (same_host x.host h) (record (course_in x ms) { owes = false }) (course_in x ms) (pair x.host x.peer (events_of ms)) (owes_law ms (below hosts (Crossed (crossing.Up h)) ms l)) refl
   owes_law (Asked h (request.Contact peer) ∷ ms) l =
-      cut_same (same_host x.host h && same_host x.peer peer) (places ms) (course_in x ms) ∙ owes_law ms (below_among hosts (Asked h (request.Contact peer)) ms l) ∙ sym (call_same (are x.host x.peer h peer) (pair x.host x.peer (events_of ms)))
-  owes_law (Asked h r ∷ ms) l = owes_law ms (below_among hosts (Asked h r) ms l)
+      cut_same (same_host x.host h && same_host x.peer peer) (places ms) (course_in x ms) ∙ owes_law ms (below hosts (Asked h (request.Contact peer)) ms l) ∙ sym (call_same (are x.host x.peer h peer) (pair x.host x.peer (events_of ms)))
+  owes_law (Asked h r ∷ ms) l = owes_law ms (below hosts (Asked h r) ms l)
 
   -- so it is in the program
-  pub owes_is : (ms : List Moment) → LawfulAmong hosts ms → (course_in x ms).owes ≡ (pair_with x.peer (program x.host ms).peers).owed
-  owes_is ms l = owes_law ms l ∙ (story_agrees hosts ms x.host x.peer ours (coupled_among hosts ms l).story).owed
+  pub owes_is : (ms : List Moment) → Lawful hosts ms
+      → (course_in x ms).owes ≡ (pair_with x.peer (program x.host ms).peers).owed
+  owes_is ms l = owes_law ms l ∙ (story_agrees hosts ms x.host x.peer ours (coupled_in hosts ms l).story).owed

@@ -7,7 +7,7 @@ use Rattle.world_keeps_streams.proofs.Books.Arrives.{end_at}
 use Rattle.world_keeps_streams.proofs.Calls.MayHear.{has_end}
 use Rattle.world_keeps_streams.proofs.Deeds.Effects.{Among, among_kept, among_mapped}
 use Rattle.world_keeps_streams.proofs.Lives.Left.{stands_as}
-use Rattle.world_keeps_streams.proofs.Requests.Sides.{LawfulAmong, coupled_among}
+use Rattle.world_keeps_streams.proofs.Requests.Sides.{Lawful, coupled_in}
 use Rattle.world_keeps_pairing.proofs.lemmas as served
 use Rattle.reset_law.specs.Network.{AreOurs, Network}
 
@@ -150,11 +150,11 @@ pub record IsGoing (x : Life) (e : End) : Type 0 where
 
 -- ---- at all moments
 
-module _ (hosts : Network) (ms : List Moment) (l : LawfulAmong hosts ms) where
+module _ (hosts : Network) (ms : List Moment) (l : Lawful hosts ms) where
   pub has_now : (h p : Host) → AreOurs hosts h p → (own foreign : ℕ) → HasEnd itself own foreign (pair_with p (program h ms).peers) (law_end h p own foreign ms)
   has_now h p ours own foreign = has_in (origin_in (crossings_of ms) h p) own foreign (pair_with p (program h ms).peers) found.0 found.1 where
     c : Coupled hosts ms
-    c = coupled_among hosts ms l
+    c = coupled_in hosts ms l
 
     tied : AllTied hosts (origin_in (crossings_of ms)) ms
     tied = all_tied hosts (origin_in (crossings_of ms)) ms (are_origins 0 (crossings_of ms) [] ms refl) c.story c.run (served.served_in hosts ms l.2)

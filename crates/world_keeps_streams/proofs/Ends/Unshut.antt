@@ -19,7 +19,7 @@ use Rattle.world_keeps_streams.proofs.Deeds.Effects.{Among, Changed, among_chang
 use Rattle.world_keeps_streams.proofs.Ends.Kept.{IsTest, Keeps, Spares, keeps_changed, keeps_found, keeps_gone, keeps_joined, keeps_quiet, keeps_settled, keeps_taken}
 use Rattle.world_keeps_streams.proofs.Ends.Marks.{never}
 use Rattle.world_keeps_streams.proofs.Lives.Fates.{IsClose}
-use Rattle.world_keeps_streams.proofs.Requests.Sides.{LawfulAmong, below_among}
+use Rattle.world_keeps_streams.proofs.Requests.Sides.{Lawful, below}
 use Rattle.world_keeps_streams.proofs.Steps.Kinds.{NoClose, NoneClose, none_crossed, none_if, none_owner}
 use Rattle.world_keeps_streams.proofs.Steps.Streams.{all_allowed}
 use Rattle.world_keeps_streams.proofs.Facts.{middle_off, no_zero}
@@ -242,13 +242,14 @@ abbrev pub Unshut : Life → List Moment → Type 0
 Unshut x ms = AreUnshut x.socket x.foreign (pair_with x.peer (program x.host ms).peers).entries
 
 -- a moment in which no user closes it leaves it so
-pub unshut_next : (hosts : Network) (y : Moment) (ms : List Moment) → LawfulAmong hosts (y ∷ ms) → (x : Life) → AreOurs hosts x.host x.peer
+pub unshut_next : (hosts : Network) (y : Moment) (ms : List Moment) → Lawful hosts (y ∷ ms) → (x : Life)
+    → AreOurs hosts x.host x.peer
     → x.ended ≡ false → (IsClose y x → ⊥) → Unshut x ms → Unshut x (y ∷ ms)
 unshut_next hosts y ms l x ours goes none h =
     subst (λ (es : List Entry). AreUnshut x.socket x.foreign es) now.1
     (by (keeps x.host x.peer (event_in y) (events_of ms)) refl) where
-      lower : LawfulAmong hosts ms
-      lower = below_among hosts y ms l
+      lower : Lawful hosts ms
+      lower = below hosts y ms l
 
       now : Chained x.host x.peer (y ∷ ms)
       now = chain hosts l.0 (y ∷ ms) l.1 l.2 x.host x.peer ours

@@ -1,5 +1,8 @@
 -- What a life counts had crossed before it was over.
-use Rattle.world_keeps_streams.proofs.Common.{◌≡◌, inl, inr, ℕ, zero, suc, ◌<◌, ◌≤◌, ◌==◌, Bool, true, false, if◌then◌else◌, List, [], ◌∷◌, length, Option, Some, None, refl, ap, sym, subst, ◌∙◌, arith, same_flow-true, Seen, Host, Flow, Crossing, orders_of, Cause, Going, Over, Stage, each, heard, said, IsBeside, text_of, texts_on, control_flow, Called, Fate, Kept, IsLawful, Asked, Crossed, Moment, places, program, contacts_of, crossings_of, WorldState, kept_fated, linked_end, live, HasOpenEnd, book_run, Course}
+use Rattle.world_keeps_streams.proofs.Common.{◌≡◌, inl, inr, ℕ, zero, suc, ◌<◌, ◌≤◌, ◌==◌, Bool, true, false, if◌then◌else◌, List, [], ◌∷◌, length, Option, Some, None, refl, ap, sym, subst, ◌∙◌, arith, same_flow-true, Seen, Host, Flow, Crossing, orders_of, Cause, Going, Over, Stage, each, heard, said, IsBeside, text_of, texts_on, control_flow, Called, Fate, Kept, IsLawful, Asked, Crossed, Moment, places, program, contacts_of, crossings_of, WorldState, kept_fated, HasOpenEnd, Course, Network, AreOurs, Contains}
+use Rattle.reset_law.specs.Network.{all_ours}
+use Rattle.net_sim.specs.Among.{lives_among}
+use Rattle.world_keeps_pairing.proofs.lemmas.{in_book}
 use Rattle.interface.specs.Mailboxes.{same_flow}
 use Rattle.interface.specs.declared.crossing.Crossing.TheVariants as crossing
 use Rattle.net_sim.specs.Told.{kept_in}
@@ -8,11 +11,11 @@ use Rattle.promise.specs.Fates.{AreFated, is_over}
 use Rattle.promise.specs.Formed.{data_in, first_data, flow_of, joined, link_of}
 use Rattle.promise.specs.Safe.{before, receives}
 use Rattle.promise.specs.declared.life.Life.{Life}
-use Rattle.world_keeps_lives.proofs.lemmas.{end_link, texts_same}
+use Rattle.world_keeps_lives.proofs.lemmas.Formed.{end_link}
+use Rattle.world_keeps_lives.proofs.lemmas.{texts_same}
 use Rattle.world_keeps_streams.specs.Within.{CountNothingLater, CountsBefore}
 use Rattle.world_keeps_streams.proofs.Books.Firsts.{formed, together}
 use Rattle.world_keeps_streams.proofs.Books.Placed.{before_end, before_later, link_later}
-use Rattle.world_keeps_streams.proofs.Books.Run.{below}
 use Rattle.world_keeps_streams.proofs.Books.Unasked.{own_below, partner_below}
 use Rattle.world_keeps_streams.proofs.Ends.Courses.{course_in, course_key, course_same, key_named, key_of}
 use Rattle.world_keeps_streams.proofs.Ends.Fits.{begun_now, fits_now, over_stage}
@@ -20,7 +23,11 @@ use Rattle.world_keeps_streams.proofs.Ends.Halves.{over_here, over_stays}
 use Rattle.world_keeps_streams.proofs.Ends.Kinds.{end_of, stage_of}
 use Rattle.world_keeps_streams.proofs.Lives.Fates.{Came, Moved, beside_of, beside_over, came}
 use Rattle.world_keeps_streams.proofs.Lives.Lists.{IsOf, contains, is_of}
-use Rattle.world_keeps_streams.proofs.Requests.Sides.{Lawful}
+use Rattle.world_keeps_streams.proofs.Requests.Sides.{Lawful, below, book_lawful}
+use Rattle.world_keeps_streams.proofs.Ours.{live, ours_of}
+use Rattle.world_keeps_streams.proofs.Lives.Among.{among_now}
+use Rattle.world_keeps_lives.proofs.lemmas.AllOurs.{among_all}
+use Rattle.world_keeps_lives.proofs.lemmas.Books.{linked_end}
 
 -- ---- what ends a life is no message of data
 
@@ -74,7 +81,7 @@ second a b m n e = cc
 module _ (x : Life) (log : List Crossing) (c : Crossing) (n : ℕ) (own : x.own_stamp < length log)
     (partner : x.partner_stamp < length log) (link : link_of log x ≡ Some n)
     (none : text_of (receives x) (flow_of x n) c ≡ []) where
-  texts_older : texts_on x (link_of (c ∷ log) x) (c ∷ log) ≡ texts_on x (link_of (c ∷ log) x) log
+  pub texts_older : texts_on x (link_of (c ∷ log) x) (c ∷ log) ≡ texts_on x (link_of (c ∷ log) x) log
   texts_older =
       ap (λ (l : Option ℕ). texts_on x l (c ∷ log)) same
       ∙ texts_same (receives x) (flow_of x n) x.own_stamp x.partner_stamp c log none
@@ -83,7 +90,7 @@ module _ (x : Life) (log : List Crossing) (c : Crossing) (n : ℕ) (own : x.own_
         same = link_later (c ∷ []) log x own partner ∙ link
 
 -- as many texts as a life counts are there
-enough : (comes : Bool) (n : ℕ) (ts : List (List Bool)) (bits : List Bool) → first_data comes n ts ≡ Some bits
+pub enough : (comes : Bool) (n : ℕ) (ts : List (List Bool)) (bits : List Bool) → first_data comes n ts ≡ Some bits
     → n ≤ length ts
 enough comes zero ts bits e = omega arith
 enough comes (suc n) [] bits e = absurd (let no : None ≡ Some bits = e in cc)
@@ -142,9 +149,9 @@ done_here n y ms x at h = (
       ap (λ (k : ℕ). before k (c ∷ crossings_of ms)) is ∙ before_end (c ∷ []) (crossings_of ms)
   older (Asked g r) = ap (λ (k : ℕ). before k (crossings_of ms)) is ∙ before_end [] (crossings_of ms)
 
-module _ (hosts : List Host) where
+module _ (hosts : Network) where
   -- a life that continued, where it has just ended
-  module _ (y : Moment) (ms : List Moment) (l : Lawful hosts (y ∷ ms)) (w : Life) (g : Fate)
+  module _ (y : Moment) (ms : List Moment) (l : Lawful hosts (y ∷ ms)) (w : Life) (g : Fate) (ours : AreOurs hosts w.host w.peer)
       (there : IsBeside w g (kept_in ms).book.lives (kept_in ms).fates) (goes : is_over g ≡ false) (x : Life)
       (f : Fate) (i : IsBeside x f (kept_in (y ∷ ms)).book.lives (kept_in (y ∷ ms)).fates)
       (keys : key_of x ≡ key_of w) (c : Cause) (n : ℕ) (now : stage_of (key_of w) (y ∷ ms) ≡ Over c n) where
@@ -159,37 +166,37 @@ module _ (hosts : List Host) where
 
     open_end : HasOpenEnd (program w.host ms) w
     open_end =
-        live hosts ms old.0 old.1 old.2 w (contains w (kept_in ms).book.lives w_in) continues
+        live hosts ms old.0 old.1 old.2 w ours.0 (contains w (kept_in ms).book.lives w_in) continues
 
     was : stage_of (key_of w) ms ≡ Going (end_of (key_of w) ms).gone (end_of (key_of w) ms).taken
-    was = (fits_now hosts ms old w g there).both.1 goes
+    was = (fits_now hosts ms old w g ours there).both.1 goes
 
     abbrev on : (k : ℕ) × (open_end.end.link ≡ Some k) × ((k == 0) ≡ false)
-    on = linked_end hosts (together hosts) ms old w (contains w (kept_in ms).book.lives w_in) continues open_end
+    on = linked_end hosts (together hosts) ms old w (among_now hosts ms w ours (contains w (kept_in ms).book.lives w_in)) continues open_end
 
     link : link_of (crossings_of ms) x ≡ Some on.0
     link =
         ap (λ (k : Life). link_of (crossings_of ms) k) keys
-        ∙ end_link hosts ms old (together hosts) w (contains w (kept_in ms).book.lives w_in) continues open_end
+        ∙ end_link hosts ms old (together hosts) w (among_now hosts ms w ours (contains w (kept_in ms).book.lives w_in)) continues open_end
         ∙ on.1
 
     own : x.own_stamp < length (crossings_of ms)
     own =
         let is : x.own_stamp ≡ w.own_stamp = ap (λ (k : Life). k.own_stamp) keys in
-        let less : w.own_stamp < length (crossings_of ms) = own_below hosts ms old w w_in in
+        let less : w.own_stamp < length (crossings_of ms) = own_below hosts ms old w ours w_in in
         omega (arith, is, less)
 
     partner : x.partner_stamp < length (crossings_of ms)
     partner =
         let is : x.partner_stamp ≡ w.partner_stamp = ap (λ (k : Life). k.partner_stamp) keys in
-        let less : w.partner_stamp < length (crossings_of ms) = partner_below hosts ms old w w_in in
+        let less : w.partner_stamp < length (crossings_of ms) = partner_below hosts ms old w ours w_in in
         omega (arith, is, less)
 
     all_there : x.messages ≤ length (texts_on x (link_of (crossings_of (y ∷ ms)) x) (crossings_of (y ∷ ms)))
     all_there =
         enough (receives x) x.messages (texts_on x (link_of (crossings_of (y ∷ ms)) x) (crossings_of (y ∷ ms))) x.bits
-        (formed hosts (y ∷ ms) l x (contains x (kept_in (y ∷ ms)).book.lives
-        (beside_of (kept_in (y ∷ ms)).book.lives (kept_in (y ∷ ms)).fates x f i))).bits
+        (formed hosts (y ∷ ms) l x (among_now hosts (y ∷ ms) x (subst (λ (k : Life). AreOurs hosts k.host k.peer) (sym keys) ours) (contains x (kept_in (y ∷ ms)).book.lives
+        (beside_of (kept_in (y ∷ ms)).book.lives (kept_in (y ∷ ms)).fates x f i)))).bits
 
     just_ended : IsDone n (crossings_of (y ∷ ms)) x
     just_ended = done_here n y ms x at (by y now all_there) where
@@ -206,16 +213,17 @@ module _ (hosts : List Host) where
           (flow_of x on.0) (flow_off x on.0 on.2))) h
       by (Asked g r) is h = h
 
-  within_now : (ms : List Moment) → Lawful hosts ms → (x : Life) (f : Fate)
+  within_now : (ms : List Moment) → Lawful hosts ms → (x : Life) (f : Fate) → AreOurs hosts x.host x.peer
       → IsBeside x f (kept_in ms).book.lives (kept_in ms).fates → (c : Cause) (n : ℕ)
       → stage_of (key_of x) ms ≡ Over c n → IsDone n (crossings_of ms) x
-  within_now [] l x f i c n now = absurd i
-  within_now (y ∷ ms) l x f i c n now =
+  within_now [] l x f ours i c n now = absurd i
+  within_now (y ∷ ms) l x f ours i c n now =
       by (came y ms x f i) (within_now ms (below hosts y ms l)) where
-        continued : (w : Life) (g : Fate) → IsBeside w g (kept_in ms).book.lives (kept_in ms).fates
+        continued : (w : Life) (g : Fate) → AreOurs hosts w.host w.peer
+            → IsBeside w g (kept_in ms).book.lives (kept_in ms).fates
             → Moved y ms w g x f → ((c : Cause) (n : ℕ) → stage_of (key_of w) ms ≡ Over c n
             → IsDone n (crossings_of ms) w) → IsDone n (crossings_of (y ∷ ms)) x
-        continued w g there m before_it = of (is_over g) refl where
+        continued w g of_w there m before_it = of (is_over g) refl where
           keys : key_of x ≡ key_of w
           keys = key_named w x m.named
 
@@ -226,7 +234,7 @@ module _ (hosts : List Host) where
           of true over =
               let s : (d : Cause) × (k : ℕ) × (stage_of (key_of w) ms ≡ Over d k) =
               over_stage (stage_of (key_of w) ms) g over
-              (fits_now hosts ms (below hosts y ms l) w g there).both.0 in
+              (fits_now hosts ms (below hosts y ms l) w g of_w there).both.0 in
               let same : x ≡ w =
               m.still (beside_over (kept_in ms).book.lives (kept_in ms).fates w g (kept_fated ms) there ∙ over) in
               let at : s.1 ≡ n =
@@ -234,18 +242,19 @@ module _ (hosts : List Host) where
               let w_in : IsOf w (kept_in ms).book.lives =
               beside_of (kept_in ms).book.lives (kept_in ms).fates w g there in
               subst (λ (z : Life). IsDone n (crossings_of (y ∷ ms)) z) (sym same)
-              (done_more n y ms w (own_below hosts ms (below hosts y ms l) w w_in)
-              (partner_below hosts ms (below hosts y ms l) w w_in)
+              (done_more n y ms w (own_below hosts ms (below hosts y ms l) w of_w w_in)
+              (partner_below hosts ms (below hosts y ms l) w of_w w_in)
               (subst (λ (k : ℕ). IsDone k (crossings_of ms) w) at (before_it s.0 s.1 s.2)))
-          of false goes = just_ended y ms l w g there goes x f i keys c n over_now
+          of false goes = just_ended y ms l w g of_w there goes x f i keys c n over_now
 
-        by : Came y ms x f → ((w : Life) (g : Fate) → IsBeside w g (kept_in ms).book.lives (kept_in ms).fates
+        by : Came y ms x f
+            → ((w : Life) (g : Fate) → AreOurs hosts w.host w.peer → IsBeside w g (kept_in ms).book.lives (kept_in ms).fates
             → (d : Cause) (k : ℕ) → stage_of (key_of w) ms ≡ Over d k → IsDone k (crossings_of ms) w)
             → IsDone n (crossings_of (y ∷ ms)) x
-        by (inl o) before_it = continued o.0 o.1 o.2 o.3 (before_it o.0 o.1 o.2)
+        by (inl o) before_it = (let of_w : AreOurs hosts o.0.host o.0.peer = ours_of hosts o.0 x.host x.peer ours (sym o.3.named.host, sym o.3.named.peer) in continued o.0 o.1 of_w o.2 o.3 (before_it o.0 o.1 of_w o.2))
         by (inr b) before_it =
             never (stage_of (key_of x) (y ∷ ms)) (end_of (key_of x) (y ∷ ms)).gone
-            (end_of (key_of x) (y ∷ ms)).taken c n (begun_now hosts y ms l x f i b).1 now
+            (end_of (key_of x) (y ∷ ms)).taken c n (begun_now hosts y ms l x f ours i b).1 now
 
 -- ---- by crossings and contacts
 
@@ -258,18 +267,26 @@ fate_beside (y ∷ lives) (g ∷ fates) x a (inl e) = (g, inl (e, refl))
 fate_beside (y ∷ lives) (g ∷ fates) x a (inr i) =
     let r : (f : Fate) × IsBeside x f lives fates = fate_beside lives fates x a.1 i in (r.0, inr r.1)
 
-pub within : (hosts : List Host) (ms : List Moment) → Lawful hosts ms
-    → CountNothingLater (contacts_of ms) (crossings_of ms) (kept_in ms).book.lives
-within hosts ms l x c n there over = (within_now hosts ms l x beside.0 beside.1 c n is).1 where
+pub within : (hosts : Network) (ms : List Moment) → Lawful hosts ms
+    → CountNothingLater (contacts_of ms) (crossings_of ms) (lives_among hosts.strange (kept_in ms).book.lives)
+within hosts ms l x c n among over = (within_now hosts ms l x beside.0 there.1 beside.1 c n is).1 where
+  there : Contains (kept_in ms).book.lives x × AreOurs hosts x.host x.peer
+  there = in_book hosts (kept_in ms).book.lives x among
+
   beside : (f : Fate) × IsBeside x f (kept_in ms).book.lives (kept_in ms).fates
   beside =
       fate_beside (kept_in ms).book.lives (kept_in ms).fates x (kept_fated ms)
-      (is_of x (kept_in ms).book.lives there)
+      (is_of x (kept_in ms).book.lives there.0)
 
   is : stage_of (key_of x) ms ≡ Over c n
   is =
       sym (ap (λ (k : Course). k.stage)
       (sym (course_key (contacts_of ms) x (crossings_of ms)) ∙ course_same (key_of x) ms)) ∙ over
+
+-- where all hosts run the program, so it is of all lives
+pub all_within : (hosts : List Host) (ms : List Moment) → Lawful (all_ours hosts) ms
+    → CountNothingLater (contacts_of ms) (crossings_of ms) (kept_in ms).book.lives
+all_within hosts ms l = subst (λ (ls : List Life). CountNothingLater (contacts_of ms) (crossings_of ms) ls) (among_all (kept_in ms).book.lives) (within (all_ours hosts) ms l)
 
 pub world_within : {C : Type 0} (seen : C → Seen) (hosts : List Host) (w : WorldState C) → IsLawful seen hosts w
     → CountNothingLater w.kept.book.contacts w.kept.book.crossings w.kept.book.lives
@@ -280,4 +297,4 @@ world_within seen hosts w lawful =
     (sym lawful.whole.crossings)
     (subst (λ (k : Kept). CountNothingLater (contacts_of lawful.whole.moments) (crossings_of lawful.whole.moments)
     k.book.lives) (sym lawful.whole.kept)
-    (within hosts lawful.whole.moments (lawful.addresses, book_run seen hosts w lawful, lawful.whole.timeline))))
+    (all_within hosts lawful.whole.moments (book_lawful seen hosts w lawful))))

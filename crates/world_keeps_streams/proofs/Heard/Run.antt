@@ -13,8 +13,7 @@ use Rattle.reset_law.specs.Stays as stay
 use Rattle.net_sim.specs.Projection.{event_of}
 use Rattle.world_keeps_pairing.proofs.lemmas.{IsPair, are_same, before, heard_off_in}
 use Rattle.world_keeps_streams.proofs.Calls.Chain.{ready_both}
-use Rattle.world_keeps_streams.proofs.Books.Run.{below}
-use Rattle.world_keeps_streams.proofs.Requests.Sides.{LawfulAmong, below_among, begins_same, coupled_among}
+use Rattle.world_keeps_streams.proofs.Requests.Sides.{Lawful, below, begins_same, coupled_in}
 use Rattle.world_keeps_streams.proofs.Heard.Calls.{closes_by, closes_in}
 use Rattle.world_keeps_streams.proofs.Heard.Marks.{NoneHeard, adds, closes_join, closes_on, heard_adds, none_answer, none_asked, none_if, none_next, none_on, orders_add, said_heard}
 use Rattle.world_keeps_streams.proofs.Stays.Meets.{solo_there}
@@ -166,12 +165,13 @@ module _ (s : Sockets) (q : IsPair s) (who : Who) (hosts : Network) where
         left true z = refl
         left false z = refl
 
-  pub heard_closes : (h p : Host) → AreOurs hosts h p → (ms : List Moment) → LawfulAmong hosts ms → stay.stays h p (events_of ms) ≡ true
+  pub heard_closes : (h p : Host) → AreOurs hosts h p → (ms : List Moment) → Lawful hosts ms
+      → stay.stays h p (events_of ms) ≡ true
       → closes (half h p (at_texts s who) (at_texts s (other who)) (law_events ms)).heard ≡ closes_in (foreign_of who s) (own_of who s) (own_calls h p ms)
   heard_closes h p ours [] l stays = refl
-  heard_closes h p ours (y ∷ ms) l stays = by (stay.begins h p (event_in y) (events_of ms)) refl (heard_closes h p ours ms (below_among hosts y ms l)) where
+  heard_closes h p ours (y ∷ ms) l stays = by (stay.begins h p (event_in y) (events_of ms)) refl (heard_closes h p ours ms (below hosts y ms l)) where
     law : Coupled hosts (y ∷ ms)
-    law = coupled_among hosts (y ∷ ms) l
+    law = coupled_in hosts (y ∷ ms) l
 
     by : (v : Bool) → stay.begins h p (event_in y) (events_of ms) ≡ v
         → (stay.stays h p (events_of ms) ≡ true → closes (half h p (at_texts s who) (at_texts s (other who)) (law_events ms)).heard ≡ closes_in (foreign_of who s) (own_of who s) (own_calls h p ms))

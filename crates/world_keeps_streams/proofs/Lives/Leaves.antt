@@ -1,6 +1,5 @@
 -- The lives of a host that leaves its peer, or has left, end and do nothing else.
-use Rattle.world_keeps_streams.proofs.Common.{◌≡◌, ◌⊎◌, inl, inr, ℕ, ◌==◌, ◌&&◌, Bool, true, false, List, [], ◌∷◌, filter, Option, Some, None, refl, ap, sym, subst, ◌∙◌, eq-eqb, Host, same_host, HostMessage, same_host-true, is_receive_socket, is_send_socket, is_at, is_ready, Entry, both, HasEnd, at, end_of, is_past, standing, marks, End, takes_in_stay, Event, Idle, In, Message, Other, Out, Send, Take, are, when, MaySend, pair_moved, pair, ready_phase, stays_ready, pair_with, Request, life_ended, IsApart, message_on, Moment, Crossed, Asked, event_in, events_of, places, program, crossings_of, host_in, notices_by, Coupled, clash, origin_in, keeps, AText, AnRrp, AnRst, IsUnpaired, Sort, all_bare, are_origins, served_in, sort_of}
-use Rattle.reset_law.specs.Network.{all_ours}
+use Rattle.world_keeps_streams.proofs.Common.{◌≡◌, ◌⊎◌, inl, inr, ℕ, ◌==◌, ◌&&◌, Bool, true, false, List, [], ◌∷◌, filter, Option, Some, None, refl, ap, sym, subst, ◌∙◌, eq-eqb, Host, same_host, HostMessage, same_host-true, is_receive_socket, is_send_socket, is_at, is_ready, Entry, both, HasEnd, at, end_of, is_past, standing, marks, End, takes_in_stay, Event, Idle, In, Message, Other, Out, Send, Take, are, when, MaySend, pair_moved, pair, ready_phase, stays_ready, pair_with, Request, life_ended, IsApart, message_on, Moment, Crossed, Asked, event_in, events_of, places, program, crossings_of, host_in, notices_by, Coupled, clash, origin_in, keeps, AText, AnRrp, AnRst, IsUnpaired, Sort, all_bare, are_origins, served_in, sort_of, Network, AreOurs}
 use Rattle.interface.specs.declared.crossing.Crossing.TheVariants as crossing
 use Rattle.pairing_law.specs.Ends.{nothing}
 use Rattle.reset_law.specs.Events.{Reply, Reset}
@@ -9,25 +8,26 @@ use Rattle.reset_law.specs.Runs.{IsRun}
 use Rattle.reset_law.specs.Stays as stay
 use Rattle.sockets.specs.declared.request.Request.TheVariants as request
 use Rattle.promise.specs.declared.life.Life.{Life}
-use Rattle.world_keeps_streams.proofs.Calls.Chain.{ready_both}
+use Rattle.world_keeps_streams.proofs.Calls.Chain.{plain_at, ready_both}
 use Rattle.world_keeps_streams.proofs.Deeds.Effects.{Among, among_kept, among_mapped}
 use Rattle.world_keeps_streams.proofs.Lives.Away.{away, away_still}
 use Rattle.world_keeps_streams.proofs.Lives.LeavesLists.{AllFine, Bare, IsFineBy, bare_elsewhere, bare_fine, none_of, quiet_of}
 use Rattle.world_keeps_streams.proofs.Lives.LeavesTold.{AllUnasked, answer_fine, away_message, idle_fine, offer_fine, reply_fine, request_fine, reset_fine}
 use Rattle.world_keeps_streams.proofs.Lives.Left.{no_partner, partner_none, stands_as}
 use Rattle.world_keeps_streams.proofs.Lives.Lists.{IsOf, grown}
-use Rattle.world_keeps_streams.proofs.Books.Run.{below}
-use Rattle.world_keeps_streams.proofs.Requests.Sides.{Lawful, coupled_in, lives_in}
+use Rattle.world_keeps_streams.proofs.Requests.Sides.{Lawful, coupled_in, lives_in, below}
 use Rattle.world_keeps_streams.proofs.Books.Whole.{Away}
 use Rattle.world_keeps_streams.proofs.Stays.Resets.{leaves_by}
 
 -- ---- a host that doesn't stay has taken no request of the peer for any end
 
-unpaired_none : (hosts : List Host) (ms : List Moment) → Lawful hosts ms → (h p : Host) (e : Entry) (t : ℕ) → Among e (pair_with p (program h ms).peers).entries → IsUnpaired e.own e.foreign → e.partner ≡ Some t → ⊥
-unpaired_none hosts ms l h p e t there u partner =
-    let c : Coupled (all_ours hosts) ms = coupled_in hosts ms l in
+unpaired_none : (hosts : Network) (ms : List Moment) → Lawful hosts ms → (h p : Host) → AreOurs hosts h p
+    → (e : Entry) (t : ℕ) → Among e (pair_with p (program h ms).peers).entries → IsUnpaired e.own e.foreign
+    → e.partner ≡ Some t → ⊥
+unpaired_none hosts ms l h p ours e t there u partner =
+    let c : Coupled hosts ms = coupled_in hosts ms l in
     let bare : HasEnd (origin_in (crossings_of ms) h p) e.own e.foreign (pair_with p (program h ms).peers) nothing
-    = ((all_bare (all_ours hosts) (origin_in (crossings_of ms)) ms (are_origins 0 (crossings_of ms) [] ms refl) c.story c.run l.1 (served_in hosts ms l.2)).bare h p (refl, refl) e.own e.foreign u).0 in
+    = ((all_bare hosts (origin_in (crossings_of ms)) ms (are_origins 0 (crossings_of ms) [] ms refl) c.story c.run l.1 (served_in hosts ms l.2)).bare h p ours e.own e.foreign u).0 in
     let own : (e.own == e.own) ≡ true = eq-eqb e.own e.own refl in
     let foreign : (e.foreign == e.foreign) ≡ true = eq-eqb e.foreign e.foreign refl in
     let here : is_at e.own e.foreign e ≡ true = (rw (own, foreign) refl) in
@@ -36,13 +36,14 @@ unpaired_none hosts ms l h p e t there u partner =
     (among_mapped standing (filter (is_at e.own e.foreign) (pair_with p (program h ms).peers).entries) e (among_kept (is_at e.own e.foreign) (pair_with p (program h ms).peers).entries e there here)) in
     partner_none (origin_in (crossings_of ms) h p) (standing e) t partner is.1 (ap (λ (x : End). x.partner) (sym is.0))
 
-module _ (hosts : List Host) (ms : List Moment) (l : Lawful hosts ms) (h p : Host) (left : stay.stays h p (events_of ms) ≡ false) where
+module _ (hosts : Network) (ms : List Moment) (l : Lawful hosts ms) (h p : Host) (ours : AreOurs hosts h p)
+    (left : stay.stays h p (events_of ms) ≡ false) where
   pub unasked : AllUnasked (pair_with p (program h ms).peers).entries
   unasked e there = by e.partner refl where
     some : (t : ℕ) → e.partner ≡ Some t → (v w : Bool) → (is_receive_socket e.own && is_send_socket e.foreign) ≡ v → (is_send_socket e.own && is_receive_socket e.foreign) ≡ w → ⊥
-    some t partner true w f g = no_partner hosts ms l h p left e.own e.foreign (inl (both (is_receive_socket e.own) (is_send_socket e.foreign) f)) e t there refl refl partner
-    some t partner false true f g = no_partner hosts ms l h p left e.own e.foreign (inr (both (is_send_socket e.own) (is_receive_socket e.foreign) g)) e t there refl refl partner
-    some t partner false false f g = unpaired_none hosts ms l h p e t there (f, g) partner
+    some t partner true w f g = no_partner hosts ms l h p ours left e.own e.foreign (inl (both (is_receive_socket e.own) (is_send_socket e.foreign) f)) e t there refl refl partner
+    some t partner false true f g = no_partner hosts ms l h p ours left e.own e.foreign (inr (both (is_send_socket e.own) (is_receive_socket e.foreign) g)) e t there refl refl partner
+    some t partner false false f g = unpaired_none hosts ms l h p ours e t there (f, g) partner
 
     by : (o : Option ℕ) → e.partner ≡ o → e.partner ≡ None
     by None e = e
@@ -64,64 +65,78 @@ module _ (h p : Host) (events : List Event) (ready : stay.ready h p events ≡ t
     by false = ready
 
   -- its next RST waits for a contact
-  pub keeps_out : (hosts : List Host) (y : Host) (l : ℕ) (m : Message) → IsRun (all_ours hosts) (Out h y l m ∷ events) → keeps h p (Out h y l m) events ≡ true
-  keeps_out hosts y l m run = still (Out h y l m) (by (are h p h y) refl m (run.1 (refl, refl))) refl where
-    by : (v : Bool) → are h p h y ≡ v → (n : Message) → MaySend (pair h y events) l n → is_ready (pair_moved (when v (Send l n)) (pair h p events)).phase ≡ true
+  pub keeps_out : (hosts : Network) → AreOurs hosts h p → (y : Host) (l : ℕ) (m : Message)
+      → IsRun hosts (Out h y l m ∷ events) → keeps h p (Out h y l m) events ≡ true
+  keeps_out hosts ours y l m run = still (Out h y l m) (by (are h p h y) refl m (λ e. run.1 (ours.0, plain_at hosts p y (both (same_host h h) (same_host p y) e).1 ours.1))) refl where
+    by : (v : Bool) → are h p h y ≡ v → (n : Message) → (are h p h y ≡ true → MaySend (pair h y events) l n)
+        → is_ready (pair_moved (when v (Send l n)) (pair h p events)).phase ≡ true
     by false e n may = ready
     by true e Reply may = ready
     by true e (Other text) may = ready
     by true e Reset may =
         let peer : p ≡ y = same_host-true p y (both (same_host h h) (same_host p y) e).1 in
-        let want : (pair h p events).phase ≡ phase.Want = ap (λ (x : Host). (pair h x events).phase) peer ∙ may.1 in
+        let want : (pair h p events).phase ≡ phase.Want = ap (λ (x : Host). (pair h x events).phase) peer ∙ (may e).1 in
         clash _ (is_ready (pair h p events).phase) ready (ap is_ready want)
 
 -- ---- what the host of a moment is notified of by it, where it doesn't stay with a peer after it
 
-module _ (hosts : List Host) (p : Host) where
+module _ (hosts : Network) (p : Host) where
   abbrev IsFine : Bool → Moment → List Moment → Type 0
   IsFine calm y ms = IsFineBy calm y × AllFine calm p (notices_by y ms)
 
-  out_here : (calm : Bool) (m : HostMessage) (ms : List Moment) → Lawful hosts (Crossed (crossing.Out m) ∷ ms) → stay.stays m.flow.source p (events_of (Crossed (crossing.Out m) ∷ ms)) ≡ false → stay.stays m.flow.source p (events_of ms) ≡ calm
+  out_here : (calm : Bool) (m : HostMessage) (ms : List Moment) → AreOurs hosts m.flow.source p
+      → Lawful hosts (Crossed (crossing.Out m) ∷ ms)
+      → stay.stays m.flow.source p (events_of (Crossed (crossing.Out m) ∷ ms)) ≡ false
+      → stay.stays m.flow.source p (events_of ms) ≡ calm
       → IsFine calm (Crossed (crossing.Out m)) ms
-  out_here true m ms l left before =
-      let c : Coupled (all_ours hosts) (Crossed (crossing.Out m) ∷ ms) = coupled_in hosts (Crossed (crossing.Out m) ∷ ms) l in
+  out_here true m ms ours l left before =
+      let c : Coupled hosts (Crossed (crossing.Out m) ∷ ms) = coupled_in hosts (Crossed (crossing.Out m) ∷ ms) l in
       clash _ (keeps m.flow.source p (event_in (Crossed (crossing.Out m))) (events_of ms))
-      (keeps_out m.flow.source p (events_of ms) (stays_ready (events_of ms) m.flow.source p before) hosts m.flow.destination m.flow.link.0 (message_on m.flow.link.0 m.text) c.run)
+      (keeps_out m.flow.source p (events_of ms) (stays_ready (events_of ms) m.flow.source p before) hosts ours m.flow.destination m.flow.link.0 (message_on m.flow.link.0 m.text) c.run)
       (leaves_by m.flow.source p (event_in (Crossed (crossing.Out m))) (events_of ms) before left)
-  out_here false m ms l left before =
+  out_here false m ms ours l left before =
       let old : Lawful hosts ms = below hosts (Crossed (crossing.Out m)) ms l in
-      (tt, offer_fine false p (program m.flow.source ms) (places ms) refl ((coupled_in hosts ms old).order m.flow.source refl) (unasked hosts ms old m.flow.source p before))
+      (tt, offer_fine false p (program m.flow.source ms) (places ms) refl ((coupled_in hosts ms old).order m.flow.source ours.0) (unasked hosts ms old m.flow.source p ours before))
 
-  text_here : (calm : Bool) (m : HostMessage) (ms : List Moment) → Lawful hosts (Crossed (crossing.In m) ∷ ms) → stay.stays m.flow.destination p (events_of (Crossed (crossing.In m) ∷ ms)) ≡ false → stay.stays m.flow.destination p (events_of ms) ≡ calm
+  text_here : (calm : Bool) (m : HostMessage) (ms : List Moment) → AreOurs hosts m.flow.destination p
+      → Lawful hosts (Crossed (crossing.In m) ∷ ms)
+      → stay.stays m.flow.destination p (events_of (Crossed (crossing.In m) ∷ ms)) ≡ false
+      → stay.stays m.flow.destination p (events_of ms) ≡ calm
       → message_on m.flow.link.0 m.text ≡ Other m.text → IsFine calm (Crossed (crossing.In m)) ms
-  text_here true m ms l left before is =
+  text_here true m ms ours l left before is =
       clash _ (keeps m.flow.destination p (In m.flow.source m.flow.destination m.flow.link.0 (Other m.text)) (events_of ms))
       (keeps_text m.flow.destination p (events_of ms) (stays_ready (events_of ms) m.flow.destination p before) m.flow.source m.flow.destination m.flow.link.0 m.text)
       (subst (λ (n : Message). keeps m.flow.destination p (In m.flow.source m.flow.destination m.flow.link.0 n) (events_of ms) ≡ false) is (leaves_by m.flow.destination p (event_in (Crossed (crossing.In m))) (events_of ms) before left))
-  text_here false m ms l left before is = (tt, by (same_host m.flow.source p) refl (is_ready (pair_with m.flow.source (program m.flow.destination ms).peers).phase) refl) where
+  text_here false m ms ours l left before is = (tt, by (same_host m.flow.source p) refl (is_ready (pair_with m.flow.source (program m.flow.destination ms).peers).phase) refl) where
+    sender : same_host m.flow.source p ≡ true → hosts.strange m.flow.source ≡ false
+    sender e = subst (λ (g : Host). hosts.strange g ≡ false) (sym (same_host-true m.flow.source p e)) ours.1
+
     in_stay : same_host m.flow.source p ≡ true → is_ready (pair_with m.flow.source (program m.flow.destination ms).peers).phase ≡ true → ⊥
     in_stay e r =
-        let c : Coupled (all_ours hosts) (Crossed (crossing.In m) ∷ ms) = coupled_in hosts (Crossed (crossing.In m) ∷ ms) l in
-        let run : IsRun (all_ours hosts) (In m.flow.source m.flow.destination m.flow.link.0 (Other m.text) ∷ events_of ms) = subst (λ (n : Message). IsRun (all_ours hosts) (In m.flow.source m.flow.destination m.flow.link.0 n ∷ events_of ms)) is c.run in
-        let ready : stay.ready m.flow.destination m.flow.source (events_of ms) ≡ true = ready_both (all_ours hosts) m.flow.destination m.flow.source ms (refl, refl) c.story.1 ∙ r in
+        let c : Coupled hosts (Crossed (crossing.In m) ∷ ms) = coupled_in hosts (Crossed (crossing.In m) ∷ ms) l in
+        let run : IsRun hosts (In m.flow.source m.flow.destination m.flow.link.0 (Other m.text) ∷ events_of ms) = subst (λ (n : Message). IsRun hosts (In m.flow.source m.flow.destination m.flow.link.0 n ∷ events_of ms)) is c.run in
+        let ready : stay.ready m.flow.destination m.flow.source (events_of ms) ≡ true = ready_both hosts m.flow.destination m.flow.source ms (ours.0, sender e) c.story.1 ∙ r in
         let stays : stay.stays m.flow.destination m.flow.source (events_of ms) ≡ true
-        = takes_in_stay (all_ours hosts) (events_of ms) m.flow.source m.flow.destination m.flow.link.0 m.text (refl, refl) run (ready_phase (pair m.flow.destination m.flow.source (events_of ms)).phase ready) in
+        = takes_in_stay hosts (events_of ms) m.flow.source m.flow.destination m.flow.link.0 m.text (sender e, ours.0) run (ready_phase (pair m.flow.destination m.flow.source (events_of ms)).phase ready) in
         clash ⊥ (stay.stays m.flow.destination p (events_of ms)) (subst (λ (g : Host). stay.stays m.flow.destination g (events_of ms) ≡ true) (same_host-true m.flow.source p e) stays) before
 
     by : (v : Bool) → same_host m.flow.source p ≡ v → (r : Bool) → is_ready (pair_with m.flow.source (program m.flow.destination ms).peers).phase ≡ r → AllFine false p (notices_by (Crossed (crossing.In m)) ms)
     by false e r f = away_message false p (program m.flow.destination ms) (places ms) refl m e
     by true e true f = absurd (in_stay e f)
     by true e false f =
-        let apart : IsApart m.flow.link.0 m.text (message_on m.flow.link.0 m.text) = (coupled_in hosts (Crossed (crossing.In m) ∷ ms) l).story.0 (refl, refl) in
+        let apart : IsApart m.flow.link.0 m.text (message_on m.flow.link.0 m.text) = (coupled_in hosts (Crossed (crossing.In m) ∷ ms) l).story.0 (sender e, ours.0) in
         idle_fine false p (program m.flow.destination ms) (places ms) m (subst (λ (n : Message). IsApart m.flow.link.0 m.text n) is apart) f
 
-  in_here : (calm : Bool) (m : HostMessage) (ms : List Moment) → Lawful hosts (Crossed (crossing.In m) ∷ ms) → stay.stays m.flow.destination p (events_of (Crossed (crossing.In m) ∷ ms)) ≡ false → stay.stays m.flow.destination p (events_of ms) ≡ calm
+  in_here : (calm : Bool) (m : HostMessage) (ms : List Moment) → AreOurs hosts m.flow.destination p
+      → Lawful hosts (Crossed (crossing.In m) ∷ ms)
+      → stay.stays m.flow.destination p (events_of (Crossed (crossing.In m) ∷ ms)) ≡ false
+      → stay.stays m.flow.destination p (events_of ms) ≡ calm
       → IsFine calm (Crossed (crossing.In m)) ms
-  in_here calm m ms l left before = by (sort_of m.flow.link.0 m.text) where
+  in_here calm m ms ours l left before = by (sort_of m.flow.link.0 m.text) where
     by : Sort m.flow.link.0 m.text → IsFine calm (Crossed (crossing.In m)) ms
     by (AnRst zero orders is) = (tt, reset_fine calm p (program m.flow.destination ms) (places ms) m zero orders)
     by (AnRrp zero orders is) = (tt, reply_fine calm p (program m.flow.destination ms) (places ms) m zero orders)
-    by (AText is) = text_here calm m ms l left before is
+    by (AText is) = text_here calm m ms ours l left before is
 
   -- a grant leaves a stay as it is
   grant_here : (calm : Bool) (h : Host) (events : List Event) → stay.stays h p (Idle ∷ events) ≡ false → stay.stays h p events ≡ calm → calm ≡ false
@@ -133,17 +148,20 @@ module _ (hosts : List Host) (p : Host) where
   asked_here calm h (request.Grant socket messages bits) ms left before = grant_here calm h (events_of ms) left before
   asked_here calm h r ms left before = tt
 
-  fine_here : (calm : Bool) (y : Moment) (ms : List Moment) → Lawful hosts (y ∷ ms) → stay.stays (host_in y) p (events_of (y ∷ ms)) ≡ false → stay.stays (host_in y) p (events_of ms) ≡ calm → IsFine calm y ms
-  fine_here calm (Crossed (crossing.Out m)) ms l left before = out_here calm m ms l left before
-  fine_here calm (Crossed (crossing.In m)) ms l left before = in_here calm m ms l left before
-  fine_here calm (Crossed (crossing.Answer kind f)) ms l left before = (tt, answer_fine calm p (program f.source ms) (places ms) kind f)
-  fine_here calm (Crossed (crossing.Down g)) ms l left before = (tt, tt)
-  fine_here calm (Crossed (crossing.Up g)) ms l left before = (tt, tt)
-  fine_here calm (Asked g r) ms l left before = (asked_here calm g r ms left before, request_fine calm p (program g ms) (places ms) r)
+  fine_here : (calm : Bool) (y : Moment) (ms : List Moment) → AreOurs hosts (host_in y) p → Lawful hosts (y ∷ ms)
+      → stay.stays (host_in y) p (events_of (y ∷ ms)) ≡ false → stay.stays (host_in y) p (events_of ms) ≡ calm
+      → IsFine calm y ms
+  fine_here calm (Crossed (crossing.Out m)) ms ours l left before = out_here calm m ms ours l left before
+  fine_here calm (Crossed (crossing.In m)) ms ours l left before = in_here calm m ms ours l left before
+  fine_here calm (Crossed (crossing.Answer kind f)) ms ours l left before = (tt, answer_fine calm p (program f.source ms) (places ms) kind f)
+  fine_here calm (Crossed (crossing.Down g)) ms ours l left before = (tt, tt)
+  fine_here calm (Crossed (crossing.Up g)) ms ours l left before = (tt, tt)
+  fine_here calm (Asked g r) ms ours l left before = (asked_here calm g r ms left before, request_fine calm p (program g ms) (places ms) r)
 
 -- ---- so its lives with the peer end and do nothing else, and none begins
 
-module _ (hosts : List Host) (h p : Host) (y : Moment) (ms : List Moment) (l : Lawful hosts (y ∷ ms)) (left : stay.stays h p (events_of (y ∷ ms)) ≡ false) where
+module _ (hosts : Network) (h p : Host) (ours : AreOurs hosts h p) (y : Moment) (ms : List Moment)
+    (l : Lawful hosts (y ∷ ms)) (left : stay.stays h p (events_of (y ∷ ms)) ≡ false) where
   bare : (calm : Bool) → stay.stays h p (events_of ms) ≡ calm → Bare calm h p (lives_in ms) (lives_in (y ∷ ms))
   bare calm before = by (same_host (host_in y) h) refl where
     by : (v : Bool) → same_host (host_in y) h ≡ v → Bare calm h p (lives_in ms) (lives_in (y ∷ ms))
@@ -151,7 +169,7 @@ module _ (hosts : List Host) (h p : Host) (y : Moment) (ms : List Moment) (l : L
     by true e =
         let is : host_in y ≡ h = same_host-true (host_in y) h e in
         let fine : IsFineBy calm y × AllFine calm p (notices_by y ms)
-        = fine_here hosts p calm y ms l (subst (λ (g : Host). stay.stays g p (events_of (y ∷ ms)) ≡ false) (sym is) left) (subst (λ (g : Host). stay.stays g p (events_of ms) ≡ calm) (sym is) before) in
+        = fine_here hosts p calm y ms (subst (λ (g : Host). hosts.strange g ≡ false) (sym is) ours.0, ours.1) l (subst (λ (g : Host). stay.stays g p (events_of (y ∷ ms)) ≡ false) (sym is) left) (subst (λ (g : Host). stay.stays g p (events_of ms) ≡ calm) (sym is) before) in
         bare_fine calm h p y ms fine.0 fine.1
 
   pub none_begins : (x : Life) → IsOf x (grown y ms).more → x.host ≡ h → x.peer ≡ p → ⊥
@@ -164,5 +182,5 @@ module _ (hosts : List Host) (h p : Host) (y : Moment) (ms : List Moment) (l : L
   pub leaves : Away h p (lives_in ms) (lives_in (y ∷ ms))
   leaves = by (stay.stays h p (events_of ms)) refl where
     by : (v : Bool) → stay.stays h p (events_of ms) ≡ v → Away h p (lives_in ms) (lives_in (y ∷ ms))
-    by true before = away hosts h p y ms l left none_begins (quiet before)
-    by false before = away_still hosts h p y ms l left none_begins before
+    by true before = away hosts h p ours y ms l left none_begins (quiet before)
+    by false before = away_still hosts h p ours y ms l left none_begins before

@@ -1,6 +1,5 @@
 -- What a program reports by a moment with which its host leaves a peer: of no end with that peer that it is over.
-use Rattle.world_keeps_streams.proofs.Common.{◌≡◌, inl, inr, ℕ, ◌==◌, ◌||◌, not, Bool, true, false, if◌then◌else◌, List, [], ◌∷◌, ◌++◌, refl, sym, subst, Host, same_host, Flow, Answer, HostMessage, Legal, orders_of, is_busy, is_ready, Phase, TurnState, answered_turn, failed_by, freed, is_gone, message_taken, reply_notices, reset_notices, settled_turn, Notice, In, Message, Other, stays_ready, after_turn, turn_of, NcpState, pair_with, Request, message_on, Asked, Crossed, Moment, event_in, events_of, places, program, host_in, notices_by, Coupled, clash, keeps, AText, AnRrp, AnRst, Sort, sort_of}
-use Rattle.reset_law.specs.Network.{all_ours}
+use Rattle.world_keeps_streams.proofs.Common.{◌≡◌, inl, inr, ℕ, ◌==◌, ◌||◌, not, Bool, true, false, if◌then◌else◌, List, [], ◌∷◌, ◌++◌, refl, sym, subst, Host, same_host, Flow, Answer, HostMessage, Legal, orders_of, is_busy, is_ready, Phase, TurnState, answered_turn, failed_by, freed, is_gone, message_taken, reply_notices, reset_notices, settled_turn, Notice, In, Message, Other, stays_ready, after_turn, turn_of, NcpState, pair_with, Request, message_on, Asked, Crossed, Moment, event_in, events_of, places, program, host_in, notices_by, Coupled, clash, keeps, AText, AnRrp, AnRst, Sort, sort_of, Network, AreOurs}
 use Rattle.interface.specs.declared.crossing.Answer.TheVariants as answer
 use Rattle.interface.specs.declared.crossing.Crossing.TheVariants as crossing
 use Rattle.interface.specs.declared.crossing.Inbound.TheVariants as inbound
@@ -94,13 +93,16 @@ module _ (s : NcpState) (stamp : ℕ) where
 
 -- ---- a moment
 
-module _ (hosts : List Host) (p : Host) where
-  out_quiet : (m : HostMessage) (ms : List Moment) → Lawful hosts (Crossed (crossing.Out m) ∷ ms) → stay.stays m.flow.source p (events_of (Crossed (crossing.Out m) ∷ ms)) ≡ false → stay.stays m.flow.source p (events_of ms) ≡ true
+module _ (hosts : Network) (p : Host) where
+  out_quiet : (m : HostMessage) (ms : List Moment) → AreOurs hosts m.flow.source p
+      → Lawful hosts (Crossed (crossing.Out m) ∷ ms)
+      → stay.stays m.flow.source p (events_of (Crossed (crossing.Out m) ∷ ms)) ≡ false
+      → stay.stays m.flow.source p (events_of ms) ≡ true
       → AreQuiet (notices_by (Crossed (crossing.Out m)) ms)
-  out_quiet m ms l left before =
-      let c : Coupled (all_ours hosts) (Crossed (crossing.Out m) ∷ ms) = coupled_in hosts (Crossed (crossing.Out m) ∷ ms) l in
+  out_quiet m ms ours l left before =
+      let c : Coupled hosts (Crossed (crossing.Out m) ∷ ms) = coupled_in hosts (Crossed (crossing.Out m) ∷ ms) l in
       clash _ (keeps m.flow.source p (event_in (Crossed (crossing.Out m))) (events_of ms))
-      (keeps_out m.flow.source p (events_of ms) (stays_ready (events_of ms) m.flow.source p before) hosts m.flow.destination m.flow.link.0 (message_on m.flow.link.0 m.text) c.run)
+      (keeps_out m.flow.source p (events_of ms) (stays_ready (events_of ms) m.flow.source p before) hosts ours m.flow.destination m.flow.link.0 (message_on m.flow.link.0 m.text) c.run)
       (leaves_by m.flow.source p (event_in (Crossed (crossing.Out m))) (events_of ms) before left)
 
   in_quiet : (m : HostMessage) (ms : List Moment) → stay.stays m.flow.destination p (events_of (Crossed (crossing.In m) ∷ ms)) ≡ false → stay.stays m.flow.destination p (events_of ms) ≡ true
@@ -114,17 +116,21 @@ module _ (hosts : List Host) (p : Host) where
         (keeps_text m.flow.destination p (events_of ms) (stays_ready (events_of ms) m.flow.destination p before) m.flow.source m.flow.destination m.flow.link.0 m.text)
         (subst (λ (n : Message). keeps m.flow.destination p (In m.flow.source m.flow.destination m.flow.link.0 n) (events_of ms) ≡ false) is (leaves_by m.flow.destination p (event_in (Crossed (crossing.In m))) (events_of ms) before left))
 
-  quiet : (y : Moment) (ms : List Moment) → Lawful hosts (y ∷ ms) → stay.stays (host_in y) p (events_of (y ∷ ms)) ≡ false → stay.stays (host_in y) p (events_of ms) ≡ true → AreQuiet (notices_by y ms)
-  quiet (Crossed (crossing.Out m)) ms l left before = out_quiet m ms l left before
-  quiet (Crossed (crossing.In m)) ms l left before = in_quiet m ms left before
-  quiet (Crossed (crossing.Answer kind f)) ms l left before = answer_quiet (program f.source ms) (places ms) kind f
-  quiet (Crossed (crossing.Down g)) ms l left before = tt
-  quiet (Crossed (crossing.Up g)) ms l left before = tt
-  quiet (Asked g r) ms l left before = request_quiet (program g ms) (places ms) r
+  quiet : (y : Moment) (ms : List Moment) → AreOurs hosts (host_in y) p → Lawful hosts (y ∷ ms)
+      → stay.stays (host_in y) p (events_of (y ∷ ms)) ≡ false → stay.stays (host_in y) p (events_of ms) ≡ true
+      → AreQuiet (notices_by y ms)
+  quiet (Crossed (crossing.Out m)) ms ours l left before = out_quiet m ms ours l left before
+  quiet (Crossed (crossing.In m)) ms ours l left before = in_quiet m ms left before
+  quiet (Crossed (crossing.Answer kind f)) ms ours l left before = answer_quiet (program f.source ms) (places ms) kind f
+  quiet (Crossed (crossing.Down g)) ms ours l left before = tt
+  quiet (Crossed (crossing.Up g)) ms ours l left before = tt
+  quiet (Asked g r) ms ours l left before = request_quiet (program g ms) (places ms) r
 
   -- so a host that reports the end of a connection with a peer stays with it
-  pub still_stays : (x : Life) (y : Moment) (ms : List Moment) → Lawful hosts (y ∷ ms) → stay.stays (host_in y) p (events_of ms) ≡ true → TellsEnd x (notices_by y ms) → stay.stays (host_in y) p (events_of (y ∷ ms)) ≡ true
-  still_stays x y ms l before t = by (stay.stays (host_in y) p (events_of (y ∷ ms))) refl where
+  pub still_stays : (x : Life) (y : Moment) (ms : List Moment) → AreOurs hosts (host_in y) p → Lawful hosts (y ∷ ms)
+      → stay.stays (host_in y) p (events_of ms) ≡ true → TellsEnd x (notices_by y ms)
+      → stay.stays (host_in y) p (events_of (y ∷ ms)) ≡ true
+  still_stays x y ms ours l before t = by (stay.stays (host_in y) p (events_of (y ∷ ms))) refl where
     by : (v : Bool) → stay.stays (host_in y) p (events_of (y ∷ ms)) ≡ v → stay.stays (host_in y) p (events_of (y ∷ ms)) ≡ true
     by true e = e
-    by false e = absurd (quiet_tells x (notices_by y ms) (quiet y ms l e before) t)
+    by false e = absurd (quiet_tells x (notices_by y ms) (quiet y ms ours l e before) t)

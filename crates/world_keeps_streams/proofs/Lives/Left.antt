@@ -1,6 +1,5 @@
 -- The lives of a host that doesn't stay with a peer have all ended: it has taken no request of the peer since it left.
-use Rattle.world_keeps_streams.proofs.Common.{◌≡◌, ◌⊎◌, inl, inr, ℕ, ◌==◌, Bool, false, List, [], ◌∷◌, filter, find, map, Option, Some, None, refl, ap, sym, subst, ◌∙◌, eq-eqb, Contains, eqb-true, Host, is_receive_socket, is_send_socket, entry_at, is_at, is_mine_on, Entry, both, Stand, Standing, at, end_of, is_past, standing, marks, End, Sockets, Who, Mark, stays_same, pair_with, Moment, events_of, program, crossings_of, Coupled, HasOpenEnd, mine_on, live, law_events, origin_in, Side_of, Tie, all_tied, are_origins, at_texts, foreign_of, life_paired, other, own_of, served_in}
-use Rattle.reset_law.specs.Network.{all_ours}
+use Rattle.world_keeps_streams.proofs.Common.{◌≡◌, ◌⊎◌, inl, inr, ℕ, ◌==◌, Bool, false, List, [], ◌∷◌, filter, find, map, Option, Some, None, refl, ap, sym, subst, ◌∙◌, eq-eqb, Contains, eqb-true, Host, is_receive_socket, is_send_socket, entry_at, is_at, is_mine_on, Entry, both, Stand, Standing, at, end_of, is_past, standing, marks, End, Sockets, Who, Mark, stays_same, pair_with, Moment, events_of, program, crossings_of, Coupled, HasOpenEnd, mine_on, law_events, origin_in, Side_of, Tie, all_tied, are_origins, at_texts, foreign_of, other, own_of, served_in, Network, AreOurs}
 use Rattle.std.proofs.Common.{true}
 use Rattle.pairing_law.specs.Links.{Receiver, Sender}
 use Rattle.reset_law.specs.Stays as stay
@@ -9,6 +8,8 @@ use Rattle.world_keeps_pairing.proofs.lemmas.{IsPair, Unheard, unheard}
 use Rattle.world_keeps_streams.proofs.Deeds.Effects.{Among, among_filter, among_kept, among_mapped, found_among}
 use Rattle.world_keeps_streams.proofs.Lives.Lists.{IsOf, contains}
 use Rattle.world_keeps_streams.proofs.Requests.Sides.{Lawful, coupled_in, lives_in}
+use Rattle.world_keeps_streams.proofs.Lives.Among.{life_paired}
+use Rattle.world_keeps_streams.proofs.Ours.{live, ours_of}
 
 -- ---- an end of a program is that of the law
 
@@ -78,7 +79,8 @@ partner_none origin s t partner live none =
     let two : None ≡ Some (origin t) = sym none ∙ e in
     absurd (cc)
 
-module _ (hosts : List Host) (ms : List Moment) (l : Lawful hosts ms) (h p : Host) (left : stay.stays h p (events_of ms) ≡ false) where
+module _ (hosts : Network) (ms : List Moment) (l : Lawful hosts ms) (h p : Host) (ours : AreOurs hosts h p)
+    (left : stay.stays h p (events_of ms) ≡ false) where
   unpartnered : (s : Sockets) (q : IsPair s) (who : Who) → Tie s q who h p (origin_in (crossings_of ms) h p) ms → (e : Entry) (t : ℕ) → Among e (pair_with p (program h ms).peers).entries
       → e.own ≡ own_of who s → e.foreign ≡ foreign_of who s → e.partner ≡ Some t → ⊥
   unpartnered s q who tie e t there own foreign partner =
@@ -90,26 +92,26 @@ module _ (hosts : List Host) (ms : List Moment) (l : Lawful hosts ms) (h p : Hos
   pub no_partner : (own foreign : ℕ) → ((is_receive_socket own ≡ true) × (is_send_socket foreign ≡ true)) ⊎ ((is_send_socket own ≡ true) × (is_receive_socket foreign ≡ true)) → (e : Entry) (t : ℕ)
       → Among e (pair_with p (program h ms).peers).entries → e.own ≡ own → e.foreign ≡ foreign → e.partner ≡ Some t → ⊥
   no_partner own foreign (inl q) e t there f g partner =
-      let c : Coupled (all_ours hosts) ms = coupled_in hosts ms l in
+      let c : Coupled hosts ms = coupled_in hosts ms l in
       unpartnered (record { receive = own; send = foreign }) (q.0, q.1) Receiver
-      (((all_tied (all_ours hosts) (origin_in (crossings_of ms)) ms (are_origins 0 (crossings_of ms) [] ms refl) c.story c.run (served_in hosts ms l.2)).tied h p (refl, refl)).receiver (record { receive = own; send = foreign }) (q.0, q.1)) e t there f g partner
+      (((all_tied hosts (origin_in (crossings_of ms)) ms (are_origins 0 (crossings_of ms) [] ms refl) c.story c.run (served_in hosts ms l.2)).tied h p ours).receiver (record { receive = own; send = foreign }) (q.0, q.1)) e t there f g partner
   no_partner own foreign (inr q) e t there f g partner =
-      let c : Coupled (all_ours hosts) ms = coupled_in hosts ms l in
+      let c : Coupled hosts ms = coupled_in hosts ms l in
       unpartnered (record { receive = foreign; send = own }) (q.1, q.0) Sender
-      (((all_tied (all_ours hosts) (origin_in (crossings_of ms)) ms (are_origins 0 (crossings_of ms) [] ms refl) c.story c.run (served_in hosts ms l.2)).tied p h (refl, refl)).sender (record { receive = foreign; send = own }) (q.1, q.0)) e t there f g partner
+      (((all_tied hosts (origin_in (crossings_of ms)) ms (are_origins 0 (crossings_of ms) [] ms refl) c.story c.run (served_in hosts ms l.2)).tied p h (ours.1, ours.0)).sender (record { receive = foreign; send = own }) (q.1, q.0)) e t there f g partner
 
   -- so each life of it with the peer has ended
   pub over_when_left : (x : Life) → IsOf x (lives_in ms) → x.host ≡ h → x.peer ≡ p → x.ended ≡ true
   over_when_left x i f g = by x.ended refl where
     goes : x.ended ≡ false → ⊥
     goes e =
-        let c : Coupled (all_ours hosts) ms = coupled_in hosts ms l in
+        let c : Coupled hosts ms = coupled_in hosts ms l in
         let there : Contains (lives_in ms) x = contains x (lives_in ms) i in
-        let o : HasOpenEnd (program x.host ms) x = live hosts ms l.0 l.1 l.2 x there e in
+        let o : HasOpenEnd (program x.host ms) x = live hosts ms l.0 l.1 l.2 x (ours_of hosts x h p ours (f, g)).0 there e in
         let in_mine : Among o.end (mine_on x.socket (pair_with x.peer (program x.host ms).peers).entries) = subst (λ (es : List Entry). Among o.end es) (sym o.one) (inl refl) in
         let at_it : Among o.end (pair_with x.peer (program x.host ms).peers).entries × (is_mine_on x.socket o.end ≡ true) = among_filter (is_mine_on x.socket) (pair_with x.peer (program x.host ms).peers).entries o.end in_mine in
         let own : o.end.own ≡ x.socket = eqb-true o.end.own x.socket (both o.end.mine (o.end.own == x.socket) at_it.1).1 in
-        no_partner x.socket x.foreign (life_paired hosts ms c.story c.run l.1 (served_in hosts ms l.2) x there) o.end x.partner_stamp
+        no_partner x.socket x.foreign (life_paired hosts ms c.story c.run l.1 (served_in hosts ms l.2) x (ours_of hosts x h p ours (f, g)) there) o.end x.partner_stamp
         (subst (λ (v : Host). Among o.end (pair_with p (program v ms).peers).entries) f (subst (λ (v : Host). Among o.end (pair_with v (program x.host ms).peers).entries) g at_it.0)) own o.foreign o.partner
 
     by : (v : Bool) → x.ended ≡ v → x.ended ≡ true

@@ -1,22 +1,18 @@
 -- A life that begins by a moment: before it no CLS of its end was queued or taken. So it isn't over by the moment.
-use Rattle.world_keeps_streams.proofs.Common.{AreCommands, ◌≡◌, inl, inr, ℕ, zero, suc, ◌<◌, ◌==◌, Bool, true, false, List, [], ◌∷◌, length, slice_index_or, Option, Some, None, refl, ap, subst, ◌∙◌, arith, Contains, Host, or_false, is_send_socket, entry_at, has_cls, is_at, is_ending, is_sent, Closing, Entry, Notice, both, eqb-true, pair_with, Asked, Crossed, IsStory, Moment, places, program, crossings_of, host_in, notices_by, Coupled, origin_in, all_tied, are_origins, served_in, unopened, Each}
-use Rattle.reset_law.specs.Network.{all_ours}
+use Rattle.world_keeps_streams.proofs.Common.{AreCommands, ◌≡◌, inl, inr, ℕ, zero, suc, ◌<◌, ◌==◌, Bool, true, false, List, [], ◌∷◌, length, slice_index_or, Option, Some, None, refl, ap, subst, ◌∙◌, arith, Contains, Host, or_false, is_send_socket, entry_at, has_cls, is_at, is_ending, is_sent, Closing, Entry, Notice, both, eqb-true, pair_with, Asked, Crossed, IsStory, Moment, places, program, crossings_of, host_in, notices_by, Coupled, origin_in, all_tied, are_origins, served_in, unopened, Each, Network, AreOurs, programs_ranged, pair_range, sym}
 use Rattle.interface.specs.declared.crossing.Crossing.TheVariants as crossing
 use Rattle.host_pairs.specs.declared.entry.Closing.TheVariants as closing
 use Rattle.host_pairs.specs.declared.notice.Notice.TheVariants as notice
 use Rattle.pairing_law.specs.Links.{Receiver}
 use Rattle.promise.specs.declared.life.Life.{Life}
 use Rattle.promise.specs.Safe.{receives}
-use Rattle.world_keeps_pairing.proofs.lemmas.AllOurs.{queued_commands}
 use Rattle.world_keeps_lives.proofs.lemmas.{IsNoOpening}
-use Rattle.world_keeps_streams.proofs.Books.Run.{below}
 use Rattle.world_keeps_streams.proofs.Deeds.Effects.{Among, found_among}
 use Rattle.world_keeps_streams.proofs.Lives.Fates.{IsEnd, IsOpening, TellsEnd, TellsOpening}
 use Rattle.world_keeps_streams.proofs.Lives.LeavesEnds.{answer_quiet, quiet_tells, request_quiet}
 use Rattle.world_keeps_streams.proofs.Lives.Left.{at_it, none_found, one_tied}
 use Rattle.world_keeps_streams.proofs.Lives.Unended.{IsNoEnding, heard_lasts, said_lasts}
-use Rattle.world_keeps_streams.proofs.Requests.Sides.{Lawful, coupled_in}
-use Rattle.net_sim.proofs.lemmas.AllOurs.{happened}
+use Rattle.world_keeps_streams.proofs.Requests.Sides.{Lawful, coupled_in, below}
 
 -- ---- lists
 
@@ -53,31 +49,38 @@ not_sent closing.Sent e = e
 not_sent c e = refl
 
 -- where none of the ends of a life's sockets is ending before a moment, none goes by it
-stays_there : (hosts : List Host) (y : Moment) (ms : List Moment) (x : Life) → IsStory (all_ours hosts) (y ∷ ms) → ((a b : Host) → AreCommands (pair_with b (program a ms).peers).queue)
+stays_there : (hosts : Network) (y : Moment) (ms : List Moment) (x : Life) → hosts.strange (host_in y) ≡ false
+    → IsStory hosts (y ∷ ms)
+    → ((a b : Host) → hosts.strange a ≡ false → AreCommands (pair_with b (program a ms).peers).queue)
     → ((e : Entry) → Among e (pair_with x.peer (program (host_in y) ms).peers).entries → e.own ≡ x.socket → e.foreign ≡ x.foreign → is_ending e ≡ false)
     → TellsEnd x (notices_by y ms) → ⊥
-stays_there hosts (Crossed (crossing.Out m)) ms x story ok goes t =
-    no_endings x _ (said_lasts x.peer x.socket x.foreign (program m.flow.source ms) (places ms) (story.0 refl).peer (story.0 refl).parcel (story.0 refl).order (story.0 refl).next
-    (ok m.flow.source (story.0 refl).peer.host) (λ e i own foreign. (or_false (has_cls e.closing) e.partner_closed (goes e i own foreign)).1)) t
-stays_there hosts (Crossed (crossing.In m)) ms x story ok goes t =
+stays_there hosts (Crossed (crossing.Out m)) ms x plain story ok goes t =
+    no_endings x _ (said_lasts x.peer x.socket x.foreign (program m.flow.source ms) (places ms) (story.0 plain).peer (story.0 plain).parcel (story.0 plain).order (story.0 plain).next
+    (ok m.flow.source (story.0 plain).peer.host plain) (λ e i own foreign. (or_false (has_cls e.closing) e.partner_closed (goes e i own foreign)).1)) t
+stays_there hosts (Crossed (crossing.In m)) ms x plain story ok goes t =
     no_endings x _ (heard_lasts x.peer x.socket x.foreign (program m.flow.destination ms) m (places ms)
     (λ e i own foreign. not_sent e.closing (or_false (has_cls e.closing) e.partner_closed (goes e i own foreign)).0)) t
-stays_there hosts (Crossed (crossing.Answer kind f)) ms x story ok goes t = quiet_tells x _ (answer_quiet (program f.source ms) (places ms) kind f) t
-stays_there hosts (Crossed (crossing.Down g)) ms x story ok goes t = t
-stays_there hosts (Crossed (crossing.Up g)) ms x story ok goes t = t
-stays_there hosts (Asked g r) ms x story ok goes t = quiet_tells x _ (request_quiet (program g ms) (places ms) r) t
+stays_there hosts (Crossed (crossing.Answer kind f)) ms x plain story ok goes t = quiet_tells x _ (answer_quiet (program f.source ms) (places ms) kind f) t
+stays_there hosts (Crossed (crossing.Down g)) ms x plain story ok goes t = t
+stays_there hosts (Crossed (crossing.Up g)) ms x plain story ok goes t = t
+stays_there hosts (Asked g r) ms x plain story ok goes t = quiet_tells x _ (request_quiet (program g ms) (places ms) r) t
 
 -- ---- a life that begins
 
-module _ (hosts : List Host) (y : Moment) (ms : List Moment) (l : Lawful hosts (y ∷ ms)) (x : Life) (kind : receives x ≡ true) (sends : is_send_socket x.foreign ≡ true) (host : host_in y ≡ x.host) (opens : TellsOpening x (notices_by y ms)) where
+module _ (hosts : Network) (y : Moment) (ms : List Moment) (l : Lawful hosts (y ∷ ms)) (x : Life)
+    (ours : AreOurs hosts x.host x.peer) (kind : receives x ≡ true) (sends : is_send_socket x.foreign ≡ true)
+    (host : host_in y ≡ x.host) (opens : TellsOpening x (notices_by y ms)) where
   old : Lawful hosts ms
   old = below hosts y ms l
+
+  here : hosts.strange (host_in y) ≡ false
+  here = subst (λ (h : Host). hosts.strange h ≡ false) (sym host) ours.0
 
   -- not all its ends were ending before
   not_shut : ((e : Entry) → Among e (pair_with x.peer (program x.host ms).peers).entries → e.own ≡ x.socket → e.foreign ≡ x.foreign → is_ending e ≡ true) → ⊥
   not_shut shut =
       no_openings x (notices_by y ms)
-      (unopened x.peer x.socket x.foreign (all_ours hosts) old.0 ms old.1 (happened hosts ms old.2) y refl (coupled_in hosts (y ∷ ms) l).story
+      (unopened x.peer x.socket x.foreign hosts old.0 ms old.1 old.2 y here (coupled_in hosts (y ∷ ms) l).story
       (λ e there own foreign. shut e (contains_among (pair_with x.peer (program x.host ms).peers).entries e (subst (λ (h : Host). Contains (pair_with x.peer (program h ms).peers).entries e) host there)) own foreign)) opens
 
   pub record Before : Type 0 where
@@ -89,9 +92,9 @@ module _ (hosts : List Host) (y : Moment) (ms : List Moment) (l : Lawful hosts (
 
   only : (e f : Entry) → Among e (pair_with x.peer (program x.host ms).peers).entries → Among f (pair_with x.peer (program x.host ms).peers).entries → e.own ≡ x.socket → e.foreign ≡ x.foreign → f.own ≡ x.socket → f.foreign ≡ x.foreign → e ≡ f
   only =
-      let c : Coupled (all_ours hosts) ms = coupled_in hosts ms old in
+      let c : Coupled hosts ms = coupled_in hosts ms old in
       one_tied (record { receive = x.socket; send = x.foreign }) (kind, sends) Receiver x.host x.peer ms
-      (((all_tied (all_ours hosts) (origin_in (crossings_of ms)) ms (are_origins 0 (crossings_of ms) [] ms refl) c.story c.run (served_in hosts ms old.2)).tied x.host x.peer (refl, refl)).receiver (record { receive = x.socket; send = x.foreign }) (kind, sends))
+      (((all_tied hosts (origin_in (crossings_of ms)) ms (are_origins 0 (crossings_of ms) [] ms refl) c.story c.run (served_in hosts ms old.2)).tied x.host x.peer ours).receiver (record { receive = x.socket; send = x.foreign }) (kind, sends))
 
   before : Before
   before = by (entry_at x.socket x.foreign (pair_with x.peer (program x.host ms).peers).entries) refl where
@@ -113,5 +116,5 @@ module _ (hosts : List Host) (y : Moment) (ms : List Moment) (l : Lawful hosts (
   -- so it isn't over by the moment
   pub lasts : TellsEnd x (notices_by y ms) → ⊥
   lasts t =
-      stays_there hosts y ms x (coupled_in hosts (y ∷ ms) l).story (queued_commands hosts ms old.0 old.1 old.2)
+      stays_there hosts y ms x here (coupled_in hosts (y ∷ ms) l).story (λ a b plain. (pair_range b (program a ms).peers (programs_ranged hosts ms (served_in hosts ms old.2) a plain).pairs).commands)
       (λ e i own foreign. was_open e (subst (λ (h : Host). Among e (pair_with x.peer (program h ms).peers).entries) host i) own foreign) t

@@ -1,6 +1,5 @@
 -- The lives of a host that stays: those since it dropped its ends last are those since both met.
-use Rattle.world_keeps_streams.proofs.Common.{◌≡◌, inl, inr, ℕ, zero, suc, ◌≤◌, ◌&&◌, ◌||◌, not, Bool, if◌then◌else◌, List, [], ◌∷◌, ◌++◌, length, map, drop, refl, ap, sym, subst, ◌∙◌, arith, Host, both, Fresh, begins_fresh, Contact, Event, In, Other, pair, begins_either, contradicts, ready_phase, Moment, event_in, events_of, keeps}
-use Rattle.reset_law.specs.Network.{all_ours}
+use Rattle.world_keeps_streams.proofs.Common.{◌≡◌, inl, inr, ℕ, zero, suc, ◌≤◌, ◌&&◌, ◌||◌, not, Bool, if◌then◌else◌, List, [], ◌∷◌, ◌++◌, length, map, drop, refl, ap, sym, subst, ◌∙◌, arith, Host, both, Fresh, begins_fresh, Contact, Event, In, Other, pair, begins_either, contradicts, ready_phase, Moment, event_in, events_of, keeps, Network, AreOurs}
 use Rattle.std.proofs.Common.{true, false}
 use Rattle.reset_law.specs.Events.{Reply, Reset}
 use Rattle.reset_law.specs.Runs.{IsRun}
@@ -10,8 +9,7 @@ use Rattle.promise.specs.declared.life.Life.{Life}
 use Rattle.world_keeps_streams.proofs.Carried.Calls as carried
 use Rattle.world_keeps_streams.proofs.Books.Goes.{since_bound, since_on}
 use Rattle.world_keeps_streams.proofs.Lives.Lists.{IsOf, drop_grown, grown, of_drop, of_either, of_left, of_map, of_mapped, of_right}
-use Rattle.world_keeps_streams.proofs.Books.Run.{below}
-use Rattle.world_keeps_streams.proofs.Requests.Sides.{Lawful, coupled_in, lives_in}
+use Rattle.world_keeps_streams.proofs.Requests.Sides.{Lawful, coupled_in, lives_in, below}
 use Rattle.world_keeps_streams.proofs.Carried.Owned.{since_within}
 use Rattle.world_keeps_streams.proofs.Books.Whole.{present_in, since}
 use Rattle.world_keeps_streams.proofs.Stays.Resets.{goes_on}
@@ -19,28 +17,31 @@ use Rattle.world_keeps_streams.proofs.Stays.Resets.{goes_on}
 -- ---- where both meet, each keeps its ends
 
 -- who takes an RST has a peer that waits for the RRP
-reset_alone : (hosts : List Host) (e : Event) (events : List Event) → IsRun (all_ours hosts) (e ∷ events) → (a b : Host) → stay.takes_reset a b e ≡ true → stay.ready b a (e ∷ events) ≡ true → ⊥
-reset_alone hosts (Contact x y) events r a b takes ready = absurd (cc)
-reset_alone hosts (In x y l Reset) events r a b takes ready = reset_unready (all_ours hosts) events x y l r a b (refl, refl) takes (ready_phase (pair b a (In x y l Reset ∷ events)).phase ready)
-reset_alone hosts (In x y l Reply) events r a b takes ready = absurd (cc)
-reset_alone hosts (In x y l (Other text)) events r a b takes ready = absurd (cc)
-reset_alone hosts e events r a b takes ready = absurd (cc)
+reset_alone : (hosts : Network) (e : Event) (events : List Event) → IsRun hosts (e ∷ events) → (a b : Host)
+    → AreOurs hosts a b → stay.takes_reset a b e ≡ true → stay.ready b a (e ∷ events) ≡ true → ⊥
+reset_alone hosts (Contact x y) events r a b ours takes ready = absurd (cc)
+reset_alone hosts (In x y l Reset) events r a b ours takes ready = reset_unready hosts events x y l r a b ours takes (ready_phase (pair b a (In x y l Reset ∷ events)).phase ready)
+reset_alone hosts (In x y l Reply) events r a b ours takes ready = absurd (cc)
+reset_alone hosts (In x y l (Other text)) events r a b ours takes ready = absurd (cc)
+reset_alone hosts e events r a b ours takes ready = absurd (cc)
 
-begins_keeps : (hosts : List Host) (e : Event) (events : List Event) → IsRun (all_ours hosts) (e ∷ events) → (a b : Host) → stay.begins a b e events ≡ true → keeps a b e events ≡ true
-begins_keeps hosts e events r a b begun = by (stay.takes_reset a b e) refl where
+begins_keeps : (hosts : Network) (e : Event) (events : List Event) → IsRun hosts (e ∷ events) → (a b : Host)
+    → AreOurs hosts a b → stay.begins a b e events ≡ true → keeps a b e events ≡ true
+begins_keeps hosts e events r a b ours begun = by (stay.takes_reset a b e) refl where
   now : (stay.ready a b (e ∷ events) ≡ true) × (stay.ready b a (e ∷ events) ≡ true)
   now = both (stay.ready a b (e ∷ events)) (stay.ready b a (e ∷ events)) (both (stay.joint a b (e ∷ events)) (not (stay.joint a b events)) begun).0
 
   by : (t : Bool) → stay.takes_reset a b e ≡ t → keeps a b e events ≡ true
-  by true takes = absurd (reset_alone hosts e events r a b takes now.1)
+  by true takes = absurd (reset_alone hosts e events r a b ours takes now.1)
   by false takes = let here : stay.ready a b (e ∷ events) ≡ true = now.0 in rw (here, takes) refl
 
 -- so a host that stays dropped its ends no later than both met
-pub dropped_first : (hosts : List Host) (a b : Host) (ms : List Moment) → Lawful hosts ms → stay.stays a b (events_of ms) ≡ true → carried.since a b ms ≤ since a b ms
-dropped_first hosts a b [] l stays = absurd (cc)
-dropped_first hosts a b (y ∷ ms) l stays =
-    by (stay.begins a b (event_in y) (events_of ms)) (keeps a b (event_in y) (events_of ms)) (stay.stays a b (events_of ms)) (begins_keeps hosts (event_in y) (events_of ms) (coupled_in hosts (y ∷ ms) l).run a b) stays (since_within a b ms)
-    (dropped_first hosts a b ms (below hosts y ms l)) where
+pub dropped_first : (hosts : Network) (a b : Host) → AreOurs hosts a b → (ms : List Moment) → Lawful hosts ms
+    → stay.stays a b (events_of ms) ≡ true → carried.since a b ms ≤ since a b ms
+dropped_first hosts a b ours [] l stays = absurd (cc)
+dropped_first hosts a b ours (y ∷ ms) l stays =
+    by (stay.begins a b (event_in y) (events_of ms)) (keeps a b (event_in y) (events_of ms)) (stay.stays a b (events_of ms)) (begins_keeps hosts (event_in y) (events_of ms) (coupled_in hosts (y ∷ ms) l).run a b ours) stays (since_within a b ms)
+    (dropped_first hosts a b ours ms (below hosts y ms l)) where
       by : (t k s : Bool) → (t ≡ true → k ≡ true) → (t || (k && s)) ≡ true → carried.since a b ms ≤ length (lives_in ms) → (s ≡ true → carried.since a b ms ≤ since a b ms)
           → (if k then carried.since a b ms else length (lives_in (y ∷ ms))) ≤ (if t then length (lives_in ms) else since a b ms)
       by true true s m e bound old = bound
@@ -69,10 +70,10 @@ drop_none x (y ∷ ys) i = drop_none x ys i
 
 -- ---- lives begin in a stay
 
-abbrev pub NoneBegin : List Host → Host → Host → Type 0
+abbrev pub NoneBegin : Network → Host → Host → Type 0
 NoneBegin hosts h p = (y : Moment) (ms : List Moment) → Lawful hosts (y ∷ ms) → stay.stays h p (events_of (y ∷ ms)) ≡ false → (x : Life) → IsOf x (grown y ms).more → x.host ≡ h → x.peer ≡ p → ⊥
 
-module _ (hosts : List Host) (h p : Host) (none : NoneBegin hosts h p) where
+module _ (hosts : Network) (h p : Host) (ours : AreOurs hosts h p) (none : NoneBegin hosts h p) where
   -- a life since its host dropped its ends is there since both met, and the host stays
   pub recent_present : (ms : List Moment) → Lawful hosts ms → (x : Life) → IsOf x (drop (carried.since h p ms) (lives_in ms)) → x.host ≡ h → x.peer ≡ p → (stay.stays h p (events_of ms) ≡ true) × IsOf x (present_in h p ms)
   recent_present [] l x i f g = absurd (of_drop 0 x [] i)
@@ -90,7 +91,7 @@ module _ (hosts : List Host) (h p : Host) (none : NoneBegin hosts h p) where
           (subst (λ (z : Life). IsOf z (map (grown y ms).change (drop (since h p ms) (lives_in ms)))) (sym is) (of_map (grown y ms).change v (drop (since h p ms) (lives_in ms)) old.1)))
 
       at : (t : Bool) → stay.begins h p (event_in y) (events_of ms) ≡ t → IsOf x (present_in h p (y ∷ ms))
-      at true new = let fresh : Fresh h p (event_in y) (events_of ms) = begins_fresh (all_ours hosts) (event_in y) (events_of ms) (coupled_in hosts (y ∷ ms) l).run h p (refl, refl) new in absurd (contradicts (stay.stays h p (events_of ms)) old.0 fresh.left)
+      at true new = let fresh : Fresh h p (event_in y) (events_of ms) = begins_fresh hosts (event_in y) (events_of ms) (coupled_in hosts (y ∷ ms) l).run h p ours new in absurd (contradicts (stay.stays h p (events_of ms)) old.0 fresh.left)
       at false still = subst (λ (n : ℕ). IsOf x (drop n (lives_in (y ∷ ms)))) (sym (since_on h p y ms still)) moved
 
     -- a new one

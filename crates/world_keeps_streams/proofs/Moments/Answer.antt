@@ -1,7 +1,5 @@
 -- The lives of a host with one peer are carried by its calls at a moment at which an answer comes back.
-use Rattle.world_keeps_streams.proofs.Common.{◌≡◌, ℕ, ◌==◌, Bool, true, false, not, ◌&&◌, ◌||◌, if◌then◌else◌, List, [], ◌∷◌, ◌++◌, is_some, refl, ap, sym, subst, ◌∙◌, Host, same_host, Flow, Answer, same_host-true, is_busy, PairState, TurnState, answered_turn, failed, failed_by, freed, is_gone, settled_turn, Notice, Phase, put, Answered, AreAllowed, IsTelling, ends_after, ends_now, pair, turn_of, NcpState, pair_with, all_told, crossed, HaveAddresses, Agrees, Crossed, IsStory, Moment, event_in, events_of, places, program, IsTimeline, crossings_of, coupled, program_own, story_agrees, keeps, mail_below, calls_by, own_calls, both}
-use Rattle.net_sim.proofs.lemmas.AllOurs.{happened}
-use Rattle.reset_law.specs.Network.{all_ours}
+use Rattle.world_keeps_streams.proofs.Common.{◌≡◌, ℕ, ◌==◌, Bool, true, false, not, ◌&&◌, ◌||◌, if◌then◌else◌, List, [], ◌∷◌, ◌++◌, is_some, refl, ap, sym, subst, ◌∙◌, Host, same_host, Flow, Answer, same_host-true, is_busy, PairState, TurnState, answered_turn, failed, failed_by, freed, is_gone, settled_turn, Notice, Phase, put, Answered, AreAllowed, IsTelling, ends_after, ends_now, pair, turn_of, NcpState, pair_with, all_told, crossed, HaveAddresses, Agrees, Crossed, IsStory, Moment, event_in, events_of, places, program, crossings_of, coupled, program_own, story_agrees, keeps, mail_below, calls_by, own_calls, both, Happened, Network, AreOurs}
 use Rattle.interface.specs.Mailboxes as mail
 use Rattle.interface.specs.declared.crossing.Answer.TheVariants as answer
 use Rattle.interface.specs.declared.crossing.Crossing.TheVariants as crossing
@@ -13,7 +11,7 @@ use Rattle.reset_law.specs.Stays as stay
 use Rattle.sockets.specs.Accepting.{accepted}
 use Rattle.net_sim.specs.Told.{kept_in}
 use Rattle.world_keeps_streams.specs.Calls.{called}
-use Rattle.world_keeps_streams.proofs.Calls.Chain.{Chained, chain, ready_both}
+use Rattle.world_keeps_streams.proofs.Calls.Chain.{Chained, chain, plain_at, ready_both}
 use Rattle.world_keeps_streams.proofs.Deeds.Effects.{all_lives}
 use Rattle.world_keeps_streams.proofs.Deeds.Told.{call_told}
 use Rattle.world_keeps_streams.proofs.Carried.Calls.{Carries}
@@ -51,15 +49,15 @@ accepted_told : (s : NcpState) (kind : Answer) (f : Flow) (stamp : ℕ) → same
 unfolding accepted
 accepted_told s kind f stamp own busy = rw (own, busy) refl
 
-module _ (number : ℕ → ℕ → ℕ → ℕ) (tells : IsTelling number) (hosts : List Host) (addresses : HaveAddresses hosts) (a b : Host)
-    (allowed : (ms : List Moment) → mail.IsRun hosts (crossings_of ms) → IsTimeline hosts ms → (link : ℕ) → (link == 0) ≡ false → AreAllowed number b link (own_calls a b ms)) where
-  module _ (kind : Answer) (f : Flow) (ms : List Moment) (run : mail.IsRun hosts (crossings_of (Crossed (crossing.Answer kind f) ∷ ms))) (time : IsTimeline hosts (Crossed (crossing.Answer kind f) ∷ ms))
+module _ (number : ℕ → ℕ → ℕ → ℕ) (tells : IsTelling number) (hosts : Network) (addresses : HaveAddresses hosts.all) (a b : Host) (ours : AreOurs hosts a b)
+    (allowed : (ms : List Moment) → mail.IsRun hosts.all (crossings_of ms) → Happened hosts ms → (link : ℕ) → (link == 0) ≡ false → AreAllowed number b link (own_calls a b ms)) where
+  module _ (kind : Answer) (f : Flow) (ms : List Moment) (run : mail.IsRun hosts.all (crossings_of (Crossed (crossing.Answer kind f) ∷ ms))) (time : Happened hosts (Crossed (crossing.Answer kind f) ∷ ms))
       (on : keeps a b (event_in (Crossed (crossing.Answer kind f))) (events_of ms) ≡ true) (mine : same_host a f.source ≡ true) (theirs : same_host b f.destination ≡ true) where
-    story : IsStory (all_ours hosts) (Crossed (crossing.Answer kind f) ∷ ms)
+    story : IsStory hosts (Crossed (crossing.Answer kind f) ∷ ms)
     story = (coupled hosts addresses (Crossed (crossing.Answer kind f) ∷ ms) run time).story
 
-    below : mail.IsRun hosts (crossings_of ms)
-    below = mail_below hosts (Crossed (crossing.Answer kind f)) ms run
+    below : mail.IsRun hosts.all (crossings_of ms)
+    below = mail_below hosts.all (Crossed (crossing.Answer kind f)) ms run
 
     own_host : a ≡ f.source
     own_host = same_host-true a f.source mine
@@ -73,9 +71,9 @@ module _ (number : ℕ → ℕ → ℕ → ℕ) (tells : IsTelling number) (host
     -- an answer is about a message that is outstanding
     outstanding : is_busy (pair_with b (program a ms).peers).busy f.link.0 ≡ true
     outstanding =
-        let agrees : Agrees (pair_with b (program a ms).peers) (pair a b (events_of ms)) = story_agrees (all_ours hosts) ms a b (refl, refl) story.1 in
+        let agrees : Agrees (pair_with b (program a ms).peers) (pair a b (events_of ms)) = story_agrees hosts ms a b ours story.1 in
         sym (agrees.busy f.link.0) ∙ subst (λ (g : Host). is_some ((pair g b (events_of ms)).out f.link.0) ≡ true) (sym own_host)
-        (subst (λ (g : Host). is_some ((pair f.source g (events_of ms)).out f.link.0) ≡ true) (sym peer_host) (story.0 (refl, refl)))
+        (subst (λ (g : Host). is_some ((pair f.source g (events_of ms)).out f.link.0) ≡ true) (sym peer_host) (story.0 (plain_at hosts a f.source mine ours.0, plain_at hosts b f.destination theirs ours.1)))
 
     abbrev Call : calls.Moment
     Call = called (Answered f.link.0) (pair_with b (program a ms).peers) (program a ms).listening
@@ -89,7 +87,7 @@ module _ (number : ℕ → ℕ → ℕ → ℕ) (tells : IsTelling number) (host
     -- the host keeps its ends, so it is ready after the answer
     ready_by : program_phases.is_ready (pair_with b (program a (Crossed (crossing.Answer kind f) ∷ ms)).peers).phase ≡ true
     ready_by =
-        sym (ready_both (all_ours hosts) a b (Crossed (crossing.Answer kind f) ∷ ms) (refl, refl) story)
+        sym (ready_both hosts a b (Crossed (crossing.Answer kind f) ∷ ms) ours story)
         ∙ (both (stay.ready a b (events_of (Crossed (crossing.Answer kind f) ∷ ms))) (not (stay.takes_reset a b (event_in (Crossed (crossing.Answer kind f))))) on).0
 
     ready_now : program_phases.is_ready (answered_turn f.destination kind f.link.0 (turn_of (program a ms) f.destination)).pair.phase ≡ true
@@ -108,19 +106,21 @@ module _ (number : ℕ → ℕ → ℕ → ℕ) (tells : IsTelling number) (host
     -- the calls lead to the program's ends
     ends_are : ends_after b Call ≡ (pair_with b (program a (Crossed (crossing.Answer kind f) ∷ ms)).peers).entries
     ends_are =
-        let c : Chained a b (Crossed (crossing.Answer kind f) ∷ ms) = chain (all_ours hosts) addresses (Crossed (crossing.Answer kind f) ∷ ms) run (happened hosts (Crossed (crossing.Answer kind f) ∷ ms) time) a b (refl, refl) in
+        let c : Chained a b (Crossed (crossing.Answer kind f) ∷ ms) = chain hosts addresses (Crossed (crossing.Answer kind f) ∷ ms) run time a b ours in
         let last : ends_now b (calls_by a b (Crossed (crossing.Answer kind f)) ms ++ own_calls a b ms) ≡ (pair_with b (program a (Crossed (crossing.Answer kind f) ∷ ms)).peers).entries = rw on at c.1 in
         subst (λ (ks : List calls.Moment). ends_now b (ks ++ own_calls a b ms) ≡ (pair_with b (program a (Crossed (crossing.Answer kind f) ∷ ms)).peers).entries) calls_are last
 
     answer_next : Carries number a b ms → Carries number a b (Crossed (crossing.Answer kind f) ∷ ms)
     answer_next c =
-        single_next number tells hosts a b (Crossed (crossing.Answer kind f)) ms addresses run time below time.1 on Call calls_are refl ends_are
-        (history_at number tells hosts addresses a b allowed (Crossed (crossing.Answer kind f)) ms (Call ∷ []) run time on calls_are)
-        (allowed_at number tells hosts addresses a b allowed (Crossed (crossing.Answer kind f)) ms (Call ∷ []) run time on calls_are)
-        (placed_in number tells hosts addresses a b allowed ms below time.1 0).2.refusing tt
+        single_next number tells hosts a b ours (Crossed (crossing.Answer kind f)) ms addresses run time below time.1 on Call calls_are refl ends_are
+        (history_at number tells hosts addresses a b ours allowed (Crossed (crossing.Answer kind f)) ms (Call ∷ []) run time on calls_are)
+        (allowed_at number tells hosts addresses a b ours allowed (Crossed (crossing.Answer kind f)) ms (Call ∷ []) run time on calls_are)
+        (placed_in number tells hosts addresses a b ours allowed ms below time.1 0).2.refusing tt
         (told_are ∙ call_told a b (pair_with b (program a ms).peers) (program a ms).listening (Answered f.link.0) tt (kept_in ms).book.lives) c
 
-  pub keeps_answer : (kind : Answer) (f : Flow) (ms : List Moment) → mail.IsRun hosts (crossings_of (Crossed (crossing.Answer kind f) ∷ ms)) → IsTimeline hosts (Crossed (crossing.Answer kind f) ∷ ms)
+  pub keeps_answer : (kind : Answer) (f : Flow) (ms : List Moment)
+      → mail.IsRun hosts.all (crossings_of (Crossed (crossing.Answer kind f) ∷ ms))
+      → Happened hosts (Crossed (crossing.Answer kind f) ∷ ms)
       → keeps a b (event_in (Crossed (crossing.Answer kind f))) (events_of ms) ≡ true → (same_host a f.source && same_host b f.destination) ≡ true → Carries number a b ms → Carries number a b (Crossed (crossing.Answer kind f) ∷ ms)
   keeps_answer kind f ms run time on these c =
       let t : (same_host a f.source ≡ true) × (same_host b f.destination ≡ true) = both (same_host a f.source) (same_host b f.destination) these in

@@ -1,7 +1,5 @@
 -- The lives of a host with one peer are carried by its calls at a moment at which its user asks for something.
-use Rattle.world_keeps_streams.proofs.Common.{◌≡◌, ℕ, ◌==◌, ◌&&◌, not, Bool, true, false, if◌then◌else◌, List, [], ◌∷◌, map, filter, find, Option, Some, None, refl, ap, sym, subst, ◌∙◌, eqb-true, Host, same_host, same_host-refl, same_host-true, is_receive_socket, contact_notices, listens_on, is_mine_on, PairState, is_ready, Entry, Notice, both, AreAllowed, AsksBack, Closes, Gives, Grants, IsTelling, OpensReceiver, OpensSender, IsAsking, NcpState, owner_of, pair_with, grant_fault, on_open, Request, not_first, changed_when, life_ended, lives_asked, lives_at, lives_with, where_it, HaveAddresses, Asked, Moment, event_in, events_of, program, IsTimeline, crossings_of, coupled, same_host-sym, HasOpenEnd, mine_on, live, owner_found, keeps, send_odd, calls_by, owner_calls, own_calls, request_calls}
-use Rattle.reset_law.specs.Network.{all_ours}
-use Rattle.net_sim.proofs.lemmas.AllOurs.{happened}
+use Rattle.world_keeps_streams.proofs.Common.{◌≡◌, ℕ, ◌==◌, ◌&&◌, not, Bool, true, false, if◌then◌else◌, List, [], ◌∷◌, map, filter, find, Option, Some, None, refl, ap, sym, subst, ◌∙◌, eqb-true, Host, same_host, same_host-refl, same_host-true, is_receive_socket, contact_notices, listens_on, is_mine_on, PairState, is_ready, Entry, Notice, both, AreAllowed, AsksBack, Closes, Gives, Grants, IsTelling, OpensReceiver, OpensSender, IsAsking, NcpState, owner_of, pair_with, grant_fault, on_open, Request, not_first, changed_when, life_ended, lives_asked, lives_at, lives_with, where_it, HaveAddresses, Asked, Moment, event_in, events_of, program, crossings_of, coupled, same_host-sym, HasOpenEnd, mine_on, owner_found, keeps, send_odd, calls_by, owner_calls, own_calls, request_calls, Happened, Network, AreOurs}
 use Rattle.std.proofs.Common.{append-nil}
 use Rattle.interface.specs.Mailboxes as mail
 use Rattle.host_pairs.specs.declared.notice.Notice.TheVariants as notice
@@ -25,6 +23,7 @@ use Rattle.world_keeps_streams.proofs.Deeds.Ends.{Fits}
 use Rattle.world_keeps_streams.proofs.Carried.Calls.{Carries, among_contains}
 use Rattle.world_keeps_streams.proofs.Carried.Owned.{told_lives}
 use Rattle.world_keeps_streams.proofs.Moments.AskedNext.{IsOff, call_kept, others_kept, unchanged_kept}
+use Rattle.world_keeps_streams.proofs.Ours.{live}
 
 -- ---- what a call needs, of what may be said of it
 
@@ -53,9 +52,11 @@ unowned_refused s socket messages bits may f =
     let none : on_open (grant_fault messages bits) None ≡ None = subst (λ (o : Option (Host × Entry)). on_open (grant_fault messages bits) o ≡ None) f r in
     cc
 
-module _ (number : ℕ → ℕ → ℕ → ℕ) (tells : IsTelling number) (hosts : List Host) (addresses : HaveAddresses hosts) (a b : Host)
-    (allowed : (ms : List Moment) → mail.IsRun hosts (crossings_of ms) → IsTimeline hosts ms → (link : ℕ) → (link == 0) ≡ false → AreAllowed number b link (own_calls a b ms)) where
-  module _ (r : Request) (ms : List Moment) (run : mail.IsRun hosts (crossings_of (Asked a r ∷ ms))) (time : IsTimeline hosts (Asked a r ∷ ms)) (on : keeps a b (event_in (Asked a r)) (events_of ms) ≡ true) (c : Carries number a b ms) where
+module _ (number : ℕ → ℕ → ℕ → ℕ) (tells : IsTelling number) (hosts : Network) (addresses : HaveAddresses hosts.all) (a b : Host) (ours : AreOurs hosts a b)
+    (allowed : (ms : List Moment) → mail.IsRun hosts.all (crossings_of ms) → Happened hosts ms → (link : ℕ) → (link == 0) ≡ false → AreAllowed number b link (own_calls a b ms)) where
+  module _ (r : Request) (ms : List Moment) (run : mail.IsRun hosts.all (crossings_of (Asked a r ∷ ms)))
+      (time : Happened hosts (Asked a r ∷ ms)) (on : keeps a b (event_in (Asked a r)) (events_of ms) ≡ true)
+      (c : Carries number a b ms) where
     abbrev s : NcpState
     s = program a ms
 
@@ -74,9 +75,9 @@ module _ (number : ℕ → ℕ → ℕ → ℕ) (tells : IsTelling number) (host
     -- one call
     one : (k : Call) → IsAsking k → request_calls b s r ≡ called k q s.listening ∷ [] → (kept_in (Asked a r ∷ ms)).book.lives ≡ After a b (deed_of k q) (kept_in ms).book.lives → Kept
     one k asks is same =
-        call_kept number tells hosts addresses a b allowed (Asked a r) ms run time on (called k q s.listening) (here (called k q s.listening ∷ []) is) refl (fits_asked k q asks may.0) same c where
+        call_kept number tells hosts addresses a b ours allowed (Asked a r) ms run time on (called k q s.listening) (here (called k q s.listening ∷ []) is) refl (fits_asked k q asks may.0) same c where
           may : AllMay (called k q s.listening ∷ [])
-          may = subst (λ (cs : List calls.Moment). AllMay cs) (here (called k q s.listening ∷ []) is) (may_calls (all_ours hosts) addresses (Asked a r) ms run (happened hosts ((Asked a r) ∷ ms) time) a b (refl, refl))
+          may = subst (λ (cs : List calls.Moment). AllMay cs) (here (called k q s.listening ∷ []) is) (may_calls hosts addresses (Asked a r) ms run time a b ours)
 
     -- one that is no deed, where the lives stay as they were
     quiet : (k : Call) → IsAsking k → request_calls b s r ≡ called k q s.listening ∷ [] → deed_of k q ≡ deeds.Nothing → (kept_in (Asked a r ∷ ms)).book.lives ≡ (kept_in ms).book.lives → Kept
@@ -84,11 +85,11 @@ module _ (number : ℕ → ℕ → ℕ → ℕ) (tells : IsTelling number) (host
         one k asks is (same ∙ sym (ap (λ (d : Deed). After a b d (kept_in ms).book.lives) nothing ∙ append-nil (map (λ x. x) (kept_in ms).book.lives) ∙ map_same (kept_in ms).book.lives))
 
     none : request_calls b s r ≡ [] → (kept_in (Asked a r ∷ ms)).book.lives ≡ (kept_in ms).book.lives → Kept
-    none is same = unchanged_kept number tells hosts addresses a b allowed (Asked a r) ms run time on (here [] is) same c
+    none is same = unchanged_kept number tells hosts addresses a b ours allowed (Asked a r) ms run time on (here [] is) same c
 
     others : request_calls b s r ≡ [] → (test : Life → Bool) (change : Life → Life) → ((y : Life) → ((change y).host ≡ y.host) × ((change y).peer ≡ y.peer)) → IsOff a b test change (kept_in ms).book.lives
         → (kept_in (Asked a r ∷ ms)).book.lives ≡ where_it test change (kept_in ms).book.lives → Kept
-    others is test change kept off same = others_kept number tells hosts addresses a b allowed (Asked a r) ms run time on (here [] is) test change kept off same c
+    others is test change kept off same = others_kept number tells hosts addresses a b ours allowed (Asked a r) ms run time on (here [] is) test change kept off same c
 
     -- ---- of one peer, or of an own end, where the lives stay as they were
 
@@ -115,11 +116,11 @@ module _ (number : ℕ → ℕ → ℕ → ℕ) (tells : IsTelling number) (host
       by true t =
           let parts : ((same_host a y.host && y.socket == socket) ≡ true) × (not y.ended ≡ true) = both (same_host a y.host && y.socket == socket) (not y.ended) t in
           let socket_is : (y.socket == socket) ≡ true = (both (same_host a y.host) (y.socket == socket) parts.0).1 in
-          let h : HasOpenEnd (program y.host ms) y = live hosts ms addresses run time.1 y (among_contains (kept_in ms).book.lives y there) (goes y.ended parts.1) in
+          let h : HasOpenEnd (program y.host ms) y = live hosts ms addresses run time.1 y (subst (λ (p : Host). hosts.strange p ≡ false) (sym host) ours.0) (among_contains (kept_in ms).book.lives y there) (goes y.ended parts.1) in
           let away : same_host g y.peer ≡ false = ap (λ (p : Host). same_host g p) peer ∙ same_host-sym g b ∙ other in
           let empty : mine_on socket (pair_with g s.peers).entries ≡ [] =
           subst (λ (n : ℕ). mine_on n (pair_with g s.peers).entries ≡ []) (eqb-true y.socket socket socket_is) (subst (λ (p : Host). mine_on y.socket (pair_with g (program p ms).peers).entries ≡ []) host (h.others g away)) in
-          absurd (none_found (is_mine_on socket) (pair_with g s.peers).entries e (owner_found socket s.peers g e ((coupled hosts addresses ms run time.1).order a refl) f) empty) where
+          absurd (none_found (is_mine_on socket) (pair_with g s.peers).entries e (owner_found socket s.peers g e ((coupled hosts addresses ms run time.1).order a ours.0) f) empty) where
             goes : (v : Bool) → not v ≡ true → v ≡ false
             goes true t = absurd (cc)
             goes false t = refl
@@ -134,7 +135,7 @@ module _ (number : ℕ → ℕ → ℕ → ℕ) (tells : IsTelling number) (host
     grant_kept socket messages bits same g e f true t is =
         one (Grants socket messages bits e) tt is (same ∙ grant_same socket messages bits e own) where
           found : find (is_mine_on socket) (pair_with g s.peers).entries ≡ Some e
-          found = owner_found socket s.peers g e ((coupled hosts addresses ms run time.1).order a refl) f
+          found = owner_found socket s.peers g e ((coupled hosts addresses ms run time.1).order a ours.0) f
 
           own : e.own ≡ socket
           own = eqb-true e.own socket (both e.mine (e.own == socket) (found_among (is_mine_on socket) (pair_with g s.peers).entries e found).1).1
@@ -156,14 +157,18 @@ module _ (number : ℕ → ℕ → ℕ → ℕ) (tells : IsTelling number) (host
 
   -- ---- all that its user asks for
 
-  grants_kept : (ms : List Moment) (socket messages bits : ℕ) (run : mail.IsRun hosts (crossings_of (Asked a (request.Grant socket messages bits) ∷ ms))) (time : IsTimeline hosts (Asked a (request.Grant socket messages bits) ∷ ms)) → keeps a b (event_in (Asked a (request.Grant socket messages bits))) (events_of ms) ≡ true → Carries number a b ms
+  grants_kept : (ms : List Moment) (socket messages bits : ℕ) (run : mail.IsRun hosts.all (crossings_of (Asked a (request.Grant socket messages bits) ∷ ms))) (time : Happened hosts (Asked a (request.Grant socket messages bits) ∷ ms))
+      → keeps a b (event_in (Asked a (request.Grant socket messages bits))) (events_of ms) ≡ true
+      → Carries number a b ms
       → (kept_in (Asked a (request.Grant socket messages bits) ∷ ms)).book.lives ≡ where_it (lives_at a socket) (book.granted messages bits) (kept_in ms).book.lives
       → (o : Option (Host × Entry)) → owner_of socket (program a ms).peers ≡ o → Carries number a b (Asked a (request.Grant socket messages bits) ∷ ms)
-  grants_kept ms socket messages bits run time on c same None f = absurd (unowned_refused (program a ms) socket messages bits time.0.2 f)
+  grants_kept ms socket messages bits run time on c same None f = absurd (unowned_refused (program a ms) socket messages bits (time.0 ours.0).2 f)
   grants_kept ms socket messages bits run time on c same (Some (g, e)) f =
       grant_kept (request.Grant socket messages bits) ms run time on c socket messages bits same g e f (same_host b g) refl (rw f refl)
 
-  keeps_asked : (r : Request) (ms : List Moment) → mail.IsRun hosts (crossings_of (Asked a r ∷ ms)) → IsTimeline hosts (Asked a r ∷ ms) → keeps a b (event_in (Asked a r)) (events_of ms) ≡ true → Carries number a b ms → Carries number a b (Asked a r ∷ ms)
+  keeps_asked : (r : Request) (ms : List Moment) → mail.IsRun hosts.all (crossings_of (Asked a r ∷ ms))
+      → Happened hosts (Asked a r ∷ ms) → keeps a b (event_in (Asked a r)) (events_of ms) ≡ true → Carries number a b ms
+      → Carries number a b (Asked a r ∷ ms)
   unfolding served_notices
   keeps_asked (request.Contact g) ms run time on c =
       contact_kept (request.Contact g) ms run time on c g (no_contact a b a (request.Contact g) (events_of ms) on (same_host-refl a) g refl) (is_ready (pair_with g (program a ms).peers).phase) refl
@@ -181,9 +186,12 @@ module _ (number : ℕ → ℕ → ℕ → ℕ) (tells : IsTelling number) (host
   keeps_asked r ms run time on c = none r ms run time on c refl refl
 
   -- the same of a host that is the same
-  pub keeps_asked_by : (h : Host) (r : Request) (ms : List Moment) → same_host a h ≡ true → mail.IsRun hosts (crossings_of (Asked h r ∷ ms)) → IsTimeline hosts (Asked h r ∷ ms) → keeps a b (event_in (Asked h r)) (events_of ms) ≡ true → Carries number a b ms → Carries number a b (Asked h r ∷ ms)
+  pub keeps_asked_by : (h : Host) (r : Request) (ms : List Moment) → same_host a h ≡ true
+      → mail.IsRun hosts.all (crossings_of (Asked h r ∷ ms)) → Happened hosts (Asked h r ∷ ms)
+      → keeps a b (event_in (Asked h r)) (events_of ms) ≡ true → Carries number a b ms
+      → Carries number a b (Asked h r ∷ ms)
   keeps_asked_by h r ms is run time on c =
       let same : a ≡ h = same_host-true a h is in
-      let all : IsTimeline hosts (Asked h r ∷ ms) → keeps a b (event_in (Asked h r)) (events_of ms) ≡ true → Carries number a b (Asked h r ∷ ms) =
-      subst (λ (g : Host). IsTimeline hosts (Asked g r ∷ ms) → keeps a b (event_in (Asked g r)) (events_of ms) ≡ true → Carries number a b (Asked g r ∷ ms)) same (λ t k. keeps_asked r ms run t k c) in
+      let all : Happened hosts (Asked h r ∷ ms) → keeps a b (event_in (Asked h r)) (events_of ms) ≡ true → Carries number a b (Asked h r ∷ ms) =
+      subst (λ (g : Host). Happened hosts (Asked g r ∷ ms) → keeps a b (event_in (Asked g r)) (events_of ms) ≡ true → Carries number a b (Asked g r ∷ ms)) same (λ t k. keeps_asked r ms run t k c) in
       all time on

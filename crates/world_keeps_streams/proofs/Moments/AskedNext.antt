@@ -1,7 +1,5 @@
 -- A moment at which a host that keeps its ends with its peer makes one call with it, or none: what the law and the program have of the calls is had from all moments.
-use Rattle.world_keeps_streams.proofs.Common.{◌≡◌, inl, inr, ℕ, zero, suc, ◌==◌, Bool, true, false, List, [], ◌∷◌, ◌++◌, drop, refl, ap, sym, subst, ◌∙◌, Host, Entry, AreAllowed, IsHistory, IsTelling, ends_now, pair_with, changed_when, where_it, HaveAddresses, Moment, event_in, events_of, program, IsTimeline, crossings_of, AreRefusing, held, keeps, mail_below, calls_by, own_calls}
-use Rattle.reset_law.specs.Network.{all_ours}
-use Rattle.net_sim.proofs.lemmas.AllOurs.{happened}
+use Rattle.world_keeps_streams.proofs.Common.{◌≡◌, inl, inr, ℕ, zero, suc, ◌==◌, Bool, true, false, List, [], ◌∷◌, ◌++◌, drop, refl, ap, sym, subst, ◌∙◌, Host, Entry, AreAllowed, IsHistory, IsTelling, ends_now, pair_with, changed_when, where_it, HaveAddresses, Moment, event_in, events_of, program, crossings_of, AreRefusing, keeps, mail_below, calls_by, own_calls, Happened, Network, AreOurs}
 use Rattle.interface.specs.Mailboxes as mail
 use Rattle.host_keeps_streams.specs.Histories as calls
 use Rattle.promise.specs.declared.life.Life.{Life}
@@ -15,6 +13,7 @@ use Rattle.world_keeps_streams.proofs.Carried.Heard.{AllAllowed}
 use Rattle.world_keeps_streams.proofs.Carried.Moments.{single_next}
 use Rattle.world_keeps_streams.proofs.Carried.Still.{AreIn, still_next}
 use Rattle.world_keeps_streams.proofs.Calls.Chain.{chain}
+use Rattle.world_keeps_streams.proofs.Ours.{held}
 
 -- ---- a change of lives that are of others
 
@@ -50,29 +49,30 @@ module _ (a b : Host) (test : Life → Bool) (change : Life → Life) where
 
 -- ---- one call, or none
 
-module _ (number : ℕ → ℕ → ℕ → ℕ) (tells : IsTelling number) (hosts : List Host) (addresses : HaveAddresses hosts) (a b : Host)
-    (allowed : (ms : List Moment) → mail.IsRun hosts (crossings_of ms) → IsTimeline hosts ms → (link : ℕ) → (link == 0) ≡ false → AreAllowed number b link (own_calls a b ms)) where
-  module _ (x : Moment) (ms : List Moment) (run : mail.IsRun hosts (crossings_of (x ∷ ms))) (time : IsTimeline hosts (x ∷ ms)) (on : keeps a b (event_in x) (events_of ms) ≡ true) where
-    below : mail.IsRun hosts (crossings_of ms)
-    below = mail_below hosts x ms run
+module _ (number : ℕ → ℕ → ℕ → ℕ) (tells : IsTelling number) (hosts : Network) (addresses : HaveAddresses hosts.all) (a b : Host) (ours : AreOurs hosts a b)
+    (allowed : (ms : List Moment) → mail.IsRun hosts.all (crossings_of ms) → Happened hosts ms → (link : ℕ) → (link == 0) ≡ false → AreAllowed number b link (own_calls a b ms)) where
+  module _ (x : Moment) (ms : List Moment) (run : mail.IsRun hosts.all (crossings_of (x ∷ ms)))
+      (time : Happened hosts (x ∷ ms)) (on : keeps a b (event_in x) (events_of ms) ≡ true) where
+    below : mail.IsRun hosts.all (crossings_of ms)
+    below = mail_below hosts.all x ms run
 
     own : (cs : List calls.Moment) → calls_by a b x ms ≡ cs → own_calls a b (x ∷ ms) ≡ cs ++ own_calls a b ms
     own cs is = rw on (ap (λ (ys : List calls.Moment). ys ++ own_calls a b ms) is)
 
     chained : (cs : List calls.Moment) → calls_by a b x ms ≡ cs → IsHistory b (cs ++ own_calls a b ms) × (ends_now b (cs ++ own_calls a b ms) ≡ (pair_with b (program a (x ∷ ms)).peers).entries)
-    chained cs is = subst (λ (ys : List calls.Moment). IsHistory b ys × (ends_now b ys ≡ (pair_with b (program a (x ∷ ms)).peers).entries)) (own cs is) (chain (all_ours hosts) addresses (x ∷ ms) run (happened hosts (x ∷ ms) time) a b (refl, refl))
+    chained cs is = subst (λ (ys : List calls.Moment). IsHistory b ys × (ends_now b ys ≡ (pair_with b (program a (x ∷ ms)).peers).entries)) (own cs is) (chain hosts addresses (x ∷ ms) run time a b ours)
 
     pub call_kept : (m : calls.Moment) → calls_by a b x ms ≡ m ∷ [] → m.pair.entries ≡ (pair_with b (program a ms).peers).entries → Fits m.call m.pair
         → (kept_in (x ∷ ms)).book.lives ≡ After a b (deed_of m.call m.pair) (kept_in ms).book.lives → Carries number a b ms → Carries number a b (x ∷ ms)
     call_kept m is pair fits told c =
-        single_next number tells hosts a b x ms addresses run time below time.1 on m is pair (chained (m ∷ []) is).1 (chained (m ∷ []) is).0 may
-        (subst (λ (es : List Entry). AreRefusing es) (sym pair) ((held a 0 hosts addresses ms below time.1).steady.refusing b)) fits told c where
+        single_next number tells hosts a b ours x ms addresses run time below time.1 on m is pair (chained (m ∷ []) is).1 (chained (m ∷ []) is).0 may
+        (subst (λ (es : List Entry). AreRefusing es) (sym pair) ((held a 0 hosts addresses ours.0 ms below time.1).steady.refusing b)) fits told c where
           may : AllAllowed number tells a b (m ∷ own_calls a b ms)
           may link other = subst (λ (ys : List calls.Moment). AreAllowed number b link ys) (own (m ∷ []) is) (allowed (x ∷ ms) run time link other)
 
     pub nothing_kept : calls_by a b x ms ≡ [] → AreIn a b (recent a b ms) (drop (since a b ms) (kept_in (x ∷ ms)).book.lives) → AreIn a b (drop (since a b ms) (kept_in (x ∷ ms)).book.lives) (recent a b ms)
         → Carries number a b ms → Carries number a b (x ∷ ms)
-    nothing_kept is forth back c = still_next number a b x ms on is (sym (chained [] is).1 ∙ (chain (all_ours hosts) addresses ms below (happened hosts ms time.1) a b (refl, refl)).1) forth back c
+    nothing_kept is forth back c = still_next number a b x ms on is (sym (chained [] is).1 ∙ (chain hosts addresses ms below time.1 a b ours).1) forth back c
 
     -- where the book's lives are as they were
     pub unchanged_kept : calls_by a b x ms ≡ [] → (kept_in (x ∷ ms)).book.lives ≡ (kept_in ms).book.lives → Carries number a b ms → Carries number a b (x ∷ ms)

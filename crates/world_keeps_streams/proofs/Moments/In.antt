@@ -1,7 +1,5 @@
 -- The lives of a host with one peer are carried by its calls at a moment at which a message of the peer comes in.
-use Rattle.world_keeps_streams.proofs.Common.{◌≡◌, ℕ, ◌==◌, ◌&&◌, not, Bool, true, false, List, [], ◌∷◌, ◌++◌, drop, refl, ap, sym, subst, ◌∙◌, Host, same_host, HostMessage, same_host-true, Legal, Order, Wrong, orders_of, data_taken, desk_of, PairState, TurnState, message_taken, orders_taken, reply_notices, with_desk, Entry, Notice, Phase, AreJoint, IsJoint, orders_idle, AreAllowed, Hears, IsHistory, IsTelling, Takes, In, Message, Other, are, turn_of, NcpState, pair_with, all_told, crossed, HaveAddresses, IsApart, message_on, Crossed, Moment, event_in, events_of, places, program, IsTimeline, crossings_of, coupled, program_own, held, keeps, AText, AnRrp, AnRst, Sort, mail_below, message_pair, plain_joint, sort_of, calls_by, message_calls, orders_heard, own_calls, both}
-use Rattle.reset_law.specs.Network.{all_ours}
-use Rattle.net_sim.proofs.lemmas.AllOurs.{happened}
+use Rattle.world_keeps_streams.proofs.Common.{◌≡◌, ℕ, ◌==◌, ◌&&◌, not, Bool, true, false, List, [], ◌∷◌, ◌++◌, drop, refl, ap, sym, subst, ◌∙◌, Host, same_host, HostMessage, same_host-true, Legal, Order, Wrong, orders_of, data_taken, desk_of, PairState, TurnState, message_taken, orders_taken, reply_notices, with_desk, Entry, Notice, Phase, AreJoint, IsJoint, orders_idle, AreAllowed, Hears, IsHistory, IsTelling, Takes, In, Message, Other, are, turn_of, NcpState, pair_with, all_told, crossed, HaveAddresses, IsApart, message_on, Crossed, Moment, event_in, events_of, places, program, crossings_of, coupled, program_own, keeps, AText, AnRrp, AnRst, Sort, mail_below, message_pair, plain_joint, sort_of, calls_by, message_calls, orders_heard, own_calls, both, Happened, Network, AreOurs}
 use Rattle.interface.specs.Mailboxes as mail
 use Rattle.interface.specs.declared.crossing.Crossing.TheVariants as crossing
 use Rattle.interface.specs.declared.crossing.Inbound.TheVariants as inbound
@@ -24,7 +22,8 @@ use Rattle.world_keeps_streams.proofs.Carried.Heard.{AllAllowed, AreOrdinary, Is
 use Rattle.world_keeps_streams.proofs.Carried.Moments.{kept_next, placed_first, single_next}
 use Rattle.world_keeps_streams.proofs.Carried.Owned.{since_within, told_lives}
 use Rattle.world_keeps_streams.proofs.Carried.Still.{still_next}
-use Rattle.world_keeps_streams.proofs.Calls.Chain.{chain}
+use Rattle.world_keeps_streams.proofs.Calls.Chain.{chain, plain_at}
+use Rattle.world_keeps_streams.proofs.Ours.{held}
 
 -- what a host notifies its user of about a message
 pub notices_there : (s : NcpState) (m : HostMessage) (stamp : ℕ) → same_host s.own m.flow.destination ≡ true
@@ -37,8 +36,8 @@ reply_lives : (a b : Host) (p : Phase) (ls : List Life) → all_lives a (reply_n
 reply_lives a b phase.Closed ls = refl
 reply_lives a b p ls = refl
 
-module _ (number : ℕ → ℕ → ℕ → ℕ) (tells : IsTelling number) (hosts : List Host) (addresses : HaveAddresses hosts) (a b : Host)
-    (allowed : (ms : List Moment) → mail.IsRun hosts (crossings_of ms) → IsTimeline hosts ms → (link : ℕ) → (link == 0) ≡ false → AreAllowed number b link (own_calls a b ms)) where
+module _ (number : ℕ → ℕ → ℕ → ℕ) (tells : IsTelling number) (hosts : Network) (addresses : HaveAddresses hosts.all) (a b : Host) (ours : AreOurs hosts a b)
+    (allowed : (ms : List Moment) → mail.IsRun hosts.all (crossings_of ms) → Happened hosts ms → (link : ℕ) → (link == 0) ≡ false → AreAllowed number b link (own_calls a b ms)) where
   one_ordinary : (o : Order) → IsJoint o → IsOrdinary number tells a b o
   one_ordinary (Wrong code octets) j = tt
   one_ordinary (Legal command.Rst) j = absurd (let no : true ≡ false = j in cc)
@@ -49,7 +48,7 @@ module _ (number : ℕ → ℕ → ℕ → ℕ) (tells : IsTelling number) (host
   all_ordinary [] j = tt
   all_ordinary (o ∷ os) j = (one_ordinary o j.0, all_ordinary os j.1)
 
-  module _ (m : HostMessage) (ms : List Moment) (run : mail.IsRun hosts (crossings_of (Crossed (crossing.In m) ∷ ms))) (time : IsTimeline hosts (Crossed (crossing.In m) ∷ ms)) (on : keeps a b (event_in (Crossed (crossing.In m))) (events_of ms) ≡ true)
+  module _ (m : HostMessage) (ms : List Moment) (run : mail.IsRun hosts.all (crossings_of (Crossed (crossing.In m) ∷ ms))) (time : Happened hosts (Crossed (crossing.In m) ∷ ms)) (on : keeps a b (event_in (Crossed (crossing.In m))) (events_of ms) ≡ true)
       (mine : same_host a m.flow.destination ≡ true) (theirs : same_host b m.flow.source ≡ true) (old : Carries number a b ms) where
     abbrev x : Moment
     x = Crossed (crossing.In m)
@@ -60,8 +59,8 @@ module _ (number : ℕ → ℕ → ℕ → ℕ) (tells : IsTelling number) (host
     abbrev new : TurnState
     new = message_taken b (places ms) m.flow.link.0 m.text (turn_of (program a ms) b)
 
-    before : mail.IsRun hosts (crossings_of ms)
-    before = mail_below hosts x ms run
+    before : mail.IsRun hosts.all (crossings_of ms)
+    before = mail_below hosts.all x ms run
 
     own_host : a ≡ m.flow.destination
     own_host = same_host-true a m.flow.destination mine
@@ -73,7 +72,7 @@ module _ (number : ℕ → ℕ → ℕ → ℕ) (tells : IsTelling number) (host
     own_is = ap (λ (g : Host). same_host g m.flow.destination) (program_own a ms) ∙ mine
 
     apart : IsApart m.flow.link.0 m.text (message_on m.flow.link.0 m.text)
-    apart = (coupled hosts addresses (Crossed (crossing.In m) ∷ ms) run time).story.0 (refl, refl)
+    apart = (coupled hosts addresses (Crossed (crossing.In m) ∷ ms) run time).story.0 (plain_at hosts b m.flow.source theirs ours.1, plain_at hosts a m.flow.destination mine ours.0)
 
     -- ---- the program and the book after it
 
@@ -103,7 +102,7 @@ module _ (number : ℕ → ℕ → ℕ → ℕ) (tells : IsTelling number) (host
       own_with = own_are ∙ ap (λ (k : List calls.Moment). k ++ own_calls a b ms) are
 
       history : IsHistory b (cs ++ own_calls a b ms)
-      history = subst (λ (k : List calls.Moment). IsHistory b k) own_with (chain (all_ours hosts) addresses (Crossed (crossing.In m) ∷ ms) run (happened hosts (Crossed (crossing.In m) ∷ ms) time) a b (refl, refl)).0
+      history = subst (λ (k : List calls.Moment). IsHistory b k) own_with (chain hosts addresses (Crossed (crossing.In m) ∷ ms) run time a b ours).0
 
       may : AllAllowed number tells a b (cs ++ own_calls a b ms)
       may link other = subst (λ (k : List calls.Moment). AreAllowed number b link k) own_with (allowed (Crossed (crossing.In m) ∷ ms) run time link other)
@@ -125,9 +124,9 @@ module _ (number : ℕ → ℕ → ℕ → ℕ) (tells : IsTelling number) (host
         → all_lives a new.notices (kept_in ms).book.lives ≡ After a b (deed_of c (pair_with b (program a ms).peers)) (kept_in ms).book.lives
         → Carries number a b (Crossed (crossing.In m) ∷ ms)
     single c is ends fits lives =
-        single_next number tells hosts a b (Crossed (crossing.In m)) ms addresses run time before time.1 on (called c (pair_with b (program a ms).peers) (program a ms).listening) (calls_are ∙ is) refl (ends ∙ sym (ap (λ (q : PairState). q.entries) pair_now))
+        single_next number tells hosts a b ours (Crossed (crossing.In m)) ms addresses run time before time.1 on (called c (pair_with b (program a ms).peers) (program a ms).listening) (calls_are ∙ is) refl (ends ∙ sym (ap (λ (q : PairState). q.entries) pair_now))
         (history (called c (pair_with b (program a ms).peers) (program a ms).listening ∷ []) (calls_are ∙ is)) (may (called c (pair_with b (program a ms).peers) (program a ms).listening ∷ []) (calls_are ∙ is))
-        ((held a 0 hosts addresses ms before time.1).steady.refusing b) (fits (may (called c (pair_with b (program a ms).peers) (program a ms).listening ∷ []) (calls_are ∙ is))) (lives_now ∙ lives) old
+        ((held a 0 hosts addresses ours.0 ms before time.1).steady.refusing b) (fits (may (called c (pair_with b (program a ms).peers) (program a ms).listening ∷ []) (calls_are ∙ is))) (lives_now ∙ lives) old
 
     -- ---- by kinds
 
@@ -145,12 +144,12 @@ module _ (number : ℕ → ℕ → ℕ → ℕ) (tells : IsTelling number) (host
 
     text_next : message_on m.flow.link.0 m.text ≡ Other m.text → (m.flow.link.0 == 0) ≡ true → phases.is_ready (pair_with b (program a ms).peers).phase ≡ true → Carries number a b (Crossed (crossing.In m) ∷ ms)
     text_next is z ready =
-        kept_next number tells hosts a b (Crossed (crossing.In m)) ms addresses run time before time.1 on
+        kept_next number tells hosts a b ours (Crossed (crossing.In m)) ms addresses run time before time.1 on
         (subst (λ (cs : List calls.Moment). CarryIn a b number cs (pair_with b (program a (Crossed (crossing.In m) ∷ ms)).peers).entries (drop (since a b ms) (kept_in (Crossed (crossing.In m) ∷ ms)).book.lives)) (sym upon)
         (subst (λ (es : List Entry). CarryIn a b number (orders_heard b (places ms) (orders_of m.text) t (own_calls a b ms)) es (drop (since a b ms) (kept_in (Crossed (crossing.In m) ∷ ms)).book.lives)) (sym (ap (λ (q : PairState). q.entries) pair_now ∙ ap (λ (u : TurnState). u.pair.entries) new_is))
         (subst (λ (ls : List Life). CarryIn a b number (orders_heard b (places ms) (orders_of m.text) t (own_calls a b ms)) (orders_taken b (places ms) (orders_of m.text) t).pair.entries (drop (since a b ms) ls)) (sym lives)
         (heard_all number tells a b (kept_in ms) (since a b ms) (places ms) (orders_of m.text) t (own_calls a b ms) (all_ordinary (orders_of m.text) (joint is z)) ready
-        (placed_first a b (program a ms) (kept_in ms) (λ k. held a k hosts addresses ms before time.1)) (since_within a b ms)
+        (placed_first a b (program a ms) (kept_in ms) (λ k. held a k hosts addresses ours.0 ms before time.1)) (since_within a b ms)
         (subst (λ (cs : List calls.Moment). IsHistory b cs) onto (history (orders_heard b (places ms) (orders_of m.text) t []) heard))
         (λ link other. subst (λ (cs : List calls.Moment). AreAllowed number b link cs) onto (may (orders_heard b (places ms) (orders_of m.text) t []) heard link other)) old)))) where
           new_is : new ≡ orders_taken b (places ms) (orders_of m.text) t
@@ -197,7 +196,10 @@ module _ (number : ℕ → ℕ → ℕ → ℕ) (tells : IsTelling number) (host
     here_next : Carries number a b (Crossed (crossing.In m) ∷ ms)
     here_next = by_sort (sort_of m.flow.link.0 m.text) (m.flow.link.0 == 0) (phases.is_ready (pair_with b (program a ms).peers).phase) refl refl
 
-  pub keeps_in : (m : HostMessage) (ms : List Moment) → mail.IsRun hosts (crossings_of (Crossed (crossing.In m) ∷ ms)) → IsTimeline hosts (Crossed (crossing.In m) ∷ ms) → keeps a b (event_in (Crossed (crossing.In m))) (events_of ms) ≡ true
+  pub keeps_in : (m : HostMessage) (ms : List Moment)
+      → mail.IsRun hosts.all (crossings_of (Crossed (crossing.In m) ∷ ms))
+      → Happened hosts (Crossed (crossing.In m) ∷ ms)
+      → keeps a b (event_in (Crossed (crossing.In m))) (events_of ms) ≡ true
       → (same_host a m.flow.destination && same_host b m.flow.source) ≡ true → Carries number a b ms → Carries number a b (Crossed (crossing.In m) ∷ ms)
   keeps_in m ms run time on here old =
       let two : (same_host a m.flow.destination ≡ true) × (same_host b m.flow.source ≡ true) = both (same_host a m.flow.destination) (same_host b m.flow.source) here in

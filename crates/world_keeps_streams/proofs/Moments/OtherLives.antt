@@ -1,5 +1,5 @@
 -- A moment at which a host does nothing with a peer leaves its lives with that peer as they were.
-use Rattle.world_keeps_streams.proofs.Common.{◌≡◌, ℕ, ◌*◌, ◌==◌, ◌&&◌, not, Bool, true, if◌then◌else◌, List, [], ◌∷◌, drop, filter, take, Option, Some, None, refl, ap, sym, subst, eqb-true, flat_map, Host, same_host, Flow, Answer, HostMessage, same_host-true, is_receive_socket, Command, MayGo, contact_notices, DeskState, desk_of, changed_at, ending, entry_at, is_busy, is_ending, is_mine_on, opening_notices, opening_by, PairState, Parcel, asked_at, cls_sent, command_gone, commands_gone, may_send_on, next_of, parcel_gone, is_ready, answered_turn, message_taken, Entry, Notice, Phase, both, what_goes, turn_of, after_turn, NcpState, owner_of, pair_with, AreInOrder, grant_fault, on_open, message_of, next_in, offered_by, Peer, Request, next_is, next_pair, Kept, lives_asked, lives_at, lives_on, where_it, HaveAddresses, Asked, Crossed, Moment, places, program, IsTimeline, crossings_of, host_in, kept_by, notices_by, coupled, AreRefusing, held, owner_found, same_turned}
+use Rattle.world_keeps_streams.proofs.Common.{◌≡◌, ℕ, ◌*◌, ◌==◌, ◌&&◌, not, Bool, true, if◌then◌else◌, List, [], ◌∷◌, drop, filter, take, Option, Some, None, refl, ap, sym, subst, eqb-true, flat_map, Host, same_host, Flow, Answer, HostMessage, same_host-true, is_receive_socket, Command, MayGo, contact_notices, DeskState, desk_of, changed_at, ending, entry_at, is_busy, is_ending, is_mine_on, opening_notices, opening_by, PairState, Parcel, asked_at, cls_sent, command_gone, commands_gone, may_send_on, next_of, parcel_gone, is_ready, answered_turn, message_taken, Entry, Notice, Phase, both, what_goes, turn_of, after_turn, NcpState, owner_of, pair_with, AreInOrder, grant_fault, on_open, message_of, next_in, offered_by, Peer, Request, next_is, next_pair, Kept, lives_asked, lives_at, lives_on, where_it, HaveAddresses, Asked, Crossed, Moment, places, program, crossings_of, host_in, kept_by, notices_by, coupled, AreRefusing, owner_found, same_turned, Happened, Network, AreOurs}
 use Rattle.std.proofs.Common.{false}
 use Rattle.interface.specs.Mailboxes as mail
 use Rattle.interface.specs.declared.crossing.Crossing.TheVariants as crossing
@@ -21,12 +21,14 @@ use Rattle.net_sim.specs.Told.{kept_in}
 use Rattle.world_keeps_lives.proofs.lemmas.{Holds}
 use Rattle.world_keeps_streams.proofs.Deeds.Effects.{Among, all_lives, found_among}
 use Rattle.world_keeps_streams.proofs.Deeds.Ends.{IsAt}
+use Rattle.world_keeps_streams.proofs.Calls.Chain.{plain_at}
 use Rattle.world_keeps_streams.proofs.Carried.Calls.{recent, since}
 use Rattle.world_keeps_streams.proofs.Carried.Owned.{told_lives}
 use Rattle.world_keeps_streams.proofs.Carried.Moments.{placed_first}
 use Rattle.world_keeps_streams.proofs.Carried.Still.{AreIn}
 use Rattle.world_keeps_streams.proofs.Moments.OtherAlike.{AreAlike, AreNamed, IsClear, alike_at_other, alike_back, alike_dropped, alike_forth, alike_same, alike_then, alike_where, away_alike, named_alike, named_append, on_other}
 use Rattle.world_keeps_streams.proofs.Moments.OtherTurns.{Placed, answer_alike, at_found, clear_end, message_alike}
+use Rattle.world_keeps_streams.proofs.Ours.{held}
 
 -- ---- moments at which a host does nothing with a peer
 
@@ -197,36 +199,38 @@ module _ (a b : Host) where
     by true f = subst (λ (g : Host). AreAlike a b old (all_lives g (ns g) (next g))) (same_host-true a h f) (here f)
     by false f = let off : same_host h a ≡ false = same_turned a h f in alike_then a b old (next h) (all_lives h (ns h) (next h)) (there off) (away_alike a b h off (ns h) (next h))
 
-  moment_alike : (hosts : List Host) → HaveAddresses hosts → (x : Moment) (ms : List Moment) → mail.IsRun hosts (crossings_of (x ∷ ms)) → IsTimeline hosts (x ∷ ms) → IsElsewhere a b x ms
+  moment_alike : (hosts : Network) → HaveAddresses hosts.all → hosts.strange a ≡ false → (x : Moment) (ms : List Moment)
+      → mail.IsRun hosts.all (crossings_of (x ∷ ms)) → Happened hosts (x ∷ ms) → IsElsewhere a b x ms
       → AreAlike a b (kept_in ms).book.lives (all_lives (host_in x) (notices_by x ms) (kept_by x (kept_in ms)).book.lives)
-  moment_alike hosts addresses (Crossed (crossing.Out m)) ms run time off =
+  moment_alike hosts addresses plain (Crossed (crossing.Out m)) ms run time off =
       acts m.flow.source (λ h. (offered (program h ms) (places ms)).1) (kept_in ms).book.lives (λ h. (kept_in ms).book.lives)
-      (λ e. offered_alike a b (program a ms) (kept_in ms) (λ k. held a k hosts addresses ms run.1 time.1) ((coupled hosts addresses ms run.1 time.1).order a refl) (places ms) m
-      (subst (λ (g : Host). next_out (program g ms) ≡ Some m) (sym (same_host-true a m.flow.source e)) time.0) (second_off (same_host a m.flow.source) (same_host b m.flow.destination) off e))
+      (λ e. offered_alike a b (program a ms) (kept_in ms) (λ k. held a k hosts addresses plain ms run.1 time.1) ((coupled hosts addresses ms run.1 time.1).order a plain) (places ms) m
+      (subst (λ (g : Host). next_out (program g ms) ≡ Some m) (sym (same_host-true a m.flow.source e)) (time.0 (plain_at hosts a m.flow.source e plain))) (second_off (same_host a m.flow.source) (same_host b m.flow.destination) off e))
       (λ f. alike_same a b (kept_in ms).book.lives)
-  moment_alike hosts addresses (Crossed (crossing.In m)) ms run time off =
+  moment_alike hosts addresses plain (Crossed (crossing.In m)) ms run time off =
       acts m.flow.destination (λ h. (accepted (program h ms) (inbound.Message m) (places ms)).1) (kept_in ms).book.lives (λ h. (kept_in ms).book.lives)
-      (λ e. message_here a b (program a ms) (kept_in ms) (λ k. held a k hosts addresses ms run.1 time.1) ((coupled hosts addresses ms run.1 time.1).order a refl) m (places ms)
+      (λ e. message_here a b (program a ms) (kept_in ms) (λ k. held a k hosts addresses plain ms run.1 time.1) ((coupled hosts addresses ms run.1 time.1).order a plain) m (places ms)
       (second_off (same_host a m.flow.destination) (same_host b m.flow.source) off e))
       (λ f. alike_same a b (kept_in ms).book.lives)
-  moment_alike hosts addresses (Crossed (crossing.Answer kind f)) ms run time off =
+  moment_alike hosts addresses plain (Crossed (crossing.Answer kind f)) ms run time off =
       acts f.source (λ h. (accepted (program h ms) (inbound.Answer kind f) (places ms)).1) (kept_in ms).book.lives (λ h. (kept_in ms).book.lives)
-      (λ e. answer_here a b (program a ms) (kept_in ms) (λ k. held a k hosts addresses ms run.1 time.1) ((coupled hosts addresses ms run.1 time.1).order a refl) kind f (places ms)
+      (λ e. answer_here a b (program a ms) (kept_in ms) (λ k. held a k hosts addresses plain ms run.1 time.1) ((coupled hosts addresses ms run.1 time.1).order a plain) kind f (places ms)
       (second_off (same_host a f.source) (same_host b f.destination) off e))
       (λ g. alike_same a b (kept_in ms).book.lives)
-  moment_alike hosts addresses (Crossed (crossing.Down h)) ms run time off =
+  moment_alike hosts addresses plain (Crossed (crossing.Down h)) ms run time off =
       alike_where a b (lives_on h) book.life_ended (kept_in ms).book.lives (λ x. refl) (λ x. refl) (λ x there host peer is. on_other a b h (same_turned a h off) x host is)
-  moment_alike hosts addresses (Crossed (crossing.Up h)) ms run time off = alike_same a b (kept_in ms).book.lives
-  moment_alike hosts addresses (Asked h r) ms run time off =
+  moment_alike hosts addresses plain (Crossed (crossing.Up h)) ms run time off = alike_same a b (kept_in ms).book.lives
+  moment_alike hosts addresses plain (Asked h r) ms run time off =
       acts h (λ g. served_notices (program g ms) r) (kept_in ms).book.lives (λ g. lives_asked g r (kept_in ms).book.lives)
-      (λ e. asked_alike a b (program a ms) (kept_in ms) (λ k. held a k hosts addresses ms run time.1) ((coupled hosts addresses ms run time.1).order a refl) r
-      (subst (λ (g : Host). refusal (program g ms) r ≡ None) (sym (same_host-true a h e)) time.0.2) (off e))
+      (λ e. asked_alike a b (program a ms) (kept_in ms) (λ k. held a k hosts addresses plain ms run time.1) ((coupled hosts addresses ms run time.1).order a plain) r
+      (subst (λ (g : Host). refusal (program g ms) r ≡ None) (sym (same_host-true a h e)) (time.0 (plain_at hosts a h e plain)).2) (off e))
       (λ f. asked_away h f r (kept_in ms).book.lives)
 
-module _ (hosts : List Host) (addresses : HaveAddresses hosts) (a b : Host) (x : Moment) (ms : List Moment) (run : mail.IsRun hosts (crossings_of (x ∷ ms))) (time : IsTimeline hosts (x ∷ ms)) where
+module _ (hosts : Network) (addresses : HaveAddresses hosts.all) (a b : Host) (ours : AreOurs hosts a b) (x : Moment)
+    (ms : List Moment) (run : mail.IsRun hosts.all (crossings_of (x ∷ ms))) (time : Happened hosts (x ∷ ms)) where
   other_alike : IsElsewhere a b x ms → AreAlike a b (kept_in ms).book.lives (kept_in (x ∷ ms)).book.lives
   other_alike off =
-      subst (λ (ls : List Life). AreAlike a b (kept_in ms).book.lives ls) (sym (told_lives (host_in x) (notices_by x ms) (kept_by x (kept_in ms)))) (moment_alike a b hosts addresses x ms run time off)
+      subst (λ (ls : List Life). AreAlike a b (kept_in ms).book.lives ls) (sym (told_lives (host_in x) (notices_by x ms) (kept_by x (kept_in ms)))) (moment_alike a b hosts addresses ours.0 x ms run time off)
 
   recent_alike : IsElsewhere a b x ms → AreAlike a b (recent a b ms) (drop (since a b ms) (kept_in (x ∷ ms)).book.lives)
   recent_alike off = alike_dropped a b (since a b ms) (kept_in ms).book.lives (kept_in (x ∷ ms)).book.lives (other_alike off)

@@ -1,7 +1,5 @@
 -- The lives of a host with one peer are carried by its calls at a moment at which a message goes out to the peer.
-use Rattle.world_keeps_streams.proofs.Common.{◌≡◌, ℕ, ◌==◌, true, false, ◌&&◌, List, [], ◌∷◌, ◌++◌, take, drop, Some, refl, ap, sym, subst, ◌∙◌, Host, same_host, HostMessage, same_host-true, Command, DeskState, desk_of, PairState, Parcel, next_of, parcel_gone, with_connections, Entry, Listener, Notice, pair_range, AreAllowed, IsHistory, IsTelling, Says, Sends, turn_of, NcpState, pair_with, next_in, Peer, next_is, next_pair, all_told, crossed, HaveAddresses, Crossed, IsNext, IsStory, Moment, event_in, events_of, places, program, IsTimeline, crossings_of, coupled, GoodTurn, Place, has_ends, held, origin_in, keeps, mail_below, offered_pair, programs_ranged, served_in, calls_by, commands_said, own_calls, parcel_calls, both}
-use Rattle.net_sim.proofs.lemmas.AllOurs.{happened}
-use Rattle.reset_law.specs.Network.{all_ours}
+use Rattle.world_keeps_streams.proofs.Common.{◌≡◌, ℕ, ◌==◌, true, false, ◌&&◌, List, [], ◌∷◌, ◌++◌, take, drop, Some, refl, ap, sym, subst, ◌∙◌, Host, same_host, HostMessage, same_host-true, Command, DeskState, desk_of, PairState, Parcel, next_of, parcel_gone, with_connections, Entry, Listener, Notice, pair_range, AreAllowed, IsHistory, IsTelling, Says, Sends, turn_of, NcpState, pair_with, next_in, Peer, next_is, next_pair, all_told, crossed, HaveAddresses, Crossed, IsNext, IsStory, Moment, event_in, events_of, places, program, crossings_of, coupled, GoodTurn, Place, origin_in, keeps, mail_below, offered_pair, programs_ranged, served_in, calls_by, commands_said, own_calls, parcel_calls, both, Happened, Network, AreOurs}
 use Rattle.interface.specs.Mailboxes as mail
 use Rattle.interface.specs.declared.crossing.Crossing.TheVariants as crossing
 use Rattle.host_pairs.specs.Parcels as parcel
@@ -12,7 +10,7 @@ use Rattle.net_sim.specs.Told.{kept_in}
 use Rattle.world_keeps_lives.proofs.lemmas.{waits}
 use Rattle.world_keeps_pairing.proofs.lemmas.{some_commands}
 use Rattle.world_keeps_streams.specs.Calls.{called}
-use Rattle.world_keeps_streams.proofs.Calls.Chain.{chain}
+use Rattle.world_keeps_streams.proofs.Calls.Chain.{chain, plain_at}
 use Rattle.world_keeps_streams.proofs.Deeds.Effects.{Among, all_lives}
 use Rattle.world_keeps_streams.proofs.Deeds.Told.{call_told}
 use Rattle.world_keeps_streams.proofs.Carried.Calls.{Carries, CarryIn, since}
@@ -21,6 +19,7 @@ use Rattle.world_keeps_streams.proofs.Carried.Heard.{AllAllowed}
 use Rattle.world_keeps_streams.proofs.Carried.Moments.{kept_next, placed_first, single_next}
 use Rattle.world_keeps_streams.proofs.Carried.Said.{PlacedAt, said_all}
 use Rattle.world_keeps_streams.proofs.Carried.Still.{still_next}
+use Rattle.world_keeps_streams.proofs.Ours.{has_ends, held}
 
 -- what is said comes upon what was before
 said_onto : (b : Host) (stamp : ℕ) (cs : List Command) (q : PairState) (listening : List Listener) (older base : List calls.Moment) → commands_said b stamp cs q listening older ++ base ≡ commands_said b stamp cs q listening (older ++ base)
@@ -33,36 +32,42 @@ offered_told : (s : NcpState) (stamp : ℕ) (g : Peer) (x : Parcel) → next_in 
 unfolding offered
 offered_told s stamp g x n = rw n refl
 
-module _ (number : ℕ → ℕ → ℕ → ℕ) (tells : IsTelling number) (hosts : List Host) (addresses : HaveAddresses hosts) (a b : Host)
-    (allowed : (ms : List Moment) → mail.IsRun hosts (crossings_of ms) → IsTimeline hosts ms → (link : ℕ) → (link == 0) ≡ false → AreAllowed number b link (own_calls a b ms)) where
+module _ (number : ℕ → ℕ → ℕ → ℕ) (tells : IsTelling number) (hosts : Network) (addresses : HaveAddresses hosts.all) (a b : Host) (ours : AreOurs hosts a b)
+    (allowed : (ms : List Moment) → mail.IsRun hosts.all (crossings_of ms) → Happened hosts ms → (link : ℕ) → (link == 0) ≡ false → AreAllowed number b link (own_calls a b ms)) where
   -- the calls of a moment at which the host keeps its ends, upon those before it
-  pub history_at : (x : Moment) (ms : List Moment) (cs : List calls.Moment) → mail.IsRun hosts (crossings_of (x ∷ ms)) → IsTimeline hosts (x ∷ ms) → keeps a b (event_in x) (events_of ms) ≡ true → calls_by a b x ms ≡ cs → IsHistory b (cs ++ own_calls a b ms)
+  pub history_at : (x : Moment) (ms : List Moment) (cs : List calls.Moment)
+      → mail.IsRun hosts.all (crossings_of (x ∷ ms)) → Happened hosts (x ∷ ms)
+      → keeps a b (event_in x) (events_of ms) ≡ true → calls_by a b x ms ≡ cs → IsHistory b (cs ++ own_calls a b ms)
   history_at x ms cs run time on is =
-      let h : IsHistory b (own_calls a b (x ∷ ms)) = (chain (all_ours hosts) addresses (x ∷ ms) run (happened hosts (x ∷ ms) time) a b (refl, refl)).0 in
+      let h : IsHistory b (own_calls a b (x ∷ ms)) = (chain hosts addresses (x ∷ ms) run time a b ours).0 in
       subst (λ (ks : List calls.Moment). IsHistory b (ks ++ own_calls a b ms)) is (rw on at h)
 
-  pub allowed_at : (x : Moment) (ms : List Moment) (cs : List calls.Moment) → mail.IsRun hosts (crossings_of (x ∷ ms)) → IsTimeline hosts (x ∷ ms) → keeps a b (event_in x) (events_of ms) ≡ true → calls_by a b x ms ≡ cs → AllAllowed number tells a b (cs ++ own_calls a b ms)
+  pub allowed_at : (x : Moment) (ms : List Moment) (cs : List calls.Moment)
+      → mail.IsRun hosts.all (crossings_of (x ∷ ms)) → Happened hosts (x ∷ ms)
+      → keeps a b (event_in x) (events_of ms) ≡ true → calls_by a b x ms ≡ cs
+      → AllAllowed number tells a b (cs ++ own_calls a b ms)
   allowed_at x ms cs run time on is link other =
       let h : AreAllowed number b link (own_calls a b (x ∷ ms)) = allowed (x ∷ ms) run time link other in
       subst (λ (ks : List calls.Moment). AreAllowed number b link (ks ++ own_calls a b ms)) is (rw on at h)
 
   -- each socket of the host has its place
-  pub placed_in : (ms : List Moment) → mail.IsRun hosts (crossings_of ms) → IsTimeline hosts ms → (k : ℕ) → (m : Place) × IsAway b m × GoodTurn a k m b (kept_in ms) (turn_of (program a ms) b)
-  placed_in ms run time k = placed_first a b (program a ms) (kept_in ms) (λ l. held a l hosts addresses ms run time) k
+  pub placed_in : (ms : List Moment) → mail.IsRun hosts.all (crossings_of ms) → Happened hosts ms → (k : ℕ)
+      → (m : Place) × IsAway b m × GoodTurn a k m b (kept_in ms) (turn_of (program a ms) b)
+  placed_in ms run time k = placed_first a b (program a ms) (kept_in ms) (λ l. held a l hosts addresses ours.0 ms run time) k
 
-  module _ (m : HostMessage) (ms : List Moment) (run : mail.IsRun hosts (crossings_of (Crossed (crossing.Out m) ∷ ms))) (time : IsTimeline hosts (Crossed (crossing.Out m) ∷ ms))
+  module _ (m : HostMessage) (ms : List Moment) (run : mail.IsRun hosts.all (crossings_of (Crossed (crossing.Out m) ∷ ms))) (time : Happened hosts (Crossed (crossing.Out m) ∷ ms))
       (on : keeps a b (event_in (Crossed (crossing.Out m))) (events_of ms) ≡ true) (mine : same_host a m.flow.source ≡ true) (theirs : same_host b m.flow.destination ≡ true) where
-    story : IsStory (all_ours hosts) (Crossed (crossing.Out m) ∷ ms)
+    story : IsStory hosts (Crossed (crossing.Out m) ∷ ms)
     story = (coupled hosts addresses (Crossed (crossing.Out m) ∷ ms) run time).story
 
-    below : mail.IsRun hosts (crossings_of ms)
-    below = mail_below hosts (Crossed (crossing.Out m)) ms run
+    below : mail.IsRun hosts.all (crossings_of ms)
+    below = mail_below hosts.all (Crossed (crossing.Out m)) ms run
 
     own_host : a ≡ m.flow.source
     own_host = same_host-true a m.flow.source mine
 
     n : IsNext (program a ms) m
-    n = subst (λ (g : Host). IsNext (program g ms) m) (sym own_host) (story.0 refl)
+    n = subst (λ (g : Host). IsNext (program g ms) m) (sym own_host) (story.0 (plain_at hosts a m.flow.source mine ours.0))
 
     to_peer : same_host b n.peer.host ≡ true
     to_peer = ap (λ (k : HostMessage). same_host b k.flow.destination) (sym n.message) ∙ theirs
@@ -114,14 +119,14 @@ module _ (number : ℕ → ℕ → ℕ → ℕ) (tells : IsTelling number) (host
         → (pair_with b (program a (Crossed (crossing.Out m) ∷ ms)).peers).entries ≡ (Gone (parcel.Commands count)).entries
         → (kept_in (Crossed (crossing.Out m) ∷ ms)).book.lives ≡ all_lives a (Gone (parcel.Commands count)).notices (kept_in ms).book.lives → Carries number a b ms → Carries number a b (Crossed (crossing.Out m) ∷ ms)
     commands_next count is ends told c =
-        kept_next number tells hosts a b (Crossed (crossing.Out m)) ms addresses run time below time.1 on
+        kept_next number tells hosts a b ours (Crossed (crossing.Out m)) ms addresses run time below time.1 on
         (subst (λ (ks : List calls.Moment). CarryIn a b number ks (pair_with b (program a (Crossed (crossing.Out m) ∷ ms)).peers).entries (drop (since a b ms) (kept_in (Crossed (crossing.Out m) ∷ ms)).book.lives)) (sym all)
         (subst (λ (es : List Entry). CarryIn a b number (Said count) es (drop (since a b ms) (kept_in (Crossed (crossing.Out m) ∷ ms)).book.lives)) (sym ends)
         (subst (λ (ls : List Life). CarryIn a b number (Said count) (Gone (parcel.Commands count)).entries ls) (sym (ap (λ (ls : List Life). drop (since a b ms) ls) (told ∙ sym (told_lives a (Gone (parcel.Commands count)).notices (kept_in ms)))))
         (said_all number tells a b (kept_in ms) (since a b ms) (origin_in (crossings_of ms) a b) (places ms) (take count (pair_with b (program a ms).peers).queue) (drop count (pair_with b (program a ms).peers).queue)
         (pair_with b (program a ms).peers) (program a ms).listening [] (own_calls a b ms)
-        (some_commands count (pair_with b (program a ms).peers).queue (pair_range b (program a ms).peers (programs_ranged (all_ours hosts) ms (served_in hosts ms time.1) a refl).pairs).commands)
-        (waits (origin_in (crossings_of ms) a b) (pair_with b (program a ms).peers) count (has_ends hosts ms addresses below time.1 a b)) placed (since_within a b ms) history may c)))) where
+        (some_commands count (pair_with b (program a ms).peers).queue (pair_range b (program a ms).peers (programs_ranged hosts ms (served_in hosts ms time.1) a ours.0).pairs).commands)
+        (waits (origin_in (crossings_of ms) a b) (pair_with b (program a ms).peers) count (has_ends hosts ms addresses below time.1 a b ours)) placed (since_within a b ms) history may c)))) where
           all : calls_by a b (Crossed (crossing.Out m)) ms ++ own_calls a b ms ≡ Said count
           all =
               ap (λ (ks : List calls.Moment). ks ++ own_calls a b ms) is
@@ -147,7 +152,7 @@ module _ (number : ℕ → ℕ → ℕ → ℕ) (tells : IsTelling number) (host
         → (pair_with b (program a (Crossed (crossing.Out m) ∷ ms)).peers).entries ≡ (Gone (parcel.Bytes e size count)).entries
         → (kept_in (Crossed (crossing.Out m) ∷ ms)).book.lives ≡ all_lives a (Gone (parcel.Bytes e size count)).notices (kept_in ms).book.lives → Carries number a b ms → Carries number a b (Crossed (crossing.Out m) ∷ ms)
     bytes_next e size count next is ends told c =
-        single_next number tells hosts a b (Crossed (crossing.Out m)) ms addresses run time below time.1 on (Call e size count) is refl (sym ends)
+        single_next number tells hosts a b ours (Crossed (crossing.Out m)) ms addresses run time below time.1 on (Call e size count) is refl (sym ends)
         (history_at (Crossed (crossing.Out m)) ms (Call e size count ∷ []) run time on is) (allowed_at (Crossed (crossing.Out m)) ms (Call e size count ∷ []) run time on is) (placed_in ms below time.1 0).2.refusing next
         (told ∙ call_told a b (pair_with b (program a ms).peers) (program a ms).listening (Sends (places ms) e size count) tt (kept_in ms).book.lives) c
 
@@ -162,7 +167,9 @@ module _ (number : ℕ → ℕ → ℕ → ℕ) (tells : IsTelling number) (host
     out_next : Carries number a b ms → Carries number a b (Crossed (crossing.Out m) ∷ ms)
     out_next c = parcel_next n.parcel goes_next calls_are ends_are told_are c
 
-  pub keeps_out : (m : HostMessage) (ms : List Moment) → mail.IsRun hosts (crossings_of (Crossed (crossing.Out m) ∷ ms)) → IsTimeline hosts (Crossed (crossing.Out m) ∷ ms)
+  pub keeps_out : (m : HostMessage) (ms : List Moment)
+      → mail.IsRun hosts.all (crossings_of (Crossed (crossing.Out m) ∷ ms))
+      → Happened hosts (Crossed (crossing.Out m) ∷ ms)
       → keeps a b (event_in (Crossed (crossing.Out m))) (events_of ms) ≡ true → (same_host a m.flow.source && same_host b m.flow.destination) ≡ true → Carries number a b ms → Carries number a b (Crossed (crossing.Out m) ∷ ms)
   keeps_out m ms run time on these c =
       let t : (same_host a m.flow.source ≡ true) × (same_host b m.flow.destination ≡ true) = both (same_host a m.flow.source) (same_host b m.flow.destination) these in

@@ -9,7 +9,7 @@ use Rattle.reset_law.specs.Stays as stay
 use Rattle.world_keeps_pairing.proofs.lemmas.{IsPair, before}
 use Rattle.world_keeps_streams.proofs.Deeds.Effects.{Among, found_among}
 use Rattle.world_keeps_streams.proofs.Lives.Left.{entry_end}
-use Rattle.world_keeps_streams.proofs.Requests.Sides.{Heard, LawfulAmong, coupled_among, law_joined}
+use Rattle.world_keeps_streams.proofs.Requests.Sides.{Heard, Lawful, coupled_in, law_joined}
 use Rattle.world_keeps_streams.proofs.Heard.Calls.{closes_in}
 use Rattle.world_keeps_streams.proofs.Heard.Run.{heard_closes}
 
@@ -73,7 +73,7 @@ now_at said heard kept x g pc b same taken counts =
 abbrev pub Counts : Host → Host → List Moment → Type 0
 Counts h p ms = (foreign own : ℕ) → closes_in foreign own (own_calls h p ms) ≡ heard_from (gone_now p (own_calls h p ms)) (pair_with p (program h ms).peers).entries foreign own
 
-module _ (hosts : Network) (ms : List Moment) (l : LawfulAmong hosts ms) (s : Sockets) (q : IsPair s) (who : Who) (h p : Host) (ours : AreOurs hosts h p) (counts : Counts h p ms) (stays : stay.stays h p (events_of ms) ≡ true)
+module _ (hosts : Network) (ms : List Moment) (l : Lawful hosts ms) (s : Sockets) (q : IsPair s) (who : Who) (h p : Host) (ours : AreOurs hosts h p) (counts : Counts h p ms) (stays : stay.stays h p (events_of ms) ≡ true)
     (tie : Tie s q who h p (origin_in (crossings_of ms) h p) ms) (other_side : Side) (floor above : ℕ) (law : Half floor above (half h p (at_texts s who) (at_texts s (other who)) (law_events ms)) other_side)
     (e : Entry) (found : entry_at (own_of who s) (foreign_of who s) (pair_with p (program h ms).peers).entries ≡ Some e) where
   place : Among e (pair_with p (program h ms).peers).entries × (is_at (own_of who s) (foreign_of who s) e ≡ true)
@@ -109,7 +109,8 @@ module _ (hosts : Network) (ms : List Moment) (l : LawfulAmong hosts ms) (s : So
 
 -- ---- both hosts
 
-module _ (hosts : Network) (ms : List Moment) (l : LawfulAmong hosts ms) (a b : Host) (ours : AreOurs hosts a b) (s : Sockets) (q : IsPair s) where
+module _ (hosts : Network) (ms : List Moment) (l : Lawful hosts ms) (a b : Host) (ours : AreOurs hosts a b)
+    (s : Sockets) (q : IsPair s) where
   pub joined_halves : Joined (half a b (at_texts s Receiver) (at_texts s Sender) (law_events ms)) (half b a (at_texts s Sender) (at_texts s Receiver) (law_events ms))
   joined_halves =
       subst (λ (x : Side). Joined x (half b a (at_texts s Sender) (at_texts s Receiver) (law_events ms))) (receiver_half s a b (law_events ms))
@@ -119,7 +120,7 @@ module _ (hosts : Network) (ms : List Moment) (l : LawfulAmong hosts ms) (a b : 
   pub heard_there : Counts a b ms → stay.stays a b (events_of ms) ≡ true → (f : Entry) → entry_at s.receive s.send (pair_with b (program a ms).peers).entries ≡ Some f → (t : ℕ) → f.partner ≡ Some t
       → Asks (gone_now b (own_calls a b ms) s.receive s.send) (origin_in (crossings_of ms) a b t) (half a b (at_texts s Receiver) (at_texts s Sender) (law_events ms)).heard
   heard_there counts stays f found t partner =
-      let c : Coupled hosts ms = coupled_among hosts ms l in
+      let c : Coupled hosts ms = coupled_in hosts ms l in
       let j : Joined (half a b (at_texts s Receiver) (at_texts s Sender) (law_events ms)) (half b a (at_texts s Sender) (at_texts s Receiver) (law_events ms)) = joined_halves in
       partner_here hosts ms l s q Receiver a b ours counts stays
       (((all_tied hosts (origin_in (crossings_of ms)) ms (are_origins 0 (crossings_of ms) [] ms refl) c.story c.run (served_in hosts ms l.2)).tied a b ours).receiver s q)
@@ -129,7 +130,7 @@ module _ (hosts : Network) (ms : List Moment) (l : LawfulAmong hosts ms) (a b : 
   pub unsaid_there : Counts b a ms → stay.stays b a (events_of ms) ≡ true → (e : Entry) → entry_at s.send s.receive (pair_with a (program b ms).peers).entries ≡ Some e → e.asked ≡ None
       → (n : ℕ) → Asks (gone_now a (own_calls b a ms) s.send s.receive) n (half b a (at_texts s Sender) (at_texts s Receiver) (law_events ms)).said → ⊥
   unsaid_there counts stays e found none =
-      let c : Coupled hosts ms = coupled_among hosts ms l in
+      let c : Coupled hosts ms = coupled_in hosts ms l in
       let j : Joined (half a b (at_texts s Receiver) (at_texts s Sender) (law_events ms)) (half b a (at_texts s Sender) (at_texts s Receiver) (law_events ms)) = joined_halves in
       unasked_here hosts ms l s q Sender b a (ours.1, ours.0) counts stays
       (((all_tied hosts (origin_in (crossings_of ms)) ms (are_origins 0 (crossings_of ms) [] ms refl) c.story c.run (served_in hosts ms l.2)).tied a b ours).sender s q)
@@ -138,7 +139,7 @@ module _ (hosts : Network) (ms : List Moment) (l : LawfulAmong hosts ms) (a b : 
   pub heard_now : Counts b a ms → stay.stays b a (events_of ms) ≡ true → (e : Entry) → entry_at s.send s.receive (pair_with a (program b ms).peers).entries ≡ Some e → (t : ℕ) → e.partner ≡ Some t
       → Heard a b ms s.receive s.send t (gone_now a (own_calls b a ms) s.send s.receive)
   heard_now counts stays e found t partner =
-      let c : Coupled hosts ms = coupled_among hosts ms l in
+      let c : Coupled hosts ms = coupled_in hosts ms l in
       let j : Joined (half a b (at_texts s Receiver) (at_texts s Sender) (law_events ms)) (half b a (at_texts s Sender) (at_texts s Receiver) (law_events ms)) = joined_halves in
       subst (λ (x : Side). Asks (gone_now a (own_calls b a ms) s.send s.receive) (origin_in (crossings_of ms) b a t) x.heard) (sym (sender_half s a b (law_events ms)))
       (partner_here hosts ms l s q Sender b a (ours.1, ours.0) counts stays

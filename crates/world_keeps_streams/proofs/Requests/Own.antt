@@ -1,12 +1,13 @@
 -- The own request of a receiving life: it is that of the connection whose partner's request its host took.
-use Rattle.world_keeps_streams.proofs.Common.{◌≡◌, inl, inr, ℕ, ◌<◌, ◌≤◌, ◌&&◌, Bool, true, if◌then◌else◌, List, [], refl, ap, sym, subst, ◌∙◌, arith, Contains, Host, is_receive_socket, is_send_socket, receiver, sender, Asks, IsIn, Side, Joined, Stands, Stood, asks_once, asks_said, every_in, from_asks, Moment, crossings_of, Coupled, law_events, origin_in, life_of, openings, steps, life_in, life_paired, served_in}
-use Rattle.reset_law.specs.Network.{all_ours}
+use Rattle.world_keeps_streams.proofs.Common.{◌≡◌, inl, inr, ℕ, ◌<◌, ◌≤◌, ◌&&◌, Bool, true, if◌then◌else◌, List, [], ap, sym, subst, ◌∙◌, arith, Contains, Host, is_receive_socket, is_send_socket, receiver, sender, Asks, IsIn, Side, Joined, Stands, Stood, asks_once, asks_said, every_in, from_asks, Moment, crossings_of, Coupled, law_events, origin_in, life_of, openings, steps, served_in, Network, AreOurs}
 use Rattle.pairing_law.specs.Sides as law
 use Rattle.promise.specs.declared.life.Life.{Life}
 use Rattle.promise.specs.Safe.{receives}
 use Rattle.world_keeps_streams.proofs.Lives.Lists.{IsOf, contains}
-use Rattle.world_keeps_streams.proofs.Requests.Sides.{Lawful, Own, coupled_in, law_joined, lives_in, lawful_among}
+use Rattle.world_keeps_streams.proofs.Requests.Sides.{Lawful, Own, coupled_in, law_joined, lives_in}
 use Rattle.world_keeps_pairing.proofs.lemmas.{other_sends}
+use Rattle.world_keeps_streams.proofs.Lives.Among.{life_in, life_paired}
+use Rattle.world_keeps_streams.proofs.Ours.{ours_of}
 
 -- an opened end whose partner's request of connection `g` was heard in this stay asked for `g` itself
 stood_own : (a b : Side) (x : law.Life) (g : ℕ) → Joined a b → IsIn x a.lives → Asks g x.partner a.heard → Asks g x.own a.said
@@ -33,22 +34,28 @@ receiver_in y x ms r s i =
 abbrev pub Took : Host → Host → List Moment → ℕ → ℕ → ℕ → ℕ → Type 0
 Took a b ms receive send stamp g = Asks g (origin_in (crossings_of ms) a b stamp) (receiver (record { receive = receive; send = send }) (steps a b (law_events ms))).heard
 
-module _ (hosts : List Host) (ms : List Moment) (l : Lawful hosts ms) where
-  own_at : (x : Life) (g : ℕ) → Contains (lives_in ms) x → receives x ≡ true → Took x.host x.peer ms x.socket x.foreign x.partner_stamp g → Own x.host x.peer ms x.socket x.foreign x.own_stamp g
-  own_at x g there r took =
-      let c : Coupled (all_ours hosts) ms = coupled_in hosts ms l in
+module _ (hosts : Network) (ms : List Moment) (l : Lawful hosts ms) where
+  own_at : (x : Life) (g : ℕ) → AreOurs hosts x.host x.peer → Contains (lives_in ms) x → receives x ≡ true
+      → Took x.host x.peer ms x.socket x.foreign x.partner_stamp g
+      → Own x.host x.peer ms x.socket x.foreign x.own_stamp g
+  own_at x g ours there r took =
+      let c : Coupled hosts ms = coupled_in hosts ms l in
       stood_own (receiver (record { receive = x.socket; send = x.foreign }) (steps x.host x.peer (law_events ms))) (sender (record { receive = x.socket; send = x.foreign }) (steps x.host x.peer (law_events ms)))
-      (life_of (origin_in (crossings_of ms) x.host x.peer) x) g (law_joined (all_ours hosts) ms (lawful_among hosts ms l) x.host x.peer (refl, refl) (record { receive = x.socket; send = x.foreign }))
-      (receiver_in (life_of (origin_in (crossings_of ms) x.host x.peer) x) x ms r (other_sends x r (life_paired hosts ms c.story c.run l.1 (served_in hosts ms l.2) x there))
-      (life_in hosts ms c.story c.run l.1 (served_in hosts ms l.2) 0 x there)) took
+      (life_of (origin_in (crossings_of ms) x.host x.peer) x) g (law_joined hosts ms l x.host x.peer ours (record { receive = x.socket; send = x.foreign }))
+      (receiver_in (life_of (origin_in (crossings_of ms) x.host x.peer) x) x ms r (other_sends x r (life_paired hosts ms c.story c.run l.1 (served_in hosts ms l.2) x ours there))
+      (life_in hosts ms c.story c.run l.1 (served_in hosts ms l.2) 0 x ours there)) took
 
-  pub own_of : (a b : Host) (x : Life) (g : ℕ) → Contains (lives_in ms) x → (x.host ≡ a) × (x.peer ≡ b) → receives x ≡ true → Took a b ms x.socket x.foreign x.partner_stamp g → Own a b ms x.socket x.foreign x.own_stamp g
-  own_of a b x g there of_a r took =
+  pub own_of : (a b : Host) → AreOurs hosts a b → (x : Life) (g : ℕ) → Contains (lives_in ms) x
+      → (x.host ≡ a) × (x.peer ≡ b) → receives x ≡ true → Took a b ms x.socket x.foreign x.partner_stamp g
+      → Own a b ms x.socket x.foreign x.own_stamp g
+  own_of a b ours x g there of_a r took =
       subst (λ (h : Host). Own h b ms x.socket x.foreign x.own_stamp g) of_a.0
       (subst (λ (p : Host). Own x.host p ms x.socket x.foreign x.own_stamp g) of_a.1
-      (own_at x g there r
+      (own_at x g (ours_of hosts x a b ours of_a) there r
       (subst (λ (p : Host). Took x.host p ms x.socket x.foreign x.partner_stamp g) (sym of_a.1)
       (subst (λ (h : Host). Took h b ms x.socket x.foreign x.partner_stamp g) (sym of_a.0) took))))
 
-  pub own_is_of : (a b : Host) (x : Life) (g : ℕ) → IsOf x (lives_in ms) → (x.host ≡ a) × (x.peer ≡ b) → receives x ≡ true → Took a b ms x.socket x.foreign x.partner_stamp g → Own a b ms x.socket x.foreign x.own_stamp g
-  own_is_of a b x g i of_a r took = own_of a b x g (contains x (lives_in ms) i) of_a r took
+  pub own_is_of : (a b : Host) → AreOurs hosts a b → (x : Life) (g : ℕ) → IsOf x (lives_in ms)
+      → (x.host ≡ a) × (x.peer ≡ b) → receives x ≡ true → Took a b ms x.socket x.foreign x.partner_stamp g
+      → Own a b ms x.socket x.foreign x.own_stamp g
+  own_is_of a b ours x g i of_a r took = own_of a b ours x g (contains x (lives_in ms) i) of_a r took

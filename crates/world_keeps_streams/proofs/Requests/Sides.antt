@@ -1,24 +1,32 @@
 -- Requests of two hosts beside the law of pairing: each is where this many connections of its sockets were closed before it.
-use Rattle.world_keeps_streams.proofs.Common.{◌≡◌, inr, ℕ, ◌&&◌, not, Bool, true, false, List, [], ◌∷◌, if◌then◌else◌, refl, sym, subst, ◌∙◌, Host, Sockets, events_at, receiver, sender, Mark, Ask, Close, Asks, placed_event, Side, hears, says, Joined, asks_said, run_at, Event, begins_either, HaveAddresses, Moment, event_in, events_of, IsTimeline, crossings_of, Coupled, coupled, law_events, origin_in, keeps, steps, all_hears, all_says, all_tied, are_origins, at_texts, half, hears_if, left_if, met_if, receiver_half, sender_half, served_in, mail_below}
+use Rattle.world_keeps_streams.proofs.Common.{◌≡◌, inr, ℕ, ◌&&◌, not, Bool, true, false, List, [], ◌∷◌, if◌then◌else◌, refl, sym, subst, ◌∙◌, Host, Sockets, events_at, receiver, sender, Mark, Ask, Close, Asks, placed_event, Side, hears, says, Joined, asks_said, run_at, Event, begins_either, HaveAddresses, Moment, event_in, events_of, crossings_of, Coupled, coupled, law_events, origin_in, keeps, steps, all_hears, all_says, all_tied, are_origins, at_texts, half, hears_if, left_if, met_if, receiver_half, sender_half, served_in, mail_below, IsLawful, Seen, WorldState}
+use Rattle.world_keeps_pairing.proofs.lemmas.{book_run}
 use Rattle.reset_law.specs.Network.{AreOurs, Network, all_ours}
 use Rattle.net_sim.specs.Mixed.{Happened}
 use Rattle.net_sim.proofs.lemmas.AllOurs.{happened}
-use Rattle.net_sim.proofs.lemmas as among
-use Rattle.world_keeps_pairing.proofs.lemmas as served
 use Rattle.interface.specs.Mailboxes as mail
 use Rattle.pairing_law.specs.Links.{Receiver, Sender}
 use Rattle.pairing_law.specs.Places.{placed}
 use Rattle.pairing_law.proofs.lemmas.{joined_run, ready_same}
-use Rattle.ncp_control.specs.Phases as phases
 use Rattle.reset_law.specs.Stays as stay
 use Rattle.net_sim.specs.Told.{kept_in}
 use Rattle.promise.specs.declared.life.Life as book
 use Rattle.world_keeps_pairing.proofs.lemmas.{before}
 
--- ---- moments that may be
+-- ---- moments that may be in a network, whatever its strangers do
 
-abbrev pub Lawful : List Host → List Moment → Type 0
-Lawful hosts ms = HaveAddresses hosts × mail.IsRun hosts (crossings_of ms) × IsTimeline hosts ms
+abbrev pub Lawful : Network → List Moment → Type 0
+Lawful hosts ms = HaveAddresses hosts.all × mail.IsRun hosts.all (crossings_of ms) × Happened hosts ms
+
+pub below : (hosts : Network) (x : Moment) (ms : List Moment) → Lawful hosts (x ∷ ms) → Lawful hosts ms
+below hosts x ms l = (l.0, mail_below hosts.all x ms l.1, l.2.1)
+
+pub coupled_in : (hosts : Network) (ms : List Moment) → Lawful hosts ms → Coupled hosts ms
+coupled_in hosts ms l = coupled hosts l.0 ms l.1 l.2
+
+pub book_lawful : {C : Type 0} (seen : C → Seen) (hosts : List Host) (w : WorldState C) (lawful : IsLawful seen hosts w)
+    → Lawful (all_ours hosts) lawful.whole.moments
+book_lawful seen hosts w lawful = (lawful.addresses, book_run seen hosts w lawful, happened hosts lawful.whole.moments lawful.whole.timeline)
 
 abbrev pub lives_in : List Moment → List book.Life
 lives_in ms = (kept_in ms).book.lives
@@ -116,30 +124,16 @@ module _ (a b : Host) (y : Moment) (ms : List Moment) (none : stay.begins a b (e
 
 -- ---- the law of pairing
 
-pub coupled_in : (hosts : List Host) (ms : List Moment) → Lawful hosts ms → Coupled (all_ours hosts) ms
-coupled_in hosts ms l = coupled hosts l.0 ms l.1 l.2
-
--- moments that may be in a network, whatever its strangers do
-abbrev pub LawfulAmong : Network → List Moment → Type 0
-LawfulAmong hosts ms = HaveAddresses hosts.all × mail.IsRun hosts.all (crossings_of ms) × Happened hosts ms
-
-pub lawful_among : (hosts : List Host) (ms : List Moment) → Lawful hosts ms → LawfulAmong (all_ours hosts) ms
-lawful_among hosts ms l = (l.0, l.1, happened hosts ms l.2)
-
-pub below_among : (hosts : Network) (x : Moment) (ms : List Moment) → LawfulAmong hosts (x ∷ ms) → LawfulAmong hosts ms
-below_among hosts x ms l = (l.0, mail_below hosts.all x ms l.1, l.2.1)
-
-pub coupled_among : (hosts : Network) (ms : List Moment) → LawfulAmong hosts ms → Coupled hosts ms
-coupled_among hosts ms l = among.coupled hosts l.0 ms l.1 l.2
-
-pub law_joined : (hosts : Network) (ms : List Moment) → LawfulAmong hosts ms → (a b : Host) → AreOurs hosts a b → (s : Sockets) → Joined (receiver s (steps a b (law_events ms))) (sender s (steps a b (law_events ms)))
+pub law_joined : (hosts : Network) (ms : List Moment) → Lawful hosts ms → (a b : Host) → AreOurs hosts a b
+    → (s : Sockets) → Joined (receiver s (steps a b (law_events ms))) (sender s (steps a b (law_events ms)))
 law_joined hosts ms l a b ours s =
-    let c : Coupled hosts ms = coupled_among hosts ms l in
+    let c : Coupled hosts ms = coupled_in hosts ms l in
     joined_run (events_at s (steps a b (law_events ms)))
-    (run_at s (steps a b (law_events ms)) ((all_tied hosts (origin_in (crossings_of ms)) ms (are_origins 0 (crossings_of ms) [] ms refl) c.story c.run (served.served_in hosts ms l.2)).tied a b ours).steps)
+    (run_at s (steps a b (law_events ms)) ((all_tied hosts (origin_in (crossings_of ms)) ms (are_origins 0 (crossings_of ms) [] ms refl) c.story c.run (served_in hosts ms l.2)).tied a b ours).steps)
 
 -- what the receiver asked for and the sender heard of one connection is one request
-pub same_request : (hosts : Network) (ms : List Moment) → LawfulAmong hosts ms → (a b : Host) → AreOurs hosts a b → (receive send stamp taken g : ℕ) → Own a b ms receive send stamp g → Heard a b ms receive send taken g
+pub same_request : (hosts : Network) (ms : List Moment) → Lawful hosts ms → (a b : Host) → AreOurs hosts a b
+    → (receive send stamp taken g : ℕ) → Own a b ms receive send stamp g → Heard a b ms receive send taken g
     → origin_in (crossings_of ms) b a taken ≡ stamp
 same_request hosts ms l a b ours receive send stamp taken g o h =
     let s : Sockets = record { receive = receive; send = send } in

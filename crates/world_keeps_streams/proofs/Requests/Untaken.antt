@@ -11,7 +11,7 @@ use Rattle.world_keeps_pairing.proofs.lemmas.{IsPair, before}
 use Rattle.world_keeps_streams.proofs.Heard.Calls.{heard_calls}
 use Rattle.world_keeps_streams.proofs.Heard.Marks.{said_heard}
 use Rattle.world_keeps_streams.proofs.Requests.Now.{Counts, heard_there, joined_halves, unsaid_there}
-use Rattle.world_keeps_streams.proofs.Requests.Sides.{LawfulAmong, begins_same}
+use Rattle.world_keeps_streams.proofs.Requests.Sides.{Lawful, begins_same}
 use Rattle.world_keeps_streams.proofs.Steps.Goes.{AllFind, Finds, Untaken}
 use Rattle.world_keeps_streams.proofs.Steps.Joined.{Joined, turned_tells}
 
@@ -37,7 +37,7 @@ out_heard p h s m ms none =
       took true z = refl
       took false z = refl
 
-module _ (number other : ℕ → ℕ → ℕ → ℕ) (tells : IsTelling number) (same : (own foreign g : ℕ) → other own foreign g ≡ number foreign own g) (hosts : Network) (ms ns : List Moment) (l : LawfulAmong hosts ms) (k : LawfulAmong hosts ns) (h p : Host) (ours : AreOurs hosts h p)
+module _ (number other : ℕ → ℕ → ℕ → ℕ) (tells : IsTelling number) (same : (own foreign g : ℕ) → other own foreign g ≡ number foreign own g) (hosts : Network) (ms ns : List Moment) (l : Lawful hosts ms) (k : Lawful hosts ns) (h p : Host) (ours : AreOurs hosts h p)
     (counts : stay.stays h p (events_of ms) ≡ true → Counts h p ms) (counts_there : stay.stays p h (events_of ns) ≡ true → Counts p h ns) (heard : (s : Sockets) → heard_at p h s ns ≡ heard_at p h s ms) where
   pub untaken : Untaken number other h p ms ns
   untaken on there own foreign e f odd even found asked found_there named = by f.partner refl where

@@ -1,8 +1,6 @@
 -- No end of a host has to close, at any moment: each that is drained has queued its CLS.
-use Rattle.world_keeps_streams.proofs.Common.{◌≡◌, ℕ, ◌&&◌, not, Bool, true, false, if◌then◌else◌, cond, List, [], ◌∷◌, length, Option, Some, None, refl, sym, subst, Host, same_host, Flow, Answer, HostMessage, not_false, same_host-true, is_receive_socket, is_send_socket, is_ready, closed_end, commanded, contacted, interrupt_of, receiver_requested, requested, with_end, with_more_bits, desk_of, listens_on, free_link, is_busy, is_open, sending_end, PairState, Parcel, pair_after, parcel_gone, answered_turn, message_taken, Entry, both, after_turn, turn_of, NcpState, opening_state, owner_of, pair_with, with_pair, AreInOrder, at_owner, closed_socket, on_open, next_in, offered_by, Peer, Request, next_pair, not_first, pair_changed, HaveAddresses, Asked, Crossed, Moment, places, program, IsTimeline, crossings_of, coupled, owner_found, mail_below}
-use Rattle.net_sim.specs.Timeline.{Happens}
-use Rattle.reset_law.specs.Network.{all_ours}
-use Rattle.net_sim.proofs.lemmas.AllOurs.{happened}
+use Rattle.world_keeps_streams.proofs.Common.{◌≡◌, ℕ, ◌&&◌, not, Bool, true, false, if◌then◌else◌, cond, List, [], ◌∷◌, length, Option, Some, None, refl, sym, subst, Host, same_host, Flow, Answer, HostMessage, not_false, same_host-true, is_receive_socket, is_send_socket, is_ready, closed_end, commanded, contacted, interrupt_of, receiver_requested, requested, with_end, with_more_bits, desk_of, listens_on, free_link, is_busy, is_open, sending_end, PairState, Parcel, pair_after, parcel_gone, answered_turn, message_taken, Entry, both, after_turn, turn_of, NcpState, opening_state, owner_of, pair_with, with_pair, AreInOrder, at_owner, closed_socket, on_open, next_in, offered_by, Peer, Request, next_pair, not_first, pair_changed, HaveAddresses, Asked, Crossed, Moment, places, program, crossings_of, coupled, owner_found, mail_below, Happened, Network}
+use Rattle.net_sim.specs.Mixed.{MayHappen}
 use Rattle.interface.specs.Mailboxes as mail
 use Rattle.interface.specs.declared.crossing.Crossing.TheVariants as crossing
 use Rattle.interface.specs.declared.crossing.Inbound.TheVariants as inbound
@@ -13,7 +11,8 @@ use Rattle.sockets.specs.Accepting.{accepted}
 use Rattle.sockets.specs.Requests.{refusal, send_fault, served}
 use Rattle.sockets.specs.Sending.{offered}
 use Rattle.sockets.specs.declared.request.Request.TheVariants as request
-use Rattle.world_keeps_streams.proofs.Calls.Chain.{idle}
+use Rattle.world_keeps_streams.proofs.Calls.Chain.{plain_at}
+use Rattle.world_keeps_streams.proofs.Ours.{held}
 use Rattle.world_keeps_streams.proofs.Tidy.Pairs.{IsTidyPair, asks_receive, asks_send, closes_end, gives, grants, turn_answer, turn_message, turn_parcel}
 
 -- so it is of all pairs of a program
@@ -103,23 +102,26 @@ tidy_if : (c : Bool) (new old : NcpState) → (c ≡ true → AreTidy new) → A
 tidy_if true new old k h = k refl
 tidy_if false new old k h = h
 
-pub all_tidy : (hosts : List Host) → HaveAddresses hosts → (moments : List Moment) → mail.IsRun hosts (crossings_of moments) → IsTimeline hosts moments → (a : Host) → AreTidy (program a moments)
-all_tidy hosts addresses [] run time a b = tt
-all_tidy hosts addresses (x ∷ moments) run time a b = by x time.0 (λ p. all_tidy hosts addresses moments (mail_below hosts x moments run) time.1 a p) b where
-  below : mail.IsRun hosts (crossings_of moments)
-  below = mail_below hosts x moments run
+pub all_tidy : (hosts : Network) → HaveAddresses hosts.all → (moments : List Moment)
+    → mail.IsRun hosts.all (crossings_of moments) → Happened hosts moments → (a : Host) → hosts.strange a ≡ false
+    → AreTidy (program a moments)
+all_tidy hosts addresses [] run time a plain b = tt
+all_tidy hosts addresses (x ∷ moments) run time a plain b = by x time.0 (λ p. all_tidy hosts addresses moments (mail_below hosts.all x moments run) time.1 a plain p) b where
+  below : mail.IsRun hosts.all (crossings_of moments)
+  below = mail_below hosts.all x moments run
 
   order : AreInOrder (program a moments).peers
-  order = (coupled hosts addresses moments below time.1).order a refl
+  order = (coupled hosts addresses moments below time.1).order a plain
 
-  by : (y : Moment) → Happens hosts y moments → AreTidy (program a moments) → AreTidy (program a (y ∷ moments))
+  by : (y : Moment) → MayHappen hosts.strange hosts.all y moments → AreTidy (program a moments)
+      → AreTidy (program a (y ∷ moments))
   by (Crossed (crossing.Out m)) happens old = tidy_if (same_host a m.flow.source) (offered (program a moments) (places moments)).0 (program a moments) (λ e. offered_tidy (program a moments) old (places moments) order) old
   by (Crossed (crossing.In m)) happens old = tidy_if (same_host a m.flow.destination) (accepted (program a moments) (inbound.Message m) (places moments)).0 (program a moments) (λ e. taken_tidy (program a moments) old m (places moments)) old
   by (Crossed (crossing.Answer kind f)) happens old =
       tidy_if (same_host a f.source) (accepted (program a moments) (inbound.Answer kind f) (places moments)).0 (program a moments)
-      (λ e. answered_tidy (program a moments) old kind f (places moments) (λ i. (idle (all_ours hosts) addresses moments below (happened hosts moments time.1) a f.destination (refl, refl) i).0)) old
+      (λ e. answered_tidy (program a moments) old kind f (places moments) ((held a 0 hosts addresses plain moments below time.1).steady.idle f.destination)) old
   by (Crossed (crossing.Down h)) happens old = tidy_if (same_host a h) (opening_state a) (program a moments) (λ e b. tt) old
   by (Crossed (crossing.Up h)) happens old = tidy_if (same_host a h) (opening_state a) (program a moments) (λ e b. tt) old
   by (Asked h r) happens old =
       tidy_if (same_host a h) (served (program a moments) r) (program a moments)
-      (λ e. served_tidy (program a moments) old r order (subst (λ (g : Host). refusal (program g moments) r ≡ None) (sym (same_host-true a h e)) happens.2)) old
+      (λ e. served_tidy (program a moments) old r order (subst (λ (g : Host). refusal (program g moments) r ≡ None) (sym (same_host-true a h e)) (happens (plain_at hosts a h e plain)).2)) old

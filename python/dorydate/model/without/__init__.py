@@ -11,7 +11,7 @@ from dataclasses import dataclass
 from functools import partial
 from typing import Protocol
 
-from dorydate.model import script
+from dorydate.model import script, was_sent
 from dorydate.model.audit import audit, messages_are_kept
 from dorydate.model.crossings import Carrier
 from dorydate.model.host import Host
@@ -116,6 +116,8 @@ def broken(place: Place) -> str | None:
         return None if first_break(place.hosts(), place.log) is None else "run"
     if part := audit(place.carrier.log, place.book.lives):
         return part
+    if was_sent.broken(place.carrier.log, place.book.lives):
+        return "messages"
     if place.book.strays:
         return "bits of no life"
     if any(notice.startswith("error") for _, notice, _ in place.book.notices):

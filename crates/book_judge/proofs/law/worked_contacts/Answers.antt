@@ -1,5 +1,7 @@
-use Rattle.book_judge.proofs.Common.{◌≡◌, ◌≤◌, List, [], ◌∷◌, inl, inr, true, false, refl, ap, arith, sym, subst, ◌∙◌, false≢true}
-use Rattle.book_judge.proofs.Common.{length, same_host, same_host-refl, Going, Asking, Closed, Over, Stage, Stopped, Life, Fate, course, stage}
+use Rattle.book_judge.proofs.Common.{◌≡◌, ◌≤◌, List, [], ◌∷◌, inl, inr, true, false, refl, ap, arith, sym, subst, ◌∙◌}
+use Rattle.book_judge.proofs.Common.{false≢true}
+use Rattle.book_judge.proofs.Common.{length, same_host, same_host-refl, Going, Asking, Closed, Over, Stage, Stopped}
+use Rattle.book_judge.proofs.Common.{Life, Fate, course, stage}
 use Rattle.book_judge.proofs.Common.{suits, is_begun, AreSuited, IsSuited, IsBeside, gave, sent_log, took}
 use Rattle.bit_messages.specs.Octets.{octets_of}
 use Rattle.ncp_control.specs.Reading.{command_of, read_of}
@@ -7,7 +9,8 @@ use Rattle.host_pairs.specs.Control.{orders_of}
 use Rattle.interface.specs.declared.crossing.Crossing.{Crossing}
 use Rattle.promise.specs.declared.life.Fate.TheVariants as fate
 use Rattle.book_judge.specs.Fates.{Outlasts, cut_at, over_at, was_contacted}
-use Rattle.book_judge.specs.WorkedLives.{again_log, down_log, reset_log, third_down_log, third_log, took_after, took_again}
+use Rattle.book_judge.specs.WorkedLives.{again_log, down_log, reset_log, third_down_log, third_log, took_after}
+use Rattle.book_judge.specs.WorkedLives.{took_again}
 use Rattle.book_judge.specs.WorkedLives.{took_from_third, took_nothing, unasked}
 use Rattle.book_judge.proofs.Worked.{gave_goes, took_goes}
 use Rattle.book_judge.proofs.law.worked_contacts.Goals as goal
@@ -277,6 +280,16 @@ returns-clause-unasked c =
       fate = ap (λ (s : Stage). suits s fate.Open) never_asks;
     })
     (λ t e. absurd (false≢true (sym (ap is_begun never_asks) ∙ t.begun))) (λ t e. absurd (cc))
+
+pub returns-clause-unbegun : goal.returns-clause-unbegun
+returns-clause-unbegun c =
+    two_suit sent_log unasked took fate.Reset fate.Open
+    (record {
+      begins = λ e. absurd (false≢true (sym (ap is_begun never_asks) ∙ e));
+      fate = ap (λ (s : Stage). suits s fate.Reset) never_asks;
+    })
+    (took_suits fate.Open refl)
+    (λ t e. absurd (false≢true (sym (ap was_contacted never_asks) ∙ t.contact))) (λ t e. absurd (cc))
 
 -- ---- their host stops
 

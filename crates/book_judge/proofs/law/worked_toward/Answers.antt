@@ -44,5 +44,22 @@ returns-clause-other c = λ strange apart all. no_prefix (all.0.handed apart.1 r
     no_prefix : IsPrefix (true ∷ []) (false ∷ []) → ⊥
     no_prefix (rest, e) = absurd (cc)
 
+pub returns-clause-less : goal.returns-clause-less
+returns-clause-less c = λ strange apart. record {
+  owner = apart.0;
+  taken = λ peer comes. absurd (cc);
+  handed = λ peer goes. (false ∷ [], refl);
+}
+
+pub returns-clause-more : goal.returns-clause-more
+returns-clause-more c = λ strange apart it. no_prefix (it.handed apart.1 refl)
+  where
+    no_prefix : IsPrefix (true ∷ false ∷ []) (true ∷ []) → ⊥
+    no_prefix (rest, e) = absurd (cc)
+
+pub returns-clause-second : goal.returns-clause-second
+returns-clause-second c = λ x y strange own peer e. untoward_here strange 1 (x ∷ y ∷ []) ([] ∷ [] ∷ []) y [] refl refl
+    (with_program strange x [] own peer, tt) (of_stranger strange y [] e)
+
 pub returns-clause-later : goal.returns-clause-later
 returns-clause-later c = λ strange x y text more e named. of_stranger strange x text e named.0.0

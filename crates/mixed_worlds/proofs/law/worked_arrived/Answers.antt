@@ -2,7 +2,7 @@ use Rattle.mixed_worlds.proofs.Common.{◌≡◌, true, false, List, [], ◌∷�
 use Rattle.interface.specs.declared.crossing.Answer.TheVariants as answer
 use Rattle.interface.specs.declared.crossing.Crossing.TheVariants as crossing
 use Rattle.sockets.specs.Worked.{first}
-use Rattle.masked_worlds.specs.Worked.{is_third}
+use Rattle.mixed_worlds.specs.Worked.{is_third}
 use Rattle.mixed_worlds.specs.Arrived.{ArrivedAmong}
 use Rattle.mixed_worlds.proofs.law.worked_arrived.Goals as goal
 

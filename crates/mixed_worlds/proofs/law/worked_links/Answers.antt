@@ -5,7 +5,7 @@ use Rattle.host_pairs.specs.Control.{orders_of}
 use Rattle.ncp_control.specs.Packing.{packed_count}
 use Rattle.ncp_control.specs.Reading.{command_of, read_of}
 use Rattle.ncp_control.specs.declared.command.Command.TheVariants as command
-use Rattle.masked_worlds.specs.Worked.{stranger_asks, stranger_ready}
+use Rattle.mixed_worlds.specs.Worked.{stranger_asks, stranger_ready}
 use Rattle.sockets.specs.Worked.{STR}
 use Rattle.mixed_worlds.specs.Worked.{stranger_opened}
 use Rattle.mixed_worlds.proofs.Carried.{below_all, none_of}

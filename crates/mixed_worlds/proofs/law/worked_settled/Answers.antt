@@ -1,4 +1,4 @@
-use Rattle.mixed_worlds.proofs.Common.{◌≡◌, Bool, true, false, None, refl, sym, subst, ◌∙◌, Host, same_host, same_flow, Flow, same_host-true, on_link, second, third, program, crossings_of, same_host-sym, without_strangers, listener_taken}
+use Rattle.mixed_worlds.proofs.Common.{◌≡◌, Bool, true, false, None, refl, ap, sym, subst, ◌∙◌, Host, same_host, same_flow, Flow, same_host-true, on_link, second, third, program, crossings_of, same_host-sym, without_strangers, listener_taken}
 use Rattle.bit_messages.specs.Octets.{octets_of}
 use Rattle.interface.specs.Mailboxes.{Empty, box_of}
 use Rattle.ncp_control.specs.Packing.{packed_count}
@@ -8,8 +8,8 @@ use Rattle.sockets.specs.Accepting.{accepted}
 use Rattle.sockets.specs.Requests.{refusal, served, served_notices}
 use Rattle.sockets.specs.Sending.{next_out, offered}
 use Rattle.sockets.specs.Worked.{first}
-use Rattle.masked_worlds.specs.Worked.{is_third}
-use Rattle.mixed_worlds.proofs.RealLogs.{flow_off}
+use Rattle.mixed_worlds.specs.Worked.{is_third}
+use Rattle.interface.proofs.lemmas.{same_flow-true}
 use Rattle.mixed_worlds.proofs.law.worked_settled.Goals as goal
 
 pub returns-clause-waits : goal.returns-clause-waits
@@ -37,10 +37,16 @@ none_out : (f : Flow) → is_third f.source ≡ false → is_third f.destination
     → box_of f (crossings_of listener_taken) ≡ Empty
 none_out f source destination = rw (to, from) refl where
   to : same_flow f (on_link second third 0) ≡ false
-  to = flow_off is_third f source destination (on_link second third 0) third refl
+  to = apart_to (same_flow f (on_link second third 0)) refl where
+    apart_to : (b : Bool) → same_flow f (on_link second third 0) ≡ b → b ≡ false
+    apart_to true e = absurd (let clash : true ≡ false = sym (ap (λ (g : Flow). is_third g.destination) (same_flow-true f (on_link second third 0) e)) ∙ destination in cc)
+    apart_to false e = refl
 
   from : same_flow f (on_link third second 0) ≡ false
-  from = flow_off is_third f source destination (on_link third second 0) third refl
+  from = apart_from (same_flow f (on_link third second 0)) refl where
+    apart_from : (b : Bool) → same_flow f (on_link third second 0) ≡ b → b ≡ false
+    apart_from true e = absurd (let clash : true ≡ false = sym (ap (λ (g : Flow). is_third g.source) (same_flow-true f (on_link third second 0) e)) ∙ source in cc)
+    apart_from false e = refl
 
 pub returns-clause-settled : goal.returns-clause-settled
 returns-clause-settled c = record {

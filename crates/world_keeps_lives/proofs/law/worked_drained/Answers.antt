@@ -1,4 +1,5 @@
 use Rattle.world_keeps_lives.proofs.Common.{◌≡◌, Bool, true, false, List, [], ◌∷◌, Some, refl, ap, ◌∙◌, arith, has_cls, Entry, first, second, life_ended, Crossed, program, eight, ClosedFirst, ClosesFirst, gave}
+use Rattle.world_keeps_lives.specs.Drained.{all_lives}
 use Rattle.bit_messages.specs.Octets.{octets_of}
 use Rattle.interface.specs.declared.crossing.Crossing.TheVariants as crossing
 use Rattle.ncp_control.specs.Packing.{packed_count}
@@ -41,7 +42,7 @@ closes_there = record {
 pub returns-clause-closed : goal.returns-clause-closed
 returns-clause-closed c = closes_there
 
-closed_there : ClosedFirst (Crossed (crossing.Down second) ∷ closed_moments) (life_ended gave)
+closed_there : ClosedFirst all_lives (Crossed (crossing.Down second) ∷ closed_moments) (life_ended gave)
 unfolding octets_of orders_of read_of command_of packed_count accepted refusal served served_notices next_out offered
 closed_there = record {
   later = Crossed (crossing.Down second) ∷ [];

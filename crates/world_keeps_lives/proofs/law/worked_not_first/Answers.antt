@@ -1,4 +1,5 @@
 use Rattle.world_keeps_lives.proofs.Common.{◌≡◌, Bool, true, false, List, [], ◌∷◌, if◌then◌else◌, refl, ap, sym, subst, ◌∙◌, Contains, is_send_socket, has_cls, Entry, pair_with, sends, Moment, program, kept_in, Life, mine_on, ClosedFirst, ClosesFirst}
+use Rattle.world_keeps_lives.specs.Drained.{all_lives}
 use Rattle.bit_messages.specs.Octets.{octets_of}
 use Rattle.ncp_control.specs.Packing.{packed_count}
 use Rattle.ncp_control.specs.Reading.{read_of, command_of}
@@ -37,7 +38,7 @@ not_then ms x never there f =
     let both : false ≡ true = sym is_not ∙ sending_shows (sends x) (ends_first end) f.sending ∙ shown in
     absurd (cc)
 
-not_so_far : (ms : List Moment) (x : Life) → never_has has_first ms ≡ true → ClosedFirst ms x → ⊥
+not_so_far : (ms : List Moment) (x : Life) → never_has has_first ms ≡ true → ClosedFirst all_lives ms x → ⊥
 not_so_far ms x never f = not_then f.earlier f.sender (never_earlier has_first f.later f.earlier (subst (λ (all : List Moment). never_has has_first all ≡ true) f.is never)) f.there f.first
 
 pub returns-clause-unanswered : goal.returns-clause-unanswered

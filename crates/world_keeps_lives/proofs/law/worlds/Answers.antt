@@ -1,6 +1,4 @@
-use Rattle.world_keeps_lives.proofs.Drained.{world_drained}
-use Rattle.world_keeps_lives.proofs.Laws.{world_bounded, world_handed, world_live, world_taken}
-use Rattle.world_keeps_lives.proofs.Notices.{world_told}
+use Rattle.world_keeps_lives.proofs.AllOurs.{world_bounded, world_drained, world_handed, world_live, world_taken, world_told}
 use Rattle.world_keeps_lives.proofs.law.worlds.Goals as goal
 
 pub returns : goal.returns

@@ -11,6 +11,7 @@ use Rattle.world_keeps_streams.proofs.Books.EndingHanded.{world_ended}
 use Rattle.world_keeps_streams.proofs.Books.Handed.{world_handed_over}
 use Rattle.world_keeps_streams.proofs.Books.Settled.{world_settles}
 use Rattle.world_keeps_streams.proofs.Books.Later.{world_closes}
+use Rattle.world_keeps_streams.proofs.Books.WasSent.{world_was_sent}
 use Rattle.world_keeps_streams.proofs.Books.Firsts.{world_firsts, world_formed}
 use Rattle.world_keeps_streams.proofs.Ends.Contacts.{world_contacts}
 use Rattle.world_keeps_streams.proofs.Ends.Fits.{world_over}
@@ -20,6 +21,7 @@ use Rattle.world_keeps_streams.proofs.law.worlds.Goals as goal
 pub returns : goal.returns
 returns g c = record {
   source = λ hosts. world_source hosts g.C.Carrier.calls.seen;
+  was_sent = world_was_sent g.C.Carrier.calls.seen;
   closes = world_closes g.C.Carrier.calls.seen;
   came = world_came g.C.Carrier.calls.seen;
   handed = world_handed_over g.C.Carrier.calls.seen;

@@ -1,9 +1,9 @@
-use Rattle.world_replay.proofs.Common.{◌≡◌, ◌+◌, ◌-◌, Err, inl, inr, rules, subst, sym, arith, EventEnds}
-use Rattle.world_replay.proofs.ByKind.{all_passed, calm_seen, no_rounds, round_ends_so, round_more, rounds_end}
+use Rattle.world_replay.proofs.Common.{◌≡◌, ◌+◌, ◌-◌, Err, inl, inr, refl, rules, subst, sym, arith, EventEnds}
+use Rattle.world_replay.proofs.ByKind.{all_passed, no_rounds, one_round_seen, round_ends_so, round_more, rounds_end}
 use Rattle.world_replay.proofs.events.replay_calm.Goals as goal
 
 pub loop-passed-init : goal.loop-passed-init
-loop-passed-init g c = (no_rounds g.R.Replayed.kind c.args.detail c.args.world.now (g.W.Output.contents c.args.writer.now), c.requires.whole, omega arith, λ long. absurd (omega (arith, long)))
+loop-passed-init g c = (no_rounds g.R.Replayed.kind c.args.detail c.args.world.now (g.W.Output.contents c.args.writer.now), c.requires.whole, omega arith, refl)
 
 pub loop-passed-preserved : goal.loop-passed-preserved
 loop-passed-preserved g c = (
@@ -11,7 +11,8 @@ loop-passed-preserved g c = (
       c.loop-passed.invariant.0 c.in_ok-replay_round.ensures.ends,
   c.in_ok-replay_round.ensures.failed,
   omega (arith, c.loop-passed-test.true),
-  λ long. c.in_ok-replay_round.ensures.seen (omega (arith, long)),
+  one_round_seen g.R.Replayed.kind c.args.detail g.W.Output.contents g.W.Output.flushed c.loop-passed.passed (c.args.world.now, c.args.writer.now) (c.loop-passed.world, c.loop-passed.writer) (c.replay_round.new.world, c.replay_round.new.writer)
+      c.loop-passed.invariant.3 c.in_ok-replay_round.ensures.ends c.in_ok-replay_round.ensures.seen,
 )
 
 pub returns-in_err-replay_round-clause-ends : goal.returns-in_err-replay_round-clause-ends
@@ -32,9 +33,20 @@ returns-clause-ends g c =
     all_passed g.R.Replayed.kind c.is_replayable.ensures c.args.detail c.loop-passed.passed c.args.rounds c.args.world.now c.loop-passed.world (g.W.Output.contents c.args.writer.now) (g.W.Output.contents c.loop-passed.writer) c.loop-passed.invariant.0
     (omega (arith, c.requires.some, c.loop-passed-test.false)) (omega (arith, c.loop-passed-test.false, c.loop-passed.invariant.2))
 
--- a long calm is handed on, or rests
+-- the rounds of a long calm were seen, till it rests or all have passed
 pub returns-then-rests_since-clause-seen : goal.returns-then-rests_since-clause-seen
-returns-then-rests_since-clause-seen g c = calm_seen g.R.Replayed.kind c.is_replayable.ensures c.args.rounds c.replay_round.new.world (g.W.Output.flushed c.replay_round.new.writer) (λ long. inl (c.rests_since.ensures.rest c.if-rests_since.true))
+returns-then-rests_since-clause-seen g c = λ long. (
+  c.loop-passed.passed + 1,
+  omega (arith, c.loop-passed-test.true),
+  one_round_seen g.R.Replayed.kind c.args.detail g.W.Output.contents g.W.Output.flushed c.loop-passed.passed (c.args.world.now, c.args.writer.now) (c.loop-passed.world, c.loop-passed.writer) (c.replay_round.new.world, c.replay_round.new.writer)
+      c.loop-passed.invariant.3 c.in_ok-replay_round.ensures.ends c.in_ok-replay_round.ensures.seen,
+  inr (c.rests_since.ensures.rest c.if-rests_since.true),
+)
 
 pub returns-clause-seen : goal.returns-clause-seen
-returns-clause-seen g c = calm_seen g.R.Replayed.kind c.is_replayable.ensures c.args.rounds c.loop-passed.world (g.W.Output.flushed c.loop-passed.writer) (λ long. inr (c.loop-passed.invariant.3 (omega (arith, long, c.loop-passed-test.false))))
+returns-clause-seen g c = λ long. (
+  c.loop-passed.passed,
+  c.loop-passed.invariant.2,
+  c.loop-passed.invariant.3,
+  inl (omega (arith, c.loop-passed-test.false, c.loop-passed.invariant.2)),
+)

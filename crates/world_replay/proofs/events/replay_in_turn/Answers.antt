@@ -1,9 +1,10 @@
-use Rattle.world_replay.proofs.Common.{◌≡◌, ◌∷◌, [], ◌++◌, Err, rules, ap, sym, subst, ◌∙◌, shown_text, EventEnds, HappensBy, StopsBy}
+use Rattle.world_replay.proofs.Common.{◌≡◌, ◌∷◌, [], ◌++◌, Err, rules, ap, sym, subst, ◌∙◌, shown_text, EventEnds}
+use Rattle.world_replay.proofs.Common.{HappensBy, StopsBy}
 use Rattle.std.proofs.lemmas.List.{append_assoc}
 use Rattle.replay.proofs.lemmas.{last_shown, last_written, one_written}
 use Rattle.replay.specs.declared.events.ReplayFault.TheVariants as fault
 use Rattle.world_replay.specs.Kinds.{MayDoBy}
-use Rattle.world_replay.proofs.ByKind.{last_seen}
+use Rattle.world_replay.proofs.ByKind.{one_seen}
 use Rattle.world_replay.proofs.events.replay_in_turn.Goals as goal
 
 pub loop-event-preserved : goal.loop-event-preserved
@@ -12,7 +13,8 @@ loop-event-preserved g c = (
   one_written (HappensBy g.R.Replayed.kind) (shown_text c.args.detail) c.args.world.now c.loop-event.world c.replay_event.new.world c.loop-event.yielded c.in-Some.event
       (g.W.Output.contents c.args.writer.now) (g.W.Output.contents c.loop-event.writer) (g.W.Output.contents c.replay_event.new.writer) c.loop-event.invariant.1 c.in_ok-replay_event.ensures.ends,
   c.in_ok-replay_event.ensures.failed,
-  last_seen g.R.Replayed.kind c.loop-event.yielded c.in-Some.event c.replay_event.new.world (g.W.Output.flushed c.replay_event.new.writer) c.in_ok-replay_event.ensures.seen,
+  one_seen g.R.Replayed.kind c.args.detail g.W.Output.contents g.W.Output.flushed (c.args.world.now, c.args.writer.now) (c.loop-event.world, c.loop-event.writer) (c.replay_event.new.world, c.replay_event.new.writer)
+      c.loop-event.yielded c.in-Some.event c.loop-event.invariant.3 c.in_ok-replay_event.ensures.ends c.in_ok-replay_event.ensures.seen,
 )
 
 pub returns-in_err-replay_event-clause-memory : goal.returns-in_err-replay_event-clause-memory

@@ -1,0 +1,10 @@
+pub mod Acts
+pub mod Ends
+pub mod Pairs
+pub mod Happens
+pub mod Blamed
+pub mod Rules
+pub mod Contract
+pub mod Example
+pub mod Broken
+pub mod Kept

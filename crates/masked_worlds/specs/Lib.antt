@@ -1,5 +1,0 @@
-pub mod Strangers
-pub mod Among
-pub mod Mixed
-pub mod Laws
-pub mod Worked
