@@ -117,7 +117,7 @@ def broken(place: Place) -> str | None:
     if part := audit(place.carrier.log, place.book.lives):
         return part
     if was_sent.broken(place.carrier.log, place.book.lives):
-        return "messages"
+        return "sent"
     if place.book.strays:
         return "bits of no life"
     if any(notice.startswith("error") for _, notice, _ in place.book.notices):
