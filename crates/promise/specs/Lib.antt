@@ -8,3 +8,5 @@ pub mod Connections
 pub mod Fates
 pub mod Ends
 pub mod Arrived
+-- words of worked examples
+pub mod Worked

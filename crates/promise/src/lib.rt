@@ -21,6 +21,8 @@
 mod bit_log;
 mod book;
 mod life;
+pub mod worked;
+pub mod worked_books;
 
 pub use bit_log::BitLog;
 pub use book::{Called, Told};
