@@ -4,12 +4,14 @@ from __future__ import annotations
 
 import shutil
 import unittest
+from unittest import mock
 
 from dorydate.definitions.deciding import Decider
 from dorydate.definitions.files import Definition, Structure, read_file
 from dorydate.definitions.library import Library, Module
 from dorydate.definitions.promise import BOOK, Judge, deeply
-from workshop.second import agda, laws
+from dorydate.definitions.reading import term_of
+from workshop.second import agda, laws, mutants
 from workshop.second.mutants import changes, page, spread
 from workshop.second.proofs import ProofWriter
 from workshop.second.rows import Row, computed, rows_of, sources
@@ -40,6 +42,17 @@ class OfAgda(unittest.TestCase):
 
 class OfRows(unittest.TestCase):
     FILE = "world_keeps_streams/src/worked_arrived.rt"
+    OWN = """
+use Rattle.interface.specs.Mailboxes.{same_flow}
+use Rattle.interface.specs.declared.address.Flow.{Flow}
+
+pub record IsTwo : Type 0 where
+  pub number : ℕ
+  pub two : number ≡ 2
+
+abbrev pub number_of : IsTwo → ℕ
+number_of it = it.number
+"""
 
     def rows(self) -> list[Row]:
         self.library = Library(sources())
@@ -58,6 +71,32 @@ class OfRows(unittest.TestCase):
         all_ = changes(self.library, (FORMED, "texts_of"), texts_of)
         own["texts_of"] = next(it.item for it in all_ if "then" in it.what)
         self.assertIn("fails", deeply(lambda: {computed(Decider(self.library), it) for it in rows}))
+
+
+    def said(self, text: str) -> str:
+        library = Library(sources())
+        library.modules["of a test"] = Module("of a test", *read_file(self.OWN))
+        row = Row("", "", "", term_of(text, 1), "of a test")
+        return deeply(lambda: computed(Decider(library), row))
+
+    def test_what_is_of_all_flows_is_tried_with_those_of_the_row(self) -> None:
+        library = Library(sources())
+        rows = [it for it in rows_of(library, ["net_sim/src/worked.rt"]) if it.function == "safe_books"]
+        self.assertEqual([deeply(lambda: computed(Decider(library), it)) for it in rows], ["holds"])
+        self.assertEqual(self.said("(f : Flow) → same_flow f f ≡ true"), "speaks of all")
+
+    def test_what_is_written(self) -> None:
+        for text, found in (
+            ("Appends (Some (1 ∷ [])) (Some (1 ∷ 2 ∷ [])) (2 ∷ [])", "holds"),
+            ("Keeps (Some (1 ∷ [])) (Some [])", "fails"),
+            ("IsAtEnd (Some (1 ∷ [])) → ⊥", "holds"),
+            ("Consumes (Some (1 ∷ [])) None [] → ⊥", "holds"),
+        ):
+            self.assertEqual(self.said(text), found, text)
+
+    def test_a_function_of_evidence(self) -> None:
+        self.assertEqual(self.said("(it : IsTwo) × (number_of it ≡ 2)"), "holds")
+        self.assertEqual(self.said("(it : IsTwo) × (number_of it ≡ 3)"), "fails")
 
 
 class OfChanges(unittest.TestCase):
@@ -80,6 +119,19 @@ class OfChanges(unittest.TestCase):
         every = [it for key, item in page().items() for it in spread([*changes(library, key, item.item)], 3)]
         self.assertGreater(len(every), 148)
         self.assertEqual(spread(every, 5)[0], every[0])
+
+    def test_what_rows_say(self) -> None:
+        with mock.patch.object(mutants, "files", lambda: ["promise/src/worked.rt"]):
+            rows = deeply(mutants.Rows)
+        ends = "Rattle.promise.specs.Ends"
+        for name, what, said in (
+            ("asks_for", "clause 1: && → ||", mutants.NOTICED),
+            ("course", "clause 1: 0 → 1", mutants.EQUAL),
+            ("Leaves", "clause 1: ≡ → ≢", mutants.MISSED),
+        ):
+            item = page()[ends, name].item
+            change = next(it for it in changes(rows.library, (ends, name), item) if it.what == what)
+            self.assertEqual(deeply(lambda: rows.say(change)), said, name)
 
     def test_to_names_that_are_there(self) -> None:
         (it,) = [it for it in read_file("pub record R (own : ℕ) : Type 0 where\n  pub foreign : own ≡ 1\n")[0]]

@@ -152,6 +152,9 @@ class Compiler:
         if isinstance(meaning, Defined):
             type_, value = meaning.definition.type, meaning.definition.clauses[0].value
             names = frozenset(it.text for it in meaning.definition.clauses[0].patterns if isinstance(it, Name))
+            if arity(type_) > 0 and isinstance(head_of(value), Field):
+                inner = self.meaning(head_of(value), meaning.module, names)
+                return not isinstance(inner, Word) or inner.name not in VALUE_TYPES
             return arity(type_) > 0 or self.is_statement(value, meaning.module, names)
         raise NotComputed("a type of another kind")
 

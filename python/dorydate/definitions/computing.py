@@ -60,6 +60,10 @@ class Evidence:
     def __init__(self) -> None:
         self.fields: dict[str, Slot] = {}
 
+    def record(self) -> Value:
+        """The record of its values, as functions of evidence see it."""
+        return struct({name: forced(it) for name, it in self.fields.items()})
+
 
 class Delayed:
     """A term that is computed when it is wanted, or a statement."""
@@ -113,7 +117,7 @@ def forced(slot: Slot) -> Value:
                 raise NotComputed("a statement is no value")
             return slot.expression.value(slot.env)
         if isinstance(slot, Evidence):
-            raise NotComputed("evidence is no value")
+            return slot.record()
         return slot
 
 

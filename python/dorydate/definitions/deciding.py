@@ -47,6 +47,7 @@ from dorydate.definitions.terms import (
     Operation,
     Term,
     head_of,
+    inside,
 )
 from dorydate.definitions.values import FALSE, TRUE, Data, Lambda, Struct, Value, items_of
 
@@ -671,8 +672,4 @@ def type_name(type_: Term) -> str:
 
 def mentions(term: object, name: str) -> bool:
     """Whether a term speaks of a name."""
-    if isinstance(term, Name):
-        return term.text == name
-    if isinstance(term, tuple):
-        return any(mentions(it, name) for it in term)
-    return hasattr(term, "__dataclass_fields__") and any(mentions(it, name) for it in vars(term).values())
+    return any(isinstance(it, Name) and it.text == name for it in inside(term))

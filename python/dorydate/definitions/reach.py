@@ -7,7 +7,7 @@ from typing import Union
 
 from dorydate.definitions.files import Definition, Structure
 from dorydate.definitions.library import WORDS, Declared, Defined, Form, Library, Meaning, NoMeaning, Typed
-from dorydate.definitions.terms import Field, Name
+from dorydate.definitions.terms import Field, Name, inside
 
 Found = Union[Defined, Typed, Declared]
 
@@ -55,23 +55,15 @@ def terms_of(item: Definition | Structure) -> tuple[object, ...]:
 def meanings_in(library: Library, term: object, module: str) -> Iterator[Meaning]:
     """What the names in a term mean. A local name may be that of a definition, too: one too many."""
     here = library.module(module)
-    if isinstance(term, Name):
-        if term.text in here.own or term.text in here.forms or term.text in here.names:
-            yield from form_or_other(library, module, term.text)
-        elif library.has(WORDS) and term.text in library.module(WORDS).own:
-            yield library.found(WORDS, term.text)
-    elif (
-        isinstance(term, Field)
-        and isinstance(term.of, Name)
-        and term.of.text in here.aliases
-        and term.of.text not in here.names
-    ):
-        yield from form_or_other(library, module, term.name, term.of.text)
-    elif isinstance(term, (tuple, list)):
-        for it in term:
-            yield from meanings_in(library, it, module)
-    elif hasattr(term, "__dataclass_fields__"):
-        yield from meanings_in(library, tuple(vars(term).values()), module)
+    for it in inside(term):
+        if isinstance(it, Name):
+            if it.text in here.own or it.text in here.forms or it.text in here.names:
+                yield from form_or_other(library, module, it.text)
+            elif library.has(WORDS) and it.text in library.module(WORDS).own:
+                yield library.found(WORDS, it.text)
+        elif isinstance(it, Field) and isinstance(it.of, Name):
+            if it.of.text in here.aliases and it.of.text not in here.names:
+                yield from form_or_other(library, module, it.name, it.of.text)
 
 
 def form_or_other(library: Library, module: str, name: str, alias: str = "") -> Iterator[Meaning]:

@@ -2,6 +2,7 @@
 
 from __future__ import annotations
 
+from collections.abc import Iterator
 from dataclasses import dataclass
 from typing import Union
 
@@ -219,3 +220,11 @@ def arity(type_: Term) -> int:
         count += 0 if type_.binder.implicit else max(len(type_.binder.names), 1)
         type_ = type_.body
     return count
+
+
+def inside(term: object) -> Iterator[object]:
+    """A term, or several, and all of which they are made."""
+    yield term
+    parts = term if isinstance(term, (tuple, list)) else vars(term).values() if hasattr(term, "__dataclass_fields__") else ()
+    for it in parts:
+        yield from inside(it)

@@ -70,6 +70,12 @@ def struct(fields: dict[str, Value]) -> Struct:
     return found
 
 
+def records_with(names: Iterable[str]) -> list[Value]:
+    """The records of these fields that were made since values were forgotten."""
+    wanted = {*names}
+    return [it for it in _structs.values() if it.fields.keys() == wanted]
+
+
 def tupled(items: Iterable[Value]) -> Struct:
     return struct({str(at): it for at, it in enumerate(items)})
 

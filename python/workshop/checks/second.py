@@ -28,7 +28,7 @@ from workshop.second.beside import beside_audit
 from workshop.tools import lacking
 
 LOGS = 1_000
-MOST_UNREAD = 30  # rows of what a program reads and writes, and of calms, which have words that are not read yet
+MOST_UNREAD = 3  # rows of calms, whose functions take an argument in braces
 
 
 def listed(seen: Counter[str]) -> str:

@@ -15,7 +15,7 @@ from dorydate.definitions.files import Definition, Group, Item, Structure, Use
 from dorydate.definitions.library import WORDS, Defined, Library, Typed
 from dorydate.definitions.promise import deeply
 from dorydate.definitions.reach import Reach, terms_of
-from dorydate.definitions.terms import Field, Name
+from dorydate.definitions.terms import Field, Name, inside
 from workshop.parts import ROOT
 from workshop.second.agda import BASE, write_with_types
 from workshop.second.proofs import BY_HAND as LEMMAS
@@ -67,13 +67,7 @@ def in_order(library: Library, modules: Sequence[str]) -> list[str]:
 
 def goals_in(term: object, goals: str) -> Iterator[str]:
     """The goals that terms name."""
-    if isinstance(term, Field) and term.of == Name(goals):
-        yield term.name
-    elif isinstance(term, (tuple, list)):
-        for it in term:
-            yield from goals_in(it, goals)
-    elif hasattr(term, "__dataclass_fields__"):
-        yield from goals_in(tuple(vars(term).values()), goals)
+    return (it.name for it in inside(term) if isinstance(it, Field) and it.of == Name(goals))
 
 
 def reached(library: Library, modules: Sequence[str]) -> Reach:

@@ -4,6 +4,7 @@ from __future__ import annotations
 
 import dataclasses
 import time
+from collections import Counter
 from collections.abc import Collection, Iterator
 from dataclasses import dataclass, replace
 from typing import Union
@@ -26,6 +27,7 @@ from dorydate.definitions.terms import (
     Number,
     Operation,
     Term,
+    inside,
 )
 from workshop.second.agda import BUILT_IN
 from workshop.second.rows import Row, computed, files, rows_of, sources
@@ -33,63 +35,36 @@ from workshop.second.rows import Row, computed, files, rows_of, sources
 MOST_SECONDS = 4  # of the processor for each change: the rows that lead to the fewest definitions come first
 MOST_CALLS = 60_000  # of definitions in a row: a changed one may never end
 WAYS = 20  # how many changes of each definition are tried at most
-NAMES = {
-    "true": "false",
-    "false": "true",
-    "nat_lt": "nat_le",
-    "nat_le": "nat_lt",
-    "take": "drop",
-    "drop": "take",
-    "list_any": "list_all",
-    "min": "max",
-    "own": "partner",
-    "partner": "own",
-    "foreign": "own",
-    "receives": "sends",
-    "sends": "receives",
-    "zero": "suc",
-    "from": "to",
-    "to": "from",
-    "a": "b",
-    "receiver": "sender",
-    "going": "coming",
-    "is_receive_socket": "is_send_socket",
-    "Dropped": "Stopped",
-    "Stopped": "Dropped",
-    "mine": "yours",
-    "h": "peer",
-    "server": "user",
-    "receive": "send",
-    "send": "receive",
-}
-FIELDS = {
-    "source": "destination",
-    "destination": "source",
-    "host": "peer",
-    "peer": "host",
-    "socket": "foreign",
-    "foreign": "socket",
-    "own_stamp": "partner_stamp",
-    "partner_stamp": "own_stamp",
-    "messages": "bits",
-    "granted": "returned",
-    "Rfnm": "Dead",
-    "Dead": "NotTaken",
-    "Open": "Closing",
-    "Ended": "Closed",
-    "Closed": "Ended",
-    "Reset": "Stopped",
-    "Out": "In",
-    "In": "Out",
-    "Down": "Up",
-    "Up": "Down",
-    "Rst": "Rrp",
-    "Rrp": "Rst",
-    "Sent": "Arrived",
-    "Arrived": "Sent",
-}
+
+
+def pairs(text: str) -> dict[str, str]:
+    """The words of a list of pairs: to each first one the second."""
+    return {first: second for first, second in (it.split() for it in text.split(","))}
+
+
+def both(text: str) -> dict[str, str]:
+    """Each word of the pairs to the other."""
+    return pairs(text) | {second: first for first, second in pairs(text).items()}
+
+
+NAMES = both(
+    "true false, nat_lt nat_le, take drop, own partner, receives sends, from to, Dropped Stopped, receive send"
+) | pairs(
+    "list_any list_all, min max, foreign own, zero suc, a b, receiver sender, going coming, mine yours, h peer, server user,"
+    "is_receive_socket is_send_socket"
+)
+FIELDS = both(
+    "source destination, host peer, socket foreign, own_stamp partner_stamp, Ended Closed, Out In, Down Up, Rst Rrp, Sent Arrived"
+) | pairs("messages bits, granted returned, Rfnm Dead, Dead NotTaken, Open Closing, Reset Stopped")
 WORDS_OF = {"&&": "||", "||": "&&", "<": "≤", "≤": "<", "+": "-", "-": "+", "≡": "≢", "/": "%", "%": "/", "*": "+"}
 Key = tuple[str, str]
+NOTICED, OPEN, EQUAL, LATE, MISSED = "refused by a row", "no longer of given values", "the same", "out of time", "not noticed"
+SAID = NOTICED, OPEN, EQUAL, LATE, MISSED
+SAME = {
+    "Ends.course: clause 1: 0 → 1": "as before its requests nothing ends a life",
+    "Arrived.HasArrived: after: < → ≤": "as no message comes in at the place where it goes out",
+    "Notices.TellsOf: off_control: 0 → 1": "as no RTS names link 0 or 1",
+}  # changes after which a definition says the same, and why
 
 
 @dataclass(frozen=True)
@@ -100,14 +75,14 @@ class Change:
     what: str
     item: Union[Definition, Structure]
 
+    @property
+    def called(self) -> str:
+        return f"{self.key[0].split('.')[-1]}.{self.key[1]}: {self.what}"
+
 
 def bound_in(term: object) -> set[str]:
     """The names that a pattern gives."""
-    if isinstance(term, Name):
-        return {term.text}
-    if isinstance(term, tuple):
-        return {name for it in term for name in bound_in(it)}
-    return bound_in(tuple(vars(term).values())) if dataclasses.is_dataclass(term) else set()
+    return {it.text for it in inside(term) if isinstance(it, Name)}
 
 
 def inner_names(term: object, field: str) -> set[str]:
@@ -205,6 +180,7 @@ class Rows:
     def __init__(self) -> None:
         self.library = Library(sources())
         self.graph: dict[Key, set[Key]] = {}
+        self.ordered: dict[Key, list[Row]] = {}
         rows = [*rows_of(self.library, files())]
         decider = Decider(self.library)
         self.rows = [(row, self.below(row)) for row in rows if computed(decider, row) == "holds"]
@@ -227,39 +203,52 @@ class Rows:
         return {(it.module, it.item.name) for it in found if isinstance(it, (Defined, Typed))}
 
     def of(self, key: Key) -> list[Row]:
-        """Those that lead to a definition, the shortest first."""
-        found = [(len(below), at, row) for at, (row, below) in enumerate(self.rows) if key in below]
-        return [row for _, _, row in sorted(found, key=lambda it: it[:2])]
+        """Those that lead to a definition: those first that noticed a change of it, and then the shortest."""
+        if key not in self.ordered:
+            found = [(len(below), at, row) for at, (row, below) in enumerate(self.rows) if key in below]
+            self.ordered[key] = [row for _, _, row in sorted(found, key=lambda it: it[:2])]
+        return self.ordered[key]
 
-    def notices(self, change: Change) -> str:
-        """What a row that notices a change comes to: it fails, or can't be computed; nothing where none does."""
+    def say(self, change: Change) -> str:
+        """What the rows say of a change."""
         own = self.library.module(change.key[0]).own
         before = own[change.key[1]]
         own[change.key[1]] = change.item
         self.library.meanings.clear()
         try:
-            decider = Decider(self.library)
-            decider.compiler.most_calls = MOST_CALLS
-            end = time.process_time() + MOST_SECONDS
-            for row in self.of(change.key):
-                found = computed(decider, row)
-                if found == "fails" or found.startswith("isn't"):
-                    return found
-                if time.process_time() > end:
-                    break
-            return ""
+            return self.tried(change)
         finally:
             own[change.key[1]] = before
             self.library.meanings.clear()
 
+    def tried(self, change: Change) -> str:
+        decider = Decider(self.library)
+        decider.compiler.most_calls = MOST_CALLS
+        end, open_ones = time.process_time() + MOST_SECONDS, 0
+        for row in [*self.of(change.key)]:
+            found = computed(decider, row)
+            if found == "fails" or found.startswith("isn't"):
+                self.ordered[change.key].remove(row)
+                self.ordered[change.key].insert(0, row)
+                return NOTICED
+            open_ones += found != "holds"
+            if time.process_time() > end:
+                return LATE
+        return EQUAL if change.called in SAME else OPEN if open_ones else MISSED
+
 
 def table(most: int = WAYS) -> Iterator[str]:
-    """A line for each definition: how many changes were tried, and those that no row notices."""
+    """A line for each file, with what rows say of the changes of its definitions; and those that none refuses."""
     rows = Rows()
-    tried = missed = 0
+    seen: dict[str, Counter[str]] = {}
+    left = []
     for key, it in sorted(page().items()):
-        found = spread([*changes(rows.library, key, it.item)], most)
-        left = [change.what for change in found if not rows.notices(change)]
-        tried, missed = tried + len(found), missed + len(left)
-        yield f"{key[0].removeprefix('Rattle.')}.{key[1]}: {len(found)} tried{f', not noticed: {left}' if left else ''}"
-    yield f"{tried} changes are tried, of which rows notice {tried - missed}"
+        for change in spread([*changes(rows.library, key, it.item)], most):
+            said = rows.say(change)
+            seen.setdefault(key[0].removeprefix("Rattle.").replace(".specs.", "/"), Counter())[said] += 1
+            left += [f"- `{change.called}`: {said}{f', {SAME[change.called]}' if said == EQUAL else ''}"] if said != NOTICED else []
+    whole = sum(seen.values(), Counter[str]())
+    yield f"| File | Tried | {' | '.join(it.capitalize() for it in SAID)} |\n|{'---|' * (2 + len(SAID))}"
+    for name, found in [*seen.items(), ("all", whole)]:
+        yield f"| {name} | {found.total()} | {' | '.join(str(found[it] or '') for it in SAID)} |"
+    yield from left

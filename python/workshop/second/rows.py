@@ -11,11 +11,12 @@ from pathlib import Path
 
 from dorydate.definitions.clauses import clauses_of, uses_of
 from dorydate.definitions.computing import Env, NotComputed, Unbound, Variable
-from dorydate.definitions.deciding import Decider, Goal
+from dorydate.definitions.deciding import Decider, Goal, mentions
 from dorydate.definitions.library import Library, Module, NoMeaning, Sources
 from dorydate.definitions.promise import sources_below
 from dorydate.definitions.reading import term_of
 from dorydate.definitions.terms import Term
+from dorydate.definitions.values import records_with
 from workshop.parts import ROOT, text_of
 
 CRATES = f"{ROOT}/crates"
@@ -25,6 +26,7 @@ OTHERS = {
 }  # what rows name of the toolchain's crates
 WORKED = "worked"  # begins the names of functions of rows, or of the file that has them
 GENERIC = ("C",)  # what a generic function is about
+FLOW, FLOW_FIELDS = "Flow", ("source", "destination", "link")
 
 
 @dataclass(frozen=True)
@@ -70,16 +72,30 @@ def rows_of(library: Library, names: Iterable[str]) -> Iterator[Row]:
 
 
 def computed(decider: Decider, row: Row) -> str:
-    """What a row comes to: `holds`, `fails`, `speaks of all`, or why it isn't computed."""
+    """What a row comes to: `holds`, `fails`, `speaks of all`, or why it isn't computed.
+
+    Where a definition speaks of all flows, as one of messages does, it is tried with those that the row's values have.
+    """
     decider.forget()
+    decider.domains.pop(FLOW, None)
     try:
-        statement = decider.statement(row.term, row.module, frozenset(GENERIC))
-        env: Env = {it: Variable(it, "") for it in GENERIC}
-        return "holds" if decider.holds((Goal(statement, env),)) else "fails"
+        try:
+            return found_of(decider, row)
+        except Unbound:
+            if mentions(row.term, FLOW):
+                return "speaks of all"
+        decider.domains[FLOW] = records_with(FLOW_FIELDS)
+        return found_of(decider, row)
     except Unbound:
         return "speaks of all"
     except (NotComputed, NoMeaning) as why:
         return f"isn't read: {why}"
+
+
+def found_of(decider: Decider, row: Row) -> str:
+    statement = decider.statement(row.term, row.module, frozenset(GENERIC))
+    env: Env = {it: Variable(it, "") for it in GENERIC}
+    return "holds" if decider.holds((Goal(statement, env),)) else "fails"
 
 
 def all_rows() -> tuple[Counter[str], list[str], list[str]]:
