@@ -225,6 +225,7 @@ def arity(type_: Term) -> int:
 def inside(term: object) -> Iterator[object]:
     """A term, or several, and all of which they are made."""
     yield term
-    parts = term if isinstance(term, (tuple, list)) else vars(term).values() if hasattr(term, "__dataclass_fields__") else ()
-    for it in parts:
+    if hasattr(term, "__dataclass_fields__"):
+        term = tuple(vars(term).values())
+    for it in term if isinstance(term, (tuple, list)) else ():
         yield from inside(it)

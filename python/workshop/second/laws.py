@@ -23,7 +23,7 @@ from workshop.second.proofs import ProofWriter, goal_of
 from workshop.second.rows import sources
 from workshop.tools import lacking
 
-CRATES = ("stream_law", "reset_law")
+CRATES = ("stream_law", "reset_law", "pairing_law")
 BY_HAND = ("Base", "Lemmas", "Linear", "Tactics")
 HERE = Path(__file__).parent
 WORDS_FILE = f"{ROOT}/python/dorydate/definitions/words.txt"

@@ -50,15 +50,17 @@ def both(text: str) -> dict[str, str]:
 NAMES = both(
     "true false, nat_lt nat_le, take drop, own partner, receives sends, from to, Dropped Stopped, receive send"
 ) | pairs(
-    "list_any list_all, min max, foreign own, zero suc, a b, receiver sender, going coming, mine yours, h peer, server user,"
-    "is_receive_socket is_send_socket"
+    "list_any list_all, min max, foreign own, zero suc, a b, receiver sender, going coming, mine yours, h peer,"
+    "server user, is_receive_socket is_send_socket"
 )
 FIELDS = both(
-    "source destination, host peer, socket foreign, own_stamp partner_stamp, Ended Closed, Out In, Down Up, Rst Rrp, Sent Arrived"
+    "source destination, host peer, socket foreign, own_stamp partner_stamp, Ended Closed, Out In, Down Up, Rst Rrp,"
+    "Sent Arrived"
 ) | pairs("messages bits, granted returned, Rfnm Dead, Dead NotTaken, Open Closing, Reset Stopped")
 WORDS_OF = {"&&": "||", "||": "&&", "<": "≤", "≤": "<", "+": "-", "-": "+", "≡": "≢", "/": "%", "%": "/", "*": "+"}
 Key = tuple[str, str]
-NOTICED, OPEN, EQUAL, LATE, MISSED = "refused by a row", "no longer of given values", "the same", "out of time", "not noticed"
+NOTICED, OPEN, EQUAL = "refused by a row", "no longer of given values", "the same"
+LATE, MISSED = "out of time", "not noticed"
 SAID = NOTICED, OPEN, EQUAL, LATE, MISSED
 SAME = {
     "Ends.course: clause 1: 0 → 1": "as before its requests nothing ends a life",
@@ -246,7 +248,8 @@ def table(most: int = WAYS) -> Iterator[str]:
         for change in spread([*changes(rows.library, key, it.item)], most):
             said = rows.say(change)
             seen.setdefault(key[0].removeprefix("Rattle.").replace(".specs.", "/"), Counter())[said] += 1
-            left += [f"- `{change.called}`: {said}{f', {SAME[change.called]}' if said == EQUAL else ''}"] if said != NOTICED else []
+            why = f", {SAME[change.called]}" if said == EQUAL else ""
+            left += [f"- `{change.called}`: {said}{why}"] if said != NOTICED else []
     whole = sum(seen.values(), Counter[str]())
     yield f"| File | Tried | {' | '.join(it.capitalize() for it in SAID)} |\n|{'---|' * (2 + len(SAID))}"
     for name, found in [*seen.items(), ("all", whole)]:
