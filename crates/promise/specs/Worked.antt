@@ -117,3 +117,16 @@ taken text = crossing.In (message second first 2 text)
 -- four texts came in at the places 0 to 3
 abbrev pub four_taken : List Crossing
 four_taken = taken (true ∷ true ∷ []) ∷ taken (false ∷ []) ∷ taken (true ∷ []) ∷ taken [] ∷ []
+
+-- ---- octets
+
+abbrev pub ten : List ℕ
+ten = 1 ∷ 2 ∷ 3 ∷ 4 ∷ 5 ∷ 6 ∷ 7 ∷ 8 ∷ 9 ∷ 10 ∷ []
+
+-- a code and two sockets below 256
+abbrev pub with_sockets : ℕ → ℕ → ℕ → List ℕ
+with_sockets code own foreign = code ∷ 0 ∷ 0 ∷ 0 ∷ own ∷ 0 ∷ 0 ∷ 0 ∷ foreign ∷ []
+
+-- an STR without a byte size
+abbrev pub no_size : List ℕ
+no_size = with_sockets 2 33 16 ++ 0 ∷ []

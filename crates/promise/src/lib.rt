@@ -23,6 +23,7 @@ mod book;
 mod life;
 pub mod worked;
 pub mod worked_books;
+pub mod worked_texts;
 
 pub use bit_log::BitLog;
 pub use book::{Called, Told};

@@ -8,8 +8,8 @@ searched, and no rule of the network. It computes the worked rows of all crates,
 those that speak of all values of a type are counted. And it judges 1,000 logs, by hand, of the examples and of random
 books with strangers and without, as `--audit` does: each part has to be the same.
 
-./check second --laws has Agda check the laws of streams and of resets, each lemma from the same text (three minutes of
-the processor). It is no part of the gate: `./check release` does it before a release.
+./check second --laws has Agda check the laws of streams, resets and pairing, each lemma from the same text (some minutes
+of the processor). It is no part of the gate: `./check release` does it before a release.
 
 ./check second --mutants changes each definition of the promise in one word, in 20 ways, and prints which of these
 changes no row notices (an hour; no part of the gate).
