@@ -86,7 +86,7 @@ pub fn worked_errors()
     ensures even { read_of (with_sockets 2 32 16 ++ 8 ∷ []) ≡ Err (fault.Erroneous 10) }
     ensures size { read_of no_size ≡ Err (fault.Erroneous 10) }
 
-    // reading goes on after a field out of range, and ends with a code that no command has, or with what is missing
+    // reading continues after a field out of range, and ends with a code that no command has, or with what is missing
     ensures goes_on { orders_in (no_size ++ 12 ∷ []) ≡ Wrong 3 no_size ∷ Legal command.Rst ∷ [] }
     ensures ends { orders_in (14 ∷ 99 ∷ []) ≡ Wrong 1 (14 ∷ 99 ∷ []) ∷ [] }
     ensures missing { orders_in (13 ∷ 7 ∷ []) ≡ Legal command.Rrp ∷ Wrong 2 (7 ∷ []) ∷ [] }

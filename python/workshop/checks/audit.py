@@ -253,7 +253,7 @@ def check_stored() -> list[str]:
 
 
 def is_read(case: Case) -> bool:
-    """Whether the model reads the network of a stored input, if that has one: it knows the plain spelling of topologies alone."""
+    """Whether the model reads the network of a stored input, if that has one: it knows the plain spelling of topologies only."""
     document, marker, _ = case.octets.decode("latin-1").partition("\n%")
     try:
         network_of(document)
