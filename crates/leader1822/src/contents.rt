@@ -19,7 +19,9 @@ ghost use Rattle.leader1822.specs.declared.flows.Pending.TheVariants as pending;
 
 use crate::flows::{Flows, Pending};
 use crate::queues::Queues;
-use interface::{Answer, CarrierFault, Crossing, Flow, HostAddr, HostMessage, Hosts, Inbound};
+use interface::{
+    Answer, CarrierFault, Crossing, Flow, HostAddr, HostMessage, Hosts, Inbound, NetEvent,
+};
 use std::alloc::{AllocError, Global};
 use std::collections::VecDeque;
 use std::marker::Model;
@@ -243,6 +245,20 @@ impl Contents {
             Some(CarrierFault::Unsettled)
         } else {
             None
+        }
+    }
+
+    /// Returns why this event may not happen.
+    pub(crate) fn step_refusal(&self, event: &NetEvent) -> Option<CarrierFault>
+        requires { IsKept self.now }
+        ensures { result ≡ boxes.step_refusal self.now.boxes event.now }
+    {
+        match event {
+            NetEvent::GiveUp(flow) => self.give_up_refusal(flow),
+            NetEvent::HostDown(host) => self.host_refusal(host),
+            NetEvent::HostUp(host) => self.host_up_refusal(host),
+            _ if self.stopped => Some(CarrierFault::Stopped),
+            _ => Some(CarrierFault::NoSuch),
         }
     }
 
@@ -496,6 +512,23 @@ impl Contents {
     {
         self.take_up(&host);
         self.cross(Crossing::Up(host))
+    }
+
+    /// Lets an event happen that isn't refused.
+    pub(crate) fn happen(&mut self, event: NetEvent) -> Result<(), AllocError>
+        requires kept { IsKept self.old }
+        requires allowed { boxes.step_refusal self.old.boxes event ≡ None }
+        ensures ok { OnOk result (self.new.boxes ≡ boxes.stepped self.old.boxes event) }
+        ensures kept { OnOk result (IsKept self.new) }
+        ensures grows { OnErr result (boxes.step_grows self.old.boxes event ≡ true) }
+        ensures err { OnErr result (KeepsLog self.old.boxes self.new.boxes) }
+    {
+        match event {
+            NetEvent::GiveUp(flow) => self.give_up(flow),
+            NetEvent::HostDown(host) => self.stop_host(host),
+            NetEvent::HostUp(host) => self.start_host(host),
+            _ => unreachable!(),
+        }
     }
 }
 

@@ -4,7 +4,7 @@ ghost use Rattle.std.specs.Prelude.{◌≡◌, false, true, length, option_copie
 ghost use Rattle.interface.specs.Host.{InOrder};
 ghost use Rattle.leader1822.specs.Answered.{AllAnswered};
 ghost use Rattle.leader1822.specs.Boxes as boxes;
-ghost use Rattle.leader1822.specs.Boxes.{BoxesDecided, opening_boxes};
+ghost use Rattle.leader1822.specs.Boxes.{opening_boxes};
 
 use crate::contents::Contents;
 use interface::{
@@ -76,7 +76,6 @@ impl PlainBoxes {
 
     /// Returns the answer at a place of those that wait for a host, 0 being the oldest, with the flow that it is about;
     /// `None` past the newest.
-    /// `None` past the newest.
     pub fn answer_at(&self, host: &HostAddr, place: usize) -> Option<(Answer, Flow)>
         ensures { result ≡ slice_get (boxes.for_host self.now.answers host.now) place }
     {
@@ -90,45 +89,6 @@ impl PlainBoxes {
         ensures answered { result ≡ true → AllAnswered self.now }
     {
         !self.contents.has_stopped() && self.contents.is_empty()
-    }
-
-    /// Gives up the outstanding message of a flow.
-    fn give_up(&mut self, flow: Flow) -> Result<(), CarrierFault>
-        ensures { BoxesDecided (boxes.give_up_refusal self.old flow) (boxes.give_up_grows self.old flow) (λ done. self.new ≡ boxes.given_up self.old flow) self.old result self.new }
-    {
-        if let Some(fault) = self.contents.give_up_refusal(&flow) {
-            return Err(fault);
-        }
-        let Ok(()) = self.contents.give_up(flow) else {
-            return Err(self.contents.halt());
-        };
-        Ok(())
-    }
-
-    /// Takes a host down.
-    fn stop_host(&mut self, host: HostAddr) -> Result<(), CarrierFault>
-        ensures { BoxesDecided (boxes.host_refusal self.old host) true (λ done. self.new ≡ boxes.host_stopped self.old host) self.old result self.new }
-    {
-        if let Some(fault) = self.contents.host_refusal(&host) {
-            return Err(fault);
-        }
-        let Ok(()) = self.contents.stop_host(host) else {
-            return Err(self.contents.halt());
-        };
-        Ok(())
-    }
-
-    /// Lets a host come up.
-    fn start_host(&mut self, host: HostAddr) -> Result<(), CarrierFault>
-        ensures { BoxesDecided (boxes.host_up_refusal self.old host) true (λ done. self.new ≡ boxes.host_started self.old host) self.old result self.new }
-    {
-        if let Some(fault) = self.contents.host_up_refusal(&host) {
-            return Err(fault);
-        }
-        let Ok(()) = self.contents.start_host(host) else {
-            return Err(self.contents.halt());
-        };
-        Ok(())
     }
 }
 
@@ -174,13 +134,13 @@ impl Carrier for PlainBoxes {
     /// `NoSuch`. Memory is needed only by `HostDown`, `HostUp`, and a `GiveUp` whose source is up and
     /// whose RFNM doesn't wait.
     fn step(&mut self, event: NetEvent) -> Result<(), CarrierFault> {
-        match event {
-            NetEvent::GiveUp(flow) => self.give_up(flow),
-            NetEvent::HostDown(host) => self.stop_host(host),
-            NetEvent::HostUp(host) => self.start_host(host),
-            _ if self.contents.has_stopped() => Err(CarrierFault::Stopped),
-            _ => Err(CarrierFault::NoSuch),
+        if let Some(fault) = self.contents.step_refusal(&event) {
+            return Err(fault);
         }
+        let Ok(()) = self.contents.happen(event) else {
+            return Err(self.contents.halt());
+        };
+        Ok(())
     }
 
     /// Changes nothing, since nothing is in transit here, and needs no memory.
