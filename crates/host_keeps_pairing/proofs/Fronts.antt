@@ -1,5 +1,5 @@
 -- What was heard of two sockets is what was said first.
-use Rattle.host_keeps_pairing.proofs.Common.{◌≡◌, ℕ, Bool, List, [], ◌∷◌, ◌++◌, refl, ap, sym, ◌∙◌, append_assoc, Host, Mark, listened, spoken}
+use Rattle.host_keeps_pairing.proofs.Common.{◌≡◌, ℕ, Bool, List, [], ◌∷◌, ◌++◌, refl, ap, sym, ◌∙◌, append_assoc, Host, Mark}
 use Rattle.std.proofs.Common.{zero, suc}
 use Rattle.pairing_law.specs.Marks.{IsOlder}
 use Rattle.pairing_law.specs.Places.{placed, tagged}
@@ -7,7 +7,7 @@ use Rattle.pairing_law.proofs.lemmas.{placed_front}
 use Rattle.reset_law.specs.Events.{Event}
 use Rattle.reset_law.specs.Runs.{IsRun}
 use Rattle.reset_law.specs.Stays as stays
-use Rattle.host_keeps_pairing.specs.Spoken.{marks_of_text, one_more, spoken_upon, untagged, upon}
+use Rattle.host_keeps_pairing.specs.Spoken.{IsHeardAsSaid, marks_of_text, one_more, spoken_upon, untagged, upon}
 use Rattle.reset_law.specs.Network.{AreOurs, Network}
 
 pub untagged_is : (place : ℕ) (text : List Bool) → untagged (tagged place text) ≡ (place, text)
@@ -45,5 +45,5 @@ front_spoken own foreign xs ys front =
     let above : Above (spoken_upon own foreign front.0 (spoken_upon own foreign xs [])) (spoken_upon own foreign xs []) = spoken_above own foreign front.0 (spoken_upon own foreign xs []) in
     (above.new, ap (λ (texts : List (List Bool)). spoken_upon own foreign texts []) (sym front.1) ∙ spoken_append own foreign xs front.0 [] ∙ above.is)
 
-pub heard_older : (hosts : Network) (events : List Event) → IsRun hosts events → (a b : Host) → AreOurs hosts a b → (own foreign : ℕ) → IsOlder (listened a b own foreign events) (spoken a b own foreign events)
+pub heard_older : (hosts : Network) (events : List Event) → IsRun hosts events → (a b : Host) → AreOurs hosts a b → IsHeardAsSaid a b events
 heard_older hosts events run a b ours own foreign = front_spoken own foreign (stays.heard_in_stay a b 0 (placed events)) (stays.said_in_stay a b 0 (placed events)) (placed_front hosts events run a b ours 0)

@@ -5,7 +5,7 @@ use Rattle.interface.specs.Host.{Host}
 use Rattle.ncp_control.specs.Packing.{spellings}
 use Rattle.ncp_control.specs.declared.command.Command.TheVariants as command
 use Rattle.host_pairs.specs.Control.{control_text, orders_of}
-use Rattle.pairing_law.specs.Marks.{Mark}
+use Rattle.pairing_law.specs.Marks.{IsOlder, Mark}
 use Rattle.pairing_law.specs.Places.{placed}
 use Rattle.reset_law.specs.Events.{Event}
 use Rattle.reset_law.specs.Example as example
@@ -41,6 +41,10 @@ spoken a b own foreign events = spoken_upon own foreign (stays.said_in_stay a b 
 -- what `b` heard of it
 abbrev pub listened : Host → Host → ℕ → ℕ → List Event → List Mark
 listened a b own foreign events = spoken_upon own foreign (stays.heard_in_stay a b 0 (placed events)) []
+
+-- of any two sockets, what `b` heard is what `a` said first, mark by mark and place by place
+abbrev pub IsHeardAsSaid : Host → Host → List Event → Type 0
+IsHeardAsSaid a b events = (own foreign : ℕ) → IsOlder (listened a b own foreign events) (spoken a b own foreign events)
 
 -- ---- words for a worked example
 

@@ -2,13 +2,13 @@
 
 ghost use Rattle.std.specs.Prelude.{◌≡◌, ℕ, Bool, List, [], ◌∷◌};
 ghost use Rattle.interface.specs.Host.{Host};
-ghost use Rattle.pairing_law.specs.Marks.{Ask, Close, IsOlder};
+ghost use Rattle.pairing_law.specs.Marks.{Ask, Close};
 ghost use Rattle.pairing_law.specs.Places.{tagged};
 ghost use Rattle.reset_law.specs.Events.{Event, In, Out, Other};
 ghost use Rattle.reset_law.specs.Example.{one, two};
 ghost use Rattle.reset_law.specs.Network.{AreOurs, Network};
 ghost use Rattle.reset_law.specs.Runs.{IsRun};
-ghost use Rattle.host_keeps_pairing.specs.Spoken.{asking, listened, reset_of_two, spoken, untagged};
+ghost use Rattle.host_keeps_pairing.specs.Spoken.{IsHeardAsSaid, asking, listened, reset_of_two, spoken, untagged};
 ghost use Rattle.host_keeps_pairing.specs.Laws.Calls.{Endings, Hearing, KnownPartners, Openings, Saying};
 ghost use Rattle.host_keeps_pairing.specs.Laws.Worked.{WorkedEndings, WorkedEnds, WorkedFinding, WorkedOpenings};
 ghost use Rattle.host_keeps_pairing.specs.Laws.Worked.{WorkedPrograms, WorkedWords};
@@ -60,7 +60,7 @@ pub fn words()
     ensures parted { (place : ℕ) (text : List Bool) → untagged (tagged place text) ≡ (place, text) }
 
     // what a host heard is what its peer said first, mark by mark and place by place
-    ensures front { (hosts : Network) (events : List Event) → IsRun hosts events → (a b : Host) → AreOurs hosts a b → (own foreign : ℕ) → IsOlder (listened a b own foreign events) (spoken a b own foreign events) }
+    ensures front { (hosts : Network) (events : List Event) → IsRun hosts events → (a b : Host) → AreOurs hosts a b → IsHeardAsSaid a b events }
 {}
 
 /// Words of two sockets: host `one` asks host `two` for a connection, and closes it, in one message.
