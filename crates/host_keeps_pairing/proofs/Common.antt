@@ -3,7 +3,6 @@ pub use Rattle.host_keeps_pairing.specs.Ends.{HasEnd, IsSound, Stand, Standing, 
 pub use Rattle.host_keeps_pairing.specs.Hearing.{AreFree, AreJoint, after_request}
 pub use Rattle.host_keeps_pairing.specs.Known.{Knows, all_known, known_after}
 pub use Rattle.host_keeps_pairing.specs.Openings.{AreAmong, all_lives_gone, all_lives_taken, with_openings}
-pub use Rattle.host_keeps_pairing.specs.Spoken.{listened, spoken}
 pub use Rattle.host_keeps_pairing.specs.Words.{AllFit, MayAllGo, all_gone, mark_in, mark_of, marks, marks_in}
 pub use Rattle.host_pairs.specs.Allowed.{commands_of}
 pub use Rattle.host_pairs.specs.Commands.{Ending, Open, Unconnected, asked_on_link, asked_with_size, at_end, changed, closed_once, cls_taken_by, entry_joined, gvb_taken, interrupted, matched_once, receiver_on, ret_taken, rts_heard, rts_taken, rts_taken_by, sender_on, str_heard, str_linked, str_taken_by}

@@ -2,7 +2,7 @@
 use Rattle.host_keeps_pairing.proofs.Common.{◌≡◌, ℕ, Bool, List, [], ◌∷◌, ◌++◌, refl, ap, sym, ◌∙◌, append_assoc, Host, Mark}
 use Rattle.std.proofs.Common.{zero, suc}
 use Rattle.pairing_law.specs.Marks.{IsOlder}
-use Rattle.pairing_law.specs.Places.{placed, tagged}
+use Rattle.pairing_law.specs.Places.{tagged}
 use Rattle.pairing_law.proofs.lemmas.{placed_front}
 use Rattle.reset_law.specs.Events.{Event}
 use Rattle.reset_law.specs.Runs.{IsRun}
@@ -27,13 +27,12 @@ above_above w v u h k = record { new = h.new ++ k.new; is = h.is ∙ ap (λ (l :
 
 upon_above : (ms word : List Mark) → Above (upon ms word) word
 upon_above [] word = above_self word
-upon_above (m ∷ ms) word = above_above (upon ms (m ∷ word)) (m ∷ word) word (upon_above ms (m ∷ word)) (record { new = m ∷ []; is = refl })
+upon_above (m ∷ ms) word = above_above _ _ _ (upon_above ms (m ∷ word)) (record { new = m ∷ []; is = refl })
 
 spoken_above : (own foreign : ℕ) (texts : List (List Bool)) (word : List Mark) → Above (spoken_upon own foreign texts word) word
 spoken_above own foreign [] word = above_self word
 spoken_above own foreign (text ∷ texts) word =
-    above_above (spoken_upon own foreign (text ∷ texts) word) (upon (marks_of_text own foreign (untagged text)) word) word
-    (spoken_above own foreign texts (upon (marks_of_text own foreign (untagged text)) word)) (upon_above (marks_of_text own foreign (untagged text)) word)
+    above_above _ _ _ (spoken_above own foreign texts (upon (marks_of_text own foreign (untagged text)) word)) (upon_above (marks_of_text own foreign (untagged text)) word)
 
 spoken_append : (own foreign : ℕ) (xs ys : List (List Bool)) (word : List Mark) → spoken_upon own foreign (xs ++ ys) word ≡ spoken_upon own foreign ys (spoken_upon own foreign xs word)
 spoken_append own foreign [] ys word = refl
@@ -46,4 +45,4 @@ front_spoken own foreign xs ys front =
     (above.new, ap (λ (texts : List (List Bool)). spoken_upon own foreign texts []) (sym front.1) ∙ spoken_append own foreign xs front.0 [] ∙ above.is)
 
 pub heard_older : (hosts : Network) (events : List Event) → IsRun hosts events → (a b : Host) → AreOurs hosts a b → IsHeardAsSaid a b events
-heard_older hosts events run a b ours own foreign = front_spoken own foreign (stays.heard_in_stay a b 0 (placed events)) (stays.said_in_stay a b 0 (placed events)) (placed_front hosts events run a b ours 0)
+heard_older hosts events run a b ours own foreign = front_spoken own foreign _ _ (placed_front hosts events run a b ours 0)

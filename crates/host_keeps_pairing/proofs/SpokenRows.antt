@@ -1,11 +1,11 @@
 -- Words of two sockets, computed.
-use Rattle.host_keeps_pairing.proofs.Common.{◌≡◌, [], ◌∷◌, refl, Ask, Close, listened, spoken}
+use Rattle.host_keeps_pairing.proofs.Common.{◌≡◌, [], ◌∷◌, refl, Ask, Close}
 use Rattle.bit_messages.specs.Octets.{octets_of}
 use Rattle.ncp_control.specs.Reading.{command_of, read_of}
 use Rattle.reset_law.specs.Events.{In, Out, Other}
 use Rattle.reset_law.specs.Example.{one, two}
 use Rattle.host_pairs.specs.Control.{orders_of}
-use Rattle.host_keeps_pairing.specs.Spoken.{asking, reset_of_two}
+use Rattle.host_keeps_pairing.specs.Spoken.{asking, listened, reset_of_two, spoken}
 
 pub row_said : spoken one two 16 33 (Out one two 0 (Other asking) ∷ reset_of_two) ≡ Close ∷ Ask 5 ∷ []
 unfolding octets_of orders_of read_of command_of
