@@ -124,15 +124,14 @@ impl Carrier for PlainBoxes {
         Ok(inbound)
     }
 
-    /// Lets an event happen: `GiveUp` takes the message of the flow out of its queue, or withdraws its RFNM, and queues
-    /// Incomplete for the source, if that is up. `HostDown` clears what waits for the host, and each message gives its
-    /// source Dead, if that is up. `HostUp` lets the host take and offer again.
+    /// Lets an event happen. What is given up leaves its queue, or its RFNM is withdrawn, and Incomplete waits for the
+    /// source, if that is up. Of a host that goes down all that waits for it is cleared, and each message gives its source
+    /// Dead, if that is up. A host that comes up takes and offers again.
     ///
-    /// Errors: of `GiveUp` `NoSuch` where the source isn't a host of the network, `NotOutstanding` where
-    /// neither a message of the flow nor its RFNM waits; of `HostDown` `NoSuch` and `IsDown`; of `HostUp`
-    /// `NoSuch`, `IsUp`, and `Unsettled` while a message of the host's own waits; of every other event
-    /// `NoSuch`. Memory is needed only by `HostDown`, `HostUp`, and a `GiveUp` whose source is up and
-    /// whose RFNM doesn't wait.
+    /// Errors: of giving up `NoSuch` where the source isn't a host of the network, `NotOutstanding` where neither a message
+    /// of the flow nor its RFNM waits; of going down `NoSuch` and `IsDown`; of coming up `NoSuch`, `IsUp`, and `Unsettled`
+    /// while a message of the host's own waits; of every other event `NoSuch`. Giving up needs memory only where the source is
+    /// up and the RFNM doesn't wait; going down and coming up do always.
     fn step(&mut self, event: NetEvent) -> Result<(), CarrierFault> {
         if let Some(fault) = self.contents.step_refusal(&event) {
             return Err(fault);
