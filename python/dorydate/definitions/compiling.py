@@ -58,6 +58,7 @@ from dorydate.definitions.terms import (
     Unknown,
     arity,
     head_of,
+    result_of,
 )
 from dorydate.definitions.values import FALSE, NIL, NONE, TRUE, Data, Lambda, Value, applied, data, forget, listed
 from dorydate.definitions.words import NATIVE
@@ -173,9 +174,7 @@ class Compiler:
 
     def gives_statement(self, type_: Term) -> bool:
         """Whether what has this type is a statement, once it has its arguments."""
-        while isinstance(type_, ForAll):
-            type_ = type_.body
-        return isinstance(type_, Universe)
+        return isinstance(result_of(type_), Universe)
 
     # ---- expressions
 

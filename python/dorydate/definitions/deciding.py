@@ -48,6 +48,7 @@ from dorydate.definitions.terms import (
     Term,
     head_of,
     inside,
+    taken_types,
 )
 from dorydate.definitions.values import FALSE, TRUE, Data, Lambda, Struct, Value, items_of
 
@@ -652,16 +653,6 @@ def free_in(goals: Goals) -> list[Variable]:
         for slot in goal.env.values():
             walk(slot)
     return [*found]
-
-
-def taken_types(type_: Term) -> list[Term]:
-    """The types of the arguments that a definition of this type takes, without those in braces."""
-    found = []
-    while isinstance(type_, ForAll):
-        if not type_.binder.implicit:
-            found += [type_.binder.type] * max(len(type_.binder.names), 1)
-        type_ = type_.body
-    return found
 
 
 def type_name(type_: Term) -> str:

@@ -213,13 +213,25 @@ def for_all(binders: tuple[Binder, ...], body: Term) -> Term:
     return body
 
 
+def taken_types(type_: Term) -> list[Term]:
+    """The types of the arguments that something of this type takes, without those in braces."""
+    found: list[Term] = []
+    while isinstance(type_, ForAll):
+        found += [] if type_.binder.implicit else [type_.binder.type] * max(len(type_.binder.names), 1)
+        type_ = type_.body
+    return found
+
+
 def arity(type_: Term) -> int:
     """How many arguments, without those in braces, something of this type takes."""
-    count = 0
+    return len(taken_types(type_))
+
+
+def result_of(type_: Term) -> Term:
+    """The type of what is left once all arguments are given."""
     while isinstance(type_, ForAll):
-        count += 0 if type_.binder.implicit else max(len(type_.binder.names), 1)
         type_ = type_.body
-    return count
+    return type_
 
 
 def inside(term: object) -> Iterator[object]:

@@ -77,7 +77,7 @@ def main() -> int:
         print("check second: laws are refused" if wrong else "check second: the laws are proved a second time")
         return 1 if wrong else 0
     if sys.argv[1:] == ["--mutants"]:
-        print(*deeply(mutants.table), sep="\n")
+        print(*deeply(lambda: [*mutants.table()]), sep="\n")
         return 0
     count = next((int(it) for it in sys.argv[1:]), LOGS)
     wrong = [*in_agda(), *worked(), *judge(count)]

@@ -42,54 +42,11 @@ from dorydate.definitions.terms import (
 from workshop.parts import ROOT, text_of
 
 BASE = Path(__file__).with_name("Base.agda")
-BUILT_IN = {
-    "zero",
-    "suc",
-    "true",
-    "false",
-    "[]",
-    "Some",
-    "None",
-    "Ok",
-    "Err",
-    "nat_lt",
-    "Option",
-    "Result",
-    "List",
-    "Bool",
-    "ℕ",
-    "⊥",
-}
-FORMS = {"zero", "suc", "true", "false", "None", "Some", "Ok", "Err", "inl", "inr", "refl", "tt"}
+BUILT_IN = {*"zero suc true false [] Some None Ok Err nat_lt Option Result List Bool ℕ ⊥".split()}
+FORMS = {*"zero suc true false None Some Ok Err inl inr refl tt".split()}
 KEYWORDS = {
-    "field",
-    "open",
-    "where",
-    "data",
-    "record",
-    "module",
-    "let",
-    "in",
-    "to",
-    "renaming",
-    "using",
-    "hiding",
-    "import",
-    "with",
-    "abstract",
-    "rewrite",
-    "do",
-    "quote",
-    "syntax",
-    "tactic",
-    "macro",
-    "instance",
-    "private",
-    "public",
-    "forall",
-    "constructor",
-    "pattern",
-    "variable",
+    *"field open where data record module let in to renaming using hiding import with abstract rewrite do quote".split(),
+    *"syntax tactic macro instance private public forall constructor pattern variable".split(),
 }
 NUMBERS = {"u8", "u16", "u32", "u64", "u128", "usize"}
 WIDTHS = {"w8": "1", "w16": "2", "w32": "4", "w64": "8", "w128": "16"}
@@ -227,23 +184,23 @@ class Writer:
 
     # ---- names
 
+    def meaning_of(self, term: Term, module: str, local: frozenset[str] = frozenset()) -> Meaning | None:
+        """What a name of a file or of its imports means; None of any other term."""
+        here = self.library.module(module)
+        if isinstance(term, Name) and (term.text in here.own or term.text in here.forms or term.text in here.names):
+            return self.library.meaning(module, term.text)
+        if isinstance(term, Field) and isinstance(term.of, Name) and term.of.text in {*here.aliases} - local:
+            return self.library.meaning(module, term.name, term.of.text)
+        return None
+
     def meant(self, term: Term, module: str, local: frozenset[str]) -> str | None:
         """What a name is in Agda; None of a term that is none."""
-        here = self.library.module(module)
-        if isinstance(term, Name):
-            if term.text in local:
-                return variable(term.text)
-            if term.text in here.own or term.text in here.forms or term.text in here.names:
-                return self.of_meaning(self.library.meaning(module, term.text), module, term.text)
-            return self.built_in(term.text)
-        if (
-            isinstance(term, Field)
-            and isinstance(term.of, Name)
-            and term.of.text in here.aliases
-            and term.of.text not in local
-        ):
-            return self.of_meaning(self.library.meaning(module, term.name, term.of.text), module, term.name)
-        return None
+        if isinstance(term, Name) and term.text in local:
+            return variable(term.text)
+        if meaning := self.meaning_of(term, module, local):
+            assert isinstance(term, (Name, Field))
+            return self.of_meaning(meaning, module, term.text if isinstance(term, Name) else term.name)
+        return self.built_in(term.text) if isinstance(term, Name) else None
 
     def built_in(self, name: str) -> str:
         words = self.library.module(WORDS)

@@ -66,6 +66,7 @@ SAME = {
     "Ends.course: clause 1: 0 → 1": "as before its requests nothing ends a life",
     "Arrived.HasArrived: after: < → ≤": "as no message comes in at the place where it goes out",
     "Notices.TellsOf: off_control: 0 → 1": "as no RTS names link 0 or 1",
+    "Fates.ClosesWhole: took_handed: receiver → sender (3)": "as `took_sent` says that they have the same bits",
 }  # changes after which a definition says the same, and why
 
 
@@ -142,20 +143,27 @@ class Changer:
 
 
 def changes(library: Library, key: Key, item: Definition | Structure) -> Iterator[Change]:
-    """The changes of a definition: of the values of its clauses, or of what its fields say."""
-    changer = Changer(library, key[0])
+    """The changes of a definition, each with what it is called; the second of one kind in one part is numbered, too."""
+    seen = Counter[str]()
+    for what, other in changed_items(Changer(library, key[0]), item):
+        seen[what] += 1
+        yield Change(key, what if seen[what] == 1 else f"{what} ({seen[what]})", other)
+
+
+def changed_items(changer: Changer, item: Definition | Structure) -> Iterator[tuple[str, Definition | Structure]]:
+    """A definition with another word in the value of a clause, or in what a field says."""
     if isinstance(item, Structure):
         local = frozenset(name for it in item.binders for name in it.names)
         for at, member in enumerate(item.members):
             for what, type_ in changer.changed(member.type, local):
                 members = (*item.members[:at], replace(member, type=as_term(type_)), *item.members[at + 1 :])
-                yield Change(key, f"{member.name}: {what}", replace(item, members=members))
+                yield f"{member.name}: {what}", replace(item, members=members)
             local |= {member.name}
         return
     for at, clause in enumerate(item.clauses):
         for what, value in changer.changed(clause.value, frozenset(bound_in(clause.patterns))):
             clauses = [*item.clauses[:at], replace(clause, value=as_term(value)), *item.clauses[at + 1 :]]
-            yield Change(key, f"clause {at + 1}: {what}", replace(item, clauses=clauses))
+            yield f"clause {at + 1}: {what}", replace(item, clauses=clauses)
 
 
 def as_term(term: object) -> Term:

@@ -35,6 +35,8 @@ from dorydate.definitions.terms import (
     Unknown,
     arity,
     head_of,
+    result_of,
+    taken_types,
 )
 from workshop.parts import ROOT, text_of
 from workshop.second.agda import NotWritten, Writer, mangled, variable
@@ -170,14 +172,6 @@ class ProofWriter(Writer):
             return meaning.structure.is_record and bool(meaning.structure.binders)
         return isinstance(meaning, Defined) and isinstance(result_of(meaning.definition.type), Universe)
 
-    def meaning_of(self, term: Term, module: str) -> Meaning | None:
-        here = self.library.module(module)
-        if isinstance(term, Name) and (term.text in here.own or term.text in here.forms or term.text in here.names):
-            return self.library.meaning(module, term.text)
-        if isinstance(term, Field) and isinstance(term.of, Name) and term.of.text in here.aliases:
-            return self.library.meaning(module, term.name, term.of.text)
-        return None
-
     # ---- goals: what the clauses of a function say
 
     def goal(self, term: Term, module: str, local: Local) -> str:
@@ -242,7 +236,7 @@ class ProofWriter(Writer):
     def selection(self, meaning: Typed) -> Iterator[str]:
         """What selects by the form of a value: where it waits for that, two of them are one if what they give is."""
         name = self.name_of(meaning.module, meaning.structure.name)
-        forms = [(it.name, arity(it.type), arrow_parts(it.type)) for it in meaning.structure.members]
+        forms = [(it.name, arity(it.type), taken_types(it.type)) for it in meaning.structure.members]
         types = [
             f"({' → '.join([*(self.term(part, meaning.module, frozenset()) for part in parts), 'X'])})"
             for _, _, parts in forms
@@ -340,21 +334,6 @@ def parts_of(pattern: Term) -> tuple[Term, ...]:
 
 def names_itself(item: Definition) -> bool:
     return f"'{item.name}'" in repr([it.value for it in item.clauses])
-
-
-def result_of(type_: Term) -> Term:
-    while isinstance(type_, ForAll):
-        type_ = type_.body
-    return type_
-
-
-def arrow_parts(type_: Term) -> list[Term]:
-    """What a form takes: the types of its parts."""
-    found = list[Term]()
-    while isinstance(type_, ForAll):
-        found += [type_.binder.type] * max(len(type_.binder.names), 1)
-        type_ = type_.body
-    return found
 
 
 def goal_of(library: Library, module: str, name: str) -> tuple[Term, str]:
