@@ -12,7 +12,7 @@ books with strangers and without, as `--audit` does: each part has to be the sam
 of the processor). It is no part of the gate: `./check release` does it before a release.
 
 ./check second --mutants changes each definition of the promise in one word, in 20 ways, and prints which of these
-changes no row notices (an hour; no part of the gate).
+changes no row refuses, and why (some minutes; no part of the gate). One that no row notices lacks a row.
 """
 
 from __future__ import annotations
@@ -77,8 +77,9 @@ def main() -> int:
         print("check second: laws are refused" if wrong else "check second: the laws are proved a second time")
         return 1 if wrong else 0
     if sys.argv[1:] == ["--mutants"]:
-        print(*deeply(lambda: [*mutants.table()]), sep="\n")
-        return 0
+        lines = deeply(lambda: [*mutants.table()])
+        print(*lines, sep="\n")
+        return 1 if any(it.endswith((mutants.LATE, mutants.MISSED)) for it in lines) else 0
     count = next((int(it) for it in sys.argv[1:]), LOGS)
     wrong = [*in_agda(), *worked(), *judge(count)]
     print(*wrong[:10], sep="\n", end="\n" if wrong else "")
