@@ -15,8 +15,9 @@ pub fn whole_closes()
     ensures closed { ClosesWhole crossings (over giver ∷ over taker_of_nothing ∷ []) (eight ∷ [] ∷ []) (fate.Closed ∷ fate.Closed ∷ []) }
     ensures reset { ClosesWhole crossings (over giver ∷ over taker_of_nothing ∷ []) (eight ∷ [] ∷ []) (fate.Closed ∷ fate.Reset ∷ []) }
 
-    // otherwise not, nor may it have another number of messages
+    // otherwise not, nor may it have other bits, or another number of messages
     ensures less { ClosesWhole crossings (over giver ∷ over taker_of_nothing ∷ []) (eight ∷ [] ∷ []) (fate.Closed ∷ fate.Ended ∷ []) → ⊥ }
+    ensures other { ClosesWhole crossings (over (record giver { bits = four }) ∷ over taker ∷ []) (eight ∷ [] ∷ []) (fate.Closed ∷ fate.Ended ∷ []) → ⊥ }
     ensures messages { ClosesWhole crossings (over giver ∷ over (record taker { messages = 2 }) ∷ []) (eight ∷ [] ∷ []) (fate.Closed ∷ fate.Ended ∷ []) → ⊥ }
 
     // nor may more have been handed over than was sent, also if nothing was

@@ -76,6 +76,13 @@ returns-clause-less c u =
     (record { receiving = refl; sending = refl; peers = (refl, refl); sockets = (refl, refl); asked = refl; answered = refl })).0 in
     absurd (cc)
 
+pub returns-clause-other : goal.returns-clause-other
+returns-clause-other c u =
+    let bits : eight ≡ four =
+    (u.took_sent (over taker) (over (record giver { bits = four })) (inr (inl (refl, refl))) (0, omega arith, refl)
+    (record { receiving = refl; sending = refl; peers = (refl, refl); sockets = (refl, refl); asked = refl; answered = refl })).0 in
+    absurd (cc)
+
 pub returns-clause-messages : goal.returns-clause-messages
 returns-clause-messages c u =
     let count : 2 ≡ 1 =
