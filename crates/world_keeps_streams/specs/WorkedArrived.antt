@@ -23,11 +23,12 @@ answered_log = crossing.Answer answer.Rfnm on_two ∷ sent_log
 abbrev pub took_nothing : Life
 took_nothing = record took { bits = []; messages = 0 }
 
--- the two requests, and the CLS of the sending user, which was taken
+-- the two requests, and the CLS of the sending user, which went out, and was taken
+abbrev pub coming_log : List Crossing
+coming_log = crossing.Out partner_cls ∷ crossing.In str ∷ crossing.Out str ∷ crossing.In rts ∷ crossing.Out rts ∷ []
+
 abbrev pub closed_log : List Crossing
-closed_log =
-    crossing.In partner_cls ∷ crossing.Out partner_cls ∷ crossing.In str ∷ crossing.Out str ∷ crossing.In rts
-    ∷ crossing.Out rts ∷ []
+closed_log = crossing.In partner_cls ∷ coming_log
 
 -- the two lives, and a sending one that says that it had sent a message
 abbrev pub closed_receiver : Life

@@ -5,7 +5,7 @@ ghost use Rattle.std.specs.Prelude.{[], ◌∷◌};
 ghost use Rattle.promise.specs.Arrived.{ArrivedBook, HasArrived};
 ghost use Rattle.promise.specs.declared.life.Fate.TheVariants as fate;
 ghost use Rattle.world_keeps_lives.specs.WorkedFormed.{gave, sent_log, took};
-ghost use Rattle.world_keeps_streams.specs.WorkedArrived.{answered_log, closed_log, closed_receiver, closed_sender, on_two, sent_more, took_nothing};
+ghost use Rattle.world_keeps_streams.specs.WorkedArrived.{answered_log, closed_log, closed_receiver, closed_sender, coming_log, on_two, sent_more, took_nothing};
 
 /// RFNM of a message with eight bits.
 pub fn worked_rfnm()
@@ -25,6 +25,9 @@ pub fn worked_open()
 
     // the partner had sent a message that didn't come
     ensures lost { ArrivedBook [] closed_log (closed_receiver ∷ sent_more ∷ []) (fate.Open ∷ fate.Open ∷ []) → ⊥ }
+
+    // before its CLS has come, one may be on its way
+    ensures coming { ArrivedBook [] coming_log (closed_receiver ∷ sent_more ∷ []) (fate.Open ∷ fate.Open ∷ []) }
 
     // a message came in that an open life doesn't count
     ensures uncounted { ArrivedBook [] sent_log (took_nothing ∷ gave ∷ []) (fate.Open ∷ fate.Open ∷ []) → ⊥ }

@@ -10,7 +10,7 @@ use Rattle.promise.specs.Formed.{link_of}
 use Rattle.promise.specs.Safe.{receives}
 use Rattle.promise.specs.declared.life.Fate.TheVariants as fate
 use Rattle.promise.specs.declared.life.Life.{Life}
-use Rattle.world_keeps_streams.specs.WorkedArrived.{closed_log, closed_receiver, closed_sender, sent_more}
+use Rattle.world_keeps_streams.specs.WorkedArrived.{closed_log, closed_receiver, closed_sender, coming_log, sent_more}
 use Rattle.world_keeps_streams.proofs.worked_arrived.worked_open.Goals as goal
 
 -- ---- a log without answers
@@ -46,6 +46,37 @@ closed_link = refl
 closed_stage : stage [] closed_receiver closed_log ≡ Going false true
 unfolding octets_of orders_of read_of command_of
 closed_stage = refl
+
+coming_link : link_of coming_log closed_receiver ≡ Some 2
+unfolding octets_of orders_of read_of command_of
+coming_link = refl
+
+coming_stage : stage [] closed_receiver coming_log ≡ Going false false
+unfolding octets_of orders_of read_of command_of
+coming_stage = refl
+
+pub returns-clause-coming : goal.returns-clause-coming
+unfolding is_answer all_other
+returns-clause-coming c = record {
+  all = λ x i kind. all_of x kind i;
+  closed = λ r s own i is there m. absurd (on_its_way r s own m i is);
+  answered = λ newer older f e off. absurd (none_answered coming_log newer older f refl e);
+} where
+  all_of : (x : Life) → receives x ≡ true → IsBeside x fate.Open (closed_receiver ∷ sent_more ∷ [])
+      (fate.Open ∷ fate.Open ∷ []) → x.messages ≡ length (texts_on x (link_of coming_log x) coming_log)
+  all_of x kind (inl i) = subst (λ (y : Life). y.messages ≡ length (texts_on y (link_of coming_log y) coming_log))
+      (sym i.0) (ap (λ (o : Option ℕ). length (texts_on closed_receiver o coming_log)) (sym coming_link))
+  all_of x kind (inr (inl i)) = absurd (let no : false ≡ true = ap receives (sym i.0) ∙ kind in cc)
+  all_of x kind (inr (inr i)) = absurd i
+
+  on_its_way : (r s : Life) (own : Bool) → Match coming_log r s → IsBeside r fate.Open (closed_receiver ∷ sent_more ∷ [])
+      (fate.Open ∷ fate.Open ∷ []) → stage [] r coming_log ≡ Going own true → ⊥
+  on_its_way r s own m (inl i) is =
+      let no : Going false false ≡ Going own true =
+      sym coming_stage ∙ ap (λ (y : Life). stage [] y coming_log) (sym i.0) ∙ is in
+      absurd (cc)
+  on_its_way r s own m (inr (inl i)) is = absurd (let no : false ≡ true = ap receives (sym i.0) ∙ m.receiving in cc)
+  on_its_way r s own m (inr (inr i)) is = absurd i
 
 pub returns-clause-closed : goal.returns-clause-closed
 unfolding is_answer all_other
