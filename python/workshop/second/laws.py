@@ -13,7 +13,7 @@ from pathlib import Path
 
 from dorydate.definitions.files import Definition, Group, Item, Structure, Use
 from dorydate.definitions.library import WORDS, Defined, Library, Typed
-from dorydate.definitions.promise import deeply
+from dorydate.definitions.promise import WORDS_FILE, deeply
 from dorydate.definitions.reach import Reach, terms_of
 from dorydate.definitions.terms import Field, Name, inside
 from workshop.parts import ROOT
@@ -26,7 +26,6 @@ from workshop.tools import lacking
 CRATES = ("stream_law", "reset_law", "pairing_law")
 BY_HAND = ("Base", "Lemmas", "Linear", "Tactics")
 HERE = Path(__file__).parent
-WORDS_FILE = f"{ROOT}/python/dorydate/definitions/words.txt"
 HEAD = "{-# OPTIONS --safe #-}"
 TACTICS = "open import Tactics using (rw-; cc-; omega-; search-; eq-or-lt-; no-facts; _&_)"
 
@@ -204,7 +203,7 @@ def file_of(module: str) -> Path:
 
 def by_hand() -> list[str]:
     """What is written by hand: its files, with their lines."""
-    files = [*map(file_of, BY_HAND), Path(WORDS_FILE)]
+    files = [*map(file_of, BY_HAND), WORDS_FILE]
     return [f"{it.name} {len(it.read_text(encoding='utf-8').splitlines())} lines" for it in files]
 
 

@@ -67,6 +67,7 @@ SAME = {
     "Arrived.HasArrived: after: < → ≤": "as no message comes in at the place where it goes out",
     "Notices.TellsOf: off_control: 0 → 1": "as no RTS names link 0 or 1",
     "Fates.ClosesWhole: took_handed: receiver → sender (3)": "as `took_sent` says that they have the same bits",
+    "Sent.WasSent: nth: receiver → sender (2)": "as it is asked of a message that both count, on its link",
 }  # changes after which a definition says the same, and why
 
 
