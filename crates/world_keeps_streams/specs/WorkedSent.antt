@@ -35,3 +35,7 @@ took_early = record took { own_stamp = 7; partner_stamp = 11 }
 
 abbrev pub gave_early : Life
 gave_early = record gave { own_stamp = 9; partner_stamp = 8 }
+
+-- it comes in, and never went out
+abbrev pub unsent_log : List Crossing
+unsent_log = crossing.In eight_sent ∷ drop 2 sent_log

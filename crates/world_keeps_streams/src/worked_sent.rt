@@ -4,8 +4,8 @@
 ghost use Rattle.std.specs.Prelude.{[], ◌∷◌};
 ghost use Rattle.net_sim.specs.WorkedMoments.{eight_sent};
 ghost use Rattle.world_keeps_lives.specs.WorkedFormed.{gave, sent_log, stray, stray_log, took, two_log, zeros_sent};
-ghost use Rattle.world_keeps_streams.specs.Sent.{WasSent};
-ghost use Rattle.world_keeps_streams.specs.WorkedSent.{again_log, early_log, gap_log, gave_early, gave_twice, took_early, took_twice};
+ghost use Rattle.world_keeps_streams.specs.Sent.{EachWasSent, WasSent};
+ghost use Rattle.world_keeps_streams.specs.WorkedSent.{again_log, early_log, gap_log, gave_early, gave_twice, took_early, took_twice, unsent_log};
 
 /// Messages of eight bits that were sent, and taken.
 pub fn worked_sent()
@@ -24,4 +24,7 @@ pub fn worked_sent()
     // one of another link, and one that no life sent
     ensures link { WasSent stray_log (took ∷ gave ∷ []) 13 stray took → ⊥ }
     ensures stray { WasSent sent_log (took ∷ []) 16 eight_sent took → ⊥ }
+
+    // what a receiving life counts, and nobody sent
+    ensures unsent { EachWasSent unsent_log (took ∷ []) → ⊥ }
 {}

@@ -1,4 +1,4 @@
-use Rattle.world_keeps_streams.proofs.Common.{◌≡◌, ℕ, ◌<◌, true, false, List, [], ◌∷◌, length, Option, Some}
+use Rattle.world_keeps_streams.proofs.Common.{◌≡◌, inl, ℕ, ◌<◌, true, false, List, [], ◌∷◌, length, Option, Some}
 use Rattle.world_keeps_streams.proofs.Common.{refl, ap, sym}
 use Rattle.world_keeps_streams.proofs.Common.{subst, ◌∙◌, arith, option_map, Flow, Crossing, HostMessage, IsCounted}
 use Rattle.world_keeps_streams.proofs.Common.{texts_on, last_out, Match, some_is, eight_sent, gave, each_in}
@@ -10,7 +10,7 @@ use Rattle.promise.specs.Safe.{before, sends}
 use Rattle.promise.specs.declared.life.Life.{Life}
 use Rattle.world_keeps_lives.specs.WorkedFormed.{stray, stray_log, took, two_log}
 use Rattle.world_keeps_streams.specs.Sent.{WasSent}
-use Rattle.world_keeps_streams.specs.WorkedSent.{again_log, early_log, gap_log, gave_twice, took_twice}
+use Rattle.world_keeps_streams.specs.WorkedSent.{again_log, early_log, gap_log, gave_twice, took_twice, unsent_log}
 use Rattle.world_keeps_streams.proofs.worked_sent.worked_sent.Goals as goal
 
 -- the lives have link 2
@@ -118,5 +118,22 @@ returns-clause-link c w = by_sender stray_log took 13 stray refl w (λ is.
 
 pub returns-clause-stray : goal.returns-clause-stray
 returns-clause-stray c w =
+    each_in (λ (y : Life). w.sender ≡ y → ⊥) (took ∷ []) w.sender w.there
+    ((λ is. absurd (let no : true ≡ false = sym w.matches.sending ∙ ap sends is in cc)), tt) refl
+
+took_unsent : link_of unsent_log took ≡ Some 2
+unfolding octets_of orders_of read_of command_of
+took_unsent = refl
+
+pub returns-clause-unsent : goal.returns-clause-unsent
+returns-clause-unsent c each =
+    let w : WasSent unsent_log (took ∷ []) 15 eight_sent took =
+    each took 15 eight_sent (0, omega arith, refl) refl (inl (refl, refl)) (record {
+      flow = ap (option_map (flow_of took)) took_unsent;
+      own = omega arith;
+      partner = omega arith;
+      counted = subst (λ (o : Option ℕ). length (texts_on took o (before 15 unsent_log)) < 1) (sym took_unsent)
+          (omega arith);
+    }) in
     each_in (λ (y : Life). w.sender ≡ y → ⊥) (took ∷ []) w.sender w.there
     ((λ is. absurd (let no : true ≡ false = sym w.matches.sending ∙ ap sends is in cc)), tt) refl
