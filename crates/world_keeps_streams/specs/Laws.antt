@@ -236,6 +236,9 @@ pub record Among : Type 0 where
       AreOurs hosts receiver.host receiver.peer → Contains (kept_in moments).book.lives receiver →
       receives receiver ≡ true → (receiver.bits ≡ [] → ⊥) →
       Source (crossings_of moments) (kept_in moments).book.lives receiver
+  pub was_sent :
+      (hosts : Network) (moments : List Moment) → MayBe hosts moments →
+      EachWasSent (crossings_of moments) (lives_among hosts.strange (kept_in moments).book.lives)
   pub closes :
       (hosts : Network) (moments : List Moment) → MayBe hosts moments → (receiver : Life) →
       AreOurs hosts receiver.host receiver.peer → (closed : WasClosedByPartner moments receiver) →

@@ -24,7 +24,8 @@ pub record WasSent (log : List Crossing) (lives : List Life) (place : ℕ) (m : 
   pub nth : length (texts_on sender (link_of log sender) (before out log))
       ≡ length (texts_on receiver (link_of log receiver) (before place log))
 
--- so it is of each message that a receiving life counts, whatever its bits
+-- the k-th message that a receiving life counts went out as the k-th of the sending life that it matches, whatever its
+-- bits: no other, none twice, and none left out before it
 abbrev pub EachWasSent : List Crossing → List Life → Type 0
 EachWasSent log lives =
     (receiver : Life) (place : ℕ) (m : HostMessage) → Contains lives receiver → receives receiver ≡ true

@@ -2,18 +2,18 @@
 -- lemmas: Sender `goes_there` (while a message
 -- waits on its link and the sender's host stays, the sending life isn't over), `all_out` (that life counts all that
 -- went out there), `was_sent`.
-use Rattle.world_keeps_streams.proofs.Common.{◌≡◌, ◌⊎◌, inl, inr, ℕ, suc, ◌+◌, ◌<◌, ◌≤◌, ◌==◌, Bool, true, false}
+use Rattle.world_keeps_streams.proofs.Common.{◌≡◌, inl, inr, ℕ, suc, ◌+◌, ◌<◌, ◌≤◌, ◌==◌, Bool, true, false}
 use Rattle.world_keeps_streams.proofs.Common.{if◌then◌else◌, List, [], ◌∷◌, ◌++◌, length, map, filter, Option, Some}
-use Rattle.world_keeps_streams.proofs.Common.{None, refl, ap, sym, subst, ◌∙◌, eq-eqb, arith, option_map}
+use Rattle.world_keeps_streams.proofs.Common.{refl, ap, sym, subst, ◌∙◌, eq-eqb, arith, option_map}
 use Rattle.world_keeps_streams.proofs.Common.{append_assoc, length-append, Contains, Seen, Host, Flow, Crossing}
 use Rattle.world_keeps_streams.proofs.Common.{HostMessage, same_flow-true, same_host, waits_with, box_of}
 use Rattle.world_keeps_streams.proofs.Common.{is_receive_socket, is_send_socket, sends_on, Entry, some_is, waiting_of}
 use Rattle.world_keeps_streams.proofs.Common.{waits_of, IsPosted, Lies, Post, boxes, gone_now, numbered}
-use Rattle.world_keeps_streams.proofs.Common.{numbered_tells, sender_now, numbered_by_peer, name_of, pair_with}
+use Rattle.world_keeps_streams.proofs.Common.{numbered_tells, numbered_by_peer, name_of, pair_with}
 use Rattle.world_keeps_streams.proofs.Common.{IsCounted, CrossedAt, text_of, texts_for, texts_of, texts_on, Match}
-use Rattle.world_keeps_streams.proofs.Common.{own_request, last_out, IsLawful, Asked, Crossed, Moment, event_in}
+use Rattle.world_keeps_streams.proofs.Common.{last_out, IsLawful, Asked, Crossed, Moment}
 use Rattle.world_keeps_streams.proofs.Common.{events_of, program, crossings_of, seen_box, WorldState, box_same}
-use Rattle.world_keeps_streams.proofs.Common.{book_lives, own_calls, odd_send, send_odd}
+use Rattle.world_keeps_streams.proofs.Common.{book_lives, own_calls, send_odd, AreOurs, Network}
 use Rattle.interface.specs.Flow.{same_flow}
 use Rattle.interface.specs.Mailboxes as mail
 use Rattle.interface.specs.declared.crossing.Crossing.TheVariants as crossing
@@ -22,14 +22,14 @@ use Rattle.stream_law.specs.Senders.{Sender}
 use Rattle.stream_law.specs.Streams.{Box, Empty, Taken, Waiting}
 use Rattle.reset_law.specs.Stays as stay
 use Rattle.host_keeps_streams.specs.Ends.{AreSender}
-use Rattle.promise.specs.Formed.{IsFormed, flow_of, link_of}
+use Rattle.promise.specs.Formed.{flow_of, link_of}
 use Rattle.promise.specs.Safe.{before, receives, sends}
 use Rattle.promise.specs.declared.life.Life.{Life}
 use Rattle.net_sim.proofs.lemmas.{flow_of as flow_from}
-use Rattle.net_sim.specs.Book.{life_ended}
 use Rattle.world_keeps_lives.specs.Firsts.{IsSentIn}
 use Rattle.reset_law.specs.Network.{all_ours}
 use Rattle.world_keeps_lives.proofs.lemmas.{crossed_below}
+use Rattle.world_keeps_lives.proofs.lemmas.AllOurs.{among_all}
 use Rattle.world_keeps_lives.proofs.lemmas.Books.{linked_end}
 use Rattle.world_keeps_lives.proofs.lemmas.Formed.{end_link}
 use Rattle.world_keeps_lives.proofs.lemmas.Full.{Latest, WasThere, full, latest, were_there}
@@ -43,19 +43,24 @@ use Rattle.world_keeps_streams.proofs.Books.Closes as closes
 use Rattle.world_keeps_streams.proofs.Books.Closes.{AtLink}
 use Rattle.world_keeps_streams.proofs.Books.Ended.{all_crossings}
 use Rattle.world_keeps_streams.proofs.Books.Ending.{at_link}
-use Rattle.world_keeps_streams.proofs.Books.Firsts.{all_formed, firsts, together}
+use Rattle.world_keeps_streams.proofs.Books.Firsts.{formed, sent_in, together}
 use Rattle.world_keeps_streams.proofs.Books.Later.{named_request}
 use Rattle.world_keeps_streams.proofs.Books.Placed.{before_end, before_later, link_later}
 use Rattle.world_keeps_streams.proofs.Books.Source.{one_matches}
 use Rattle.world_keeps_streams.proofs.Books.Unasked.{own_below, partner_below}
 use Rattle.world_keeps_streams.proofs.Books.Went.{named_then}
-use Rattle.world_keeps_streams.proofs.Books.Whole.{Away, HasS, HasSends, Was, since, was_there}
-use Rattle.world_keeps_streams.proofs.Ends.Arrived.{LaterLife, bare_of, by_names, flows, granter, later_life}
+use Rattle.world_keeps_streams.proofs.Books.Whole.{HasS, HasSends, Was, since, was_there}
+use Rattle.world_keeps_streams.proofs.Ends.Arrived.{LaterLife, by_names, flows, granter, later_life}
 use Rattle.world_keeps_streams.proofs.Ends.Arrived.{link_known, match_later, one_link}
 use Rattle.world_keeps_streams.proofs.Ends.Within.{enough, texts_older}
 use Rattle.world_keeps_streams.proofs.Facts.{no_zero}
 use Rattle.world_keeps_streams.proofs.Lives.Lists.{IsOf, Named, contains, grown, is_of, named_itself, of_drop}
-use Rattle.world_keeps_streams.proofs.Lives.Among.{among_now, now_kept}
+use Rattle.world_keeps_streams.proofs.Lives.Among.{among_now, among_there, now_kept}
+use Rattle.world_keeps_streams.proofs.Ours.{ours_of, ours_receiver, ours_sender}
+use Rattle.world_keeps_pairing.proofs.lemmas.{in_book}
+use Rattle.net_sim.specs.Among.{lives_among}
+use Rattle.net_sim.specs.Mixed.{mixed_kept}
+use Rattle.net_sim.specs.Told.{kept_in}
 use Rattle.world_keeps_streams.proofs.Lives.Lists.{of_left, of_map}
 use Rattle.world_keeps_streams.proofs.Requests.Sides.{Heard, Lawful, Own, below, book_lawful, lives_in}
 use Rattle.world_keeps_streams.proofs.Steps.Joined.{Joined, post_in}
@@ -104,17 +109,17 @@ its_end name (e ∷ f ∷ es) s k h end opened unclosed = absurd h
 
 -- ---- a message waits on the link of a receiving life
 
-module _ (hosts : List Host) (ms : List Moment) (l : Lawful (all_ours hosts) ms) (x : Life) (f : AtLink (all_ours hosts) ms x) (place : ℕ)
+module _ (hosts : Network) (ms : List Moment) (l : Lawful hosts ms) (x : Life) (f : AtLink hosts ms x) (place : ℕ)
     (text : List Bool)
     (waits : box_of (flow_from x.peer x.host f.link) (crossings_of ms) ≡ mail.Waiting place text) where
   abbrev link_n : ℕ
-  link_n = closes.n (all_ours hosts) ms l x f
+  link_n = closes.n hosts ms l x f
 
   abbrev number : ℕ
-  number = closes.c (all_ours hosts) ms l x f
+  number = closes.c hosts ms l x f
 
   abbrev both_ways : Joined x.host x.peer (suc link_n) ms
-  both_ways = (closes.w (all_ours hosts) ms l x f).j (closes.n (all_ours hosts) ms l x f)
+  both_ways = (closes.w hosts ms l x f).j (closes.n hosts ms l x f)
 
   post : post_in (boxes x.peer x.host (events_of ms) (suc link_n)) ≡ Lies text
   post =
@@ -122,17 +127,17 @@ module _ (hosts : List Host) (ms : List Moment) (l : Lawful (all_ours hosts) ms)
       ap post_in (box_same x.peer x.host ms (suc link_n))
       ∙ ap (λ (b : mail.Box). post_in (seen_box (suc link_n) b))
       (subst (λ (k : ℕ). box_of (flow_from x.peer x.host k) (crossings_of ms)
-      ≡ mail.Waiting place text) (closes.place_is (all_ours hosts) ms l x f) waits) ∙ rw off refl
+      ≡ mail.Waiting place text) (closes.place_is hosts ms l x f) waits) ∙ rw off refl
 
   lies : IsWaiting both_ways.x.box
   lies = lying text both_ways.x.box (by (stay.stays x.peer x.host (events_of ms)) refl) where
     by : (v : Bool) → stay.stays x.peer x.host (events_of ms) ≡ v → IsPosted (Lies text) both_ways.x.box
     by true e = subst (λ (q : Post). IsPosted q both_ways.x.box) post (both_ways.joint.box_x.whole e)
-    by false e = both_ways.joint.box_x.left e (closes.stays (all_ours hosts) ms l x f) text post
+    by false e = both_ways.joint.box_x.left e (closes.stays hosts ms l x f) text post
 
   end_is : both_ways.x.receiver.end ≡ Some number
-  end_is = ap (λ (r : Receiver). r.end) (closes.same (all_ours hosts) ms l x f) ∙ (closes.law (all_ours hosts) ms l x f).end
-      ∙ ap (λ (k : ℕ). Some k) (closes.name_is (all_ours hosts) ms l x f)
+  end_is = ap (λ (r : Receiver). r.end) (closes.same hosts ms l x f) ∙ (closes.law hosts ms l x f).end
+      ∙ ap (λ (k : ℕ). Some k) (closes.name_is hosts ms l x f)
 
   same_number : lies.0 ≡ number
   same_number = some_is lies.0 number (sym (waits_of both_ways.x both_ways.joint.inv_x lies.0 lies.1 lies.2 lies.3)
@@ -147,7 +152,7 @@ module _ (hosts : List Host) (ms : List Moment) (l : Lawful (all_ours hosts) ms)
       let here : (number == lies.0) ≡ true = eq-eqb number lies.0 (sym same_number) in
       let one : waiting_of number both_ways.x.box ≡ 1 = ap (λ (b : Box). waiting_of number b) lies.3 ∙ rw here refl in
       let came : length (texts_for x f.link (crossings_of ms)) ≡ both_ways.x.receiver.came number =
-      came_as (all_ours hosts) ms l x f in
+      came_as hosts ms l x f in
       omega (arith, all, one, came)
 
   some_sent : both_ways.x.sender.sent number ≡ [] → ⊥
@@ -159,8 +164,8 @@ module _ (hosts : List Host) (ms : List Moment) (l : Lawful (all_ours hosts) ms)
 
   -- so there is a sending life
   abbrev sending : HasS x.host x.peer (Own x.host x.peer) (Heard x.host x.peer) ms
-      (closes.w (all_ours hosts) ms l x f).j link_n number
-  sending = (closes.w (all_ours hosts) ms l x f).has_sender (closes.n (all_ours hosts) ms l x f) (closes.c (all_ours hosts) ms l x f) some_sent
+      (closes.w hosts ms l x f).j link_n number
+  sending = (closes.w hosts ms l x f).has_sender (closes.n hosts ms l x f) (closes.c hosts ms l x f) some_sent
 
   sending_in : IsOf sending.life (lives_in ms)
   sending_in = of_drop (since x.host x.peer ms) sending.life (lives_in ms) sending.there
@@ -168,14 +173,14 @@ module _ (hosts : List Host) (ms : List Moment) (l : Lawful (all_ours hosts) ms)
   sending_matches : Match (crossings_of ms) x sending.life
   sending_matches =
       one_matches x.host x.peer (Own x.host x.peer) (Heard x.host x.peer) ms
-      ((all_given (all_ours hosts) x.host x.peer (refl, refl)).matched ms l) (closes.w (all_ours hosts) ms l x f) x sending.life
-      (closes.known (all_ours hosts) ms l x f).g sending.is.g (closes.late (all_ours hosts) ms l x f) sending.there
+      ((all_given hosts x.host x.peer f.ours).matched ms l) (closes.w hosts ms l x f) x sending.life
+      (closes.known hosts ms l x f).g sending.is.g (closes.late hosts ms l x f) sending.there
       (refl, refl) (sending.host, sending.peer) f.receiving sending.name
-      (closes.known (all_ours hosts) ms l x f).own sending.is.heard
+      (closes.known hosts ms l x f).own sending.is.heard
 
   module _ (s : Life) (there : IsOf s (lives_in ms)) (m : Match (crossings_of ms) x s) where
     sender_counts : s.messages ≡ length (texts_for x f.link (crossings_of ms)) + 1
-    sender_counts = (closes.gave (all_ours hosts) ms l x f s (contains s (lives_in ms) there) m).1 ∙ one_more
+    sender_counts = (closes.gave hosts ms l x f s (contains s (lives_in ms) there) m).1 ∙ one_more
 
     -- which isn't over while its host stays
     module _ (stays : stay.stays x.peer x.host (events_of ms) ≡ true) where
@@ -183,18 +188,18 @@ module _ (hosts : List Host) (ms : List Moment) (l : Lawful (all_ours hosts) ms)
       gone_there = gone_now x.host (own_calls x.peer x.host ms)
 
       has : HasSends x.host x.peer (Own x.host x.peer) (Heard x.host x.peer) ms link_n number
-      has = (all_given (all_ours hosts) x.host x.peer (refl, refl)).sent_by ms l stays link_n number (λ none. some_sent (ap (λ
+      has = (all_given hosts x.host x.peer f.ours).sent_by ms l stays link_n number (λ none. some_sent (ap (λ
           (z : Sender). z.sent number) (both_ways.sent_b stays) ∙ none))
 
       has_matches : Match (crossings_of ms) x has.life
       has_matches =
           one_matches x.host x.peer (Own x.host x.peer) (Heard x.host x.peer) ms
-          ((all_given (all_ours hosts) x.host x.peer (refl, refl)).matched ms l) (closes.w (all_ours hosts) ms l x f) x has.life
-          (closes.known (all_ours hosts) ms l x f).g has.is.g (closes.late (all_ours hosts) ms l x f) has.there
-          (refl, refl) (has.host, has.peer) f.receiving has.name (closes.known (all_ours hosts) ms l x f).own has.is.heard
+          ((all_given hosts x.host x.peer f.ours).matched ms l) (closes.w hosts ms l x f) x has.life
+          (closes.known hosts ms l x f).g has.is.g (closes.late hosts ms l x f) has.there
+          (refl, refl) (has.host, has.peer) f.receiving has.name (closes.known hosts ms l x f).own has.is.heard
 
       is_it : has.life ≡ s
-      is_it = one_sender (all_ours hosts) ms l x has.life s (refl, refl) (of_drop
+      is_it = one_sender hosts ms l x has.life s f.ours (of_drop
           (since x.host x.peer ms) has.life (lives_in ms) has.there) there has_matches m
 
       sender_end : (e : Entry) × (lies.0 ≡ name_of numbered_by_peer gone_there e.own e.foreign)
@@ -296,17 +301,20 @@ placed (Crossed d ∷ ms) place c (inr i) =
       at = p.at;
     }
 
-module _ (hosts : List Host) where
+module _ (hosts : Network) where
   -- a host that has left sends no data
-  module _ (a b : Host) (m : HostMessage) (ms : List Moment) (l : Lawful (all_ours hosts) (Crossed (crossing.Out m) ∷ ms))
+  module _ (a b : Host) (ours : AreOurs hosts a b) (m : HostMessage) (ms : List Moment)
+      (l : Lawful hosts (Crossed (crossing.Out m) ∷ ms))
       (left : stay.stays b a (events_of (Crossed (crossing.Out m) ∷ ms)) ≡ false)
       (link : ℕ) (off : (link == 0) ≡ false) (is : flow_from b a link ≡ m.flow) where
     abbrev left_log : List Crossing
     left_log = crossings_of ms
 
-    abbrev sent_last : (z : Life) × Contains (lives_in (Crossed (crossing.Out m) ∷ ms)) z × IsSentIn
+    abbrev sent_last : (z : Life) × Contains (lives_among hosts.strange (mixed_kept hosts.strange
+        (Crossed (crossing.Out m) ∷ ms)).book.lives) z × IsSentIn
         (crossing.Out m ∷ crossings_of ms) (length (crossings_of ms)) m z
-    sent_last = (firsts hosts (Crossed (crossing.Out m) ∷ ms) l).sent (length (crossings_of ms)) m (inl (refl, refl))
+    sent_last = sent_in hosts (Crossed (crossing.Out m) ∷ ms) l (length (crossings_of ms)) m
+        (subst (λ (g : Flow). AreOurs hosts g.source g.destination) is (ours.1, ours.0)) (inl (refl, refl))
         (ap (λ (g : Flow). g.link.0 == 0) (sym is) ∙ off)
 
     sent_link : (k : ℕ) × (link_of (crossing.Out m ∷ crossings_of ms) sent_last.0 ≡ Some k) × (flow_of sent_last.0 k
@@ -316,20 +324,27 @@ module _ (hosts : List Host) where
     sent_flow : flow_from sent_last.0.host sent_last.0.peer sent_link.0 ≡ flow_from b a link
     sent_flow = sym (sends_on_link sent_last.0 sent_link.0 sent_last.2.sending) ∙ sent_link.2 ∙ sym is
 
+    sent_there : Contains (lives_in (Crossed (crossing.Out m) ∷ ms)) sent_last.0
+        × AreOurs hosts sent_last.0.host sent_last.0.peer
+    sent_there = now_kept hosts (Crossed (crossing.Out m) ∷ ms) sent_last.0 sent_last.1
+
     sent_was : Was b a 0 (lives_in ms) sent_last.0
     sent_was =
         was_there b a 0 (lives_in ms) (lives_in (Crossed (crossing.Out m) ∷ ms)) (omega arith)
-        ((all_given (all_ours hosts) a b (refl, refl)).away_s (Crossed (crossing.Out m)) ms l left) sent_last.0
-        (is_of sent_last.0 (lives_in (Crossed (crossing.Out m) ∷ ms)) sent_last.1) (ap (λ
+        ((all_given hosts a b ours).away_s (Crossed (crossing.Out m)) ms l left) sent_last.0
+        (is_of sent_last.0 (lives_in (Crossed (crossing.Out m) ∷ ms)) sent_there.0) (ap (λ
         (g : Flow). g.source) sent_flow) (ap (λ (g : Flow). g.destination) sent_flow)
+
+    was_ours : AreOurs hosts sent_was.life.host sent_was.life.peer
+    was_ours = subst (λ (z : Life). AreOurs hosts z.host z.peer) sent_was.is sent_there.1
 
     silent : ⊥
     silent =
-        let old : Lawful (all_ours hosts) ms = below (all_ours hosts) (Crossed (crossing.Out m)) ms l in
+        let old : Lawful hosts ms = below hosts (Crossed (crossing.Out m)) ms l in
         let least : sent_was.life.messages ≤ length (texts_on sent_was.life (link_of left_log sent_was.life) left_log) =
         enough (receives sent_was.life) sent_was.life.messages (texts_on sent_was.life
-        (link_of left_log sent_was.life) left_log) sent_was.life.bits (all_formed hosts ms old sent_was.life
-        (contains sent_was.life (lives_in ms) sent_was.there)).bits in
+        (link_of left_log sent_was.life) left_log) sent_was.life.bits (formed hosts ms old sent_was.life
+        (among_now hosts ms sent_was.life was_ours (contains sent_was.life (lives_in ms) sent_was.there))).bits in
         let counted : length (texts_on sent_was.life (link_of (crossing.Out m ∷ left_log) sent_was.life) (before
         (length left_log) (crossing.Out m ∷ left_log))) < sent_was.life.messages =
         subst (λ (z : Life). length (texts_on z (link_of (crossing.Out m ∷ left_log) z) (before (length left_log)
@@ -338,36 +353,40 @@ module _ (hosts : List Host) where
         (length left_log) (crossing.Out m ∷ left_log)))
         ≡ length (texts_on sent_was.life (link_of left_log sent_was.life) left_log) =
         ap (λ (o : Option ℕ). length (texts_on sent_was.life o (before (length left_log) (crossing.Out m ∷ left_log))))
-        (link_later (crossing.Out m ∷ []) left_log sent_was.life (own_below (all_ours hosts) ms old sent_was.life (refl, refl) sent_was.there)
-        (partner_below (all_ours hosts) ms old sent_was.life (refl, refl) sent_was.there))
+        (link_later (crossing.Out m ∷ []) left_log sent_was.life (own_below hosts ms old sent_was.life was_ours sent_was.there)
+        (partner_below hosts ms old sent_was.life was_ours sent_was.there))
         ∙ ap (λ (xs : List Crossing). length (texts_on sent_was.life (link_of left_log sent_was.life) xs)) (before_end
         (crossing.Out m ∷ []) left_log) in
         absurd (omega (arith, least, counted, same))
 
   -- so nothing went out on the link by such a moment
-  none_out : (a b : Host) (c : Crossing) (ms : List Moment) → Lawful (all_ours hosts) (Crossed c ∷ ms)
+  none_out : (a b : Host) → AreOurs hosts a b → (c : Crossing) (ms : List Moment) → Lawful hosts (Crossed c ∷ ms)
       → stay.stays b a (events_of (Crossed c ∷ ms)) ≡ false → (link : ℕ) → (link == 0) ≡ false
       → text_of false (flow_from b a link) c ≡ []
-  none_out a b (crossing.Out m) ms l left link off = by (same_flow (flow_from b a link) m.flow) refl where
+  none_out a b ours (crossing.Out m) ms l left link off = by (same_flow (flow_from b a link) m.flow) refl where
     by : (v : Bool) → same_flow (flow_from b a link) m.flow ≡ v → (if v then m.text ∷ [] else []) ≡ []
-    by true e = absurd (silent a b m ms l left link off (same_flow-true (flow_from b a link) m.flow e))
+    by true e = absurd (silent a b ours m ms l left link off (same_flow-true (flow_from b a link) m.flow e))
     by false e = refl
-  none_out a b (crossing.In m) ms l left link off = refl
-  none_out a b (crossing.Answer kind g) ms l left link off = refl
-  none_out a b (crossing.Down h) ms l left link off = refl
-  none_out a b (crossing.Up h) ms l left link off = refl
+  none_out a b ours (crossing.In m) ms l left link off = refl
+  none_out a b ours (crossing.Answer kind g) ms l left link off = refl
+  none_out a b ours (crossing.Down h) ms l left link off = refl
+  none_out a b ours (crossing.Up h) ms l left link off = refl
 
   -- ---- the sender's host has left
 
-  module _ (y : Moment) (ms : List Moment) (l : Lawful (all_ours hosts) (y ∷ ms)) (x s : Life) (here : IsOf x (lives_in
+  module _ (y : Moment) (ms : List Moment) (l : Lawful hosts (y ∷ ms)) (x s : Life)
+      (ours : AreOurs hosts x.host x.peer) (here : IsOf x (lives_in
       (y ∷ ms))) (there : IsOf s (lives_in (y ∷ ms))) (goes : x.ended ≡ false) (m : Match (crossings_of (y ∷ ms)) x s)
       (left : stay.stays x.peer x.host (events_of (y ∷ ms)) ≡ false) (some : 1 ≤ s.messages) where
-    old_lawful : Lawful (all_ours hosts) ms
-    old_lawful = below (all_ours hosts) y ms l
+    old_lawful : Lawful hosts ms
+    old_lawful = below hosts y ms l
 
     abbrev s_was : Was x.peer x.host 0 (lives_in ms) s
     s_was = was_there x.peer x.host 0 (lives_in ms) (lives_in (y ∷ ms)) (omega arith)
-        ((all_given (all_ours hosts) x.host x.peer (refl, refl)).away_s y ms l left) s there (sym m.peers.0) m.peers.1
+        ((all_given hosts x.host x.peer ours).away_s y ms l left) s there (sym m.peers.0) m.peers.1
+
+    s_ours : AreOurs hosts s_was.life.host s_was.life.peer
+    s_ours = subst (λ (z : Life). AreOurs hosts z.host z.peer) s_was.is (ours_sender hosts m ours)
 
     s_kind_was : sends s_was.life ≡ true
     s_kind_was = ap (λ (z : Life). is_send_socket z.socket) (sym s_was.is) ∙ m.sending
@@ -377,13 +396,16 @@ module _ (hosts : List Host) where
         ap (λ (z : Life). z.messages) s_was.is in omega (arith, some, all)
 
     abbrev gave : (r : Life) × IsOf r (lives_in ms) × Match (crossings_of ms) r s_was.life
-    gave = granter (all_ours hosts) ms (below (all_ours hosts) y ms l) s_was.life (refl, refl) s_was.there s_kind_was s_least
+    gave = granter hosts ms (below hosts y ms l) s_was.life s_ours s_was.there s_kind_was s_least
+
+    r_ours : AreOurs hosts gave.0.host gave.0.peer
+    r_ours = ours_receiver hosts gave.2 s_ours
 
     abbrev r : Life
-    r = (granter (all_ours hosts) ms (below (all_ours hosts) y ms l) s_was.life (refl, refl) s_was.there s_kind_was s_least).0
+    r = (granter hosts ms (below hosts y ms l) s_was.life s_ours s_was.there s_kind_was s_least).0
 
     abbrev r_now : Life
-    r_now = (grown y ms).change (granter (all_ours hosts) ms (below (all_ours hosts) y ms l) s_was.life (refl, refl) s_was.there s_kind_was s_least).0
+    r_now = (grown y ms).change (granter hosts ms (below hosts y ms l) s_was.life s_ours s_was.there s_kind_was s_least).0
 
     r_now_in : IsOf r_now (lives_in (y ∷ ms))
     r_now_in = subst (λ (ys : List Life). IsOf r_now ys) (sym (grown y ms).is) (of_left r_now (map (grown y ms).change
@@ -401,8 +423,8 @@ module _ (hosts : List Host) where
     })
 
     x_is : x ≡ r_now
-    x_is = one_receiver (all_ours hosts) (y ∷ ms) l x r_now s (refl, refl) here r_now_in m
-        (match_later (all_ours hosts) (y ∷ []) ms old_lawful r s_was.life r_now s (refl, refl) gave.1 s_was.there
+    x_is = one_receiver hosts (y ∷ ms) l x r_now s (ours_sender hosts m ours) here r_now_in m
+        (match_later hosts (y ∷ []) ms old_lawful r s_was.life r_now s r_ours gave.1 s_was.there
         ((grown y ms).names r) named_end gave.2)
 
     r_names : Named r x
@@ -417,14 +439,14 @@ module _ (hosts : List Host) where
     module _ (link : ℕ) (is : link_of (crossings_of (y ∷ ms)) x ≡ Some link) (off : (link == 0) ≡ false) where
       link_was : link_of (crossings_of ms) r ≡ Some link
       link_was =
-          sym (link_grows y ms r (own_below (all_ours hosts) ms old_lawful r (refl, refl) gave.1)
-          (partner_below (all_ours hosts) ms old_lawful r (refl, refl) gave.1)) ∙ sym (link_named (crossings_of (y ∷ ms)) r x r_names) ∙ is
+          sym (link_grows y ms r (own_below hosts ms old_lawful r r_ours gave.1)
+          (partner_below hosts ms old_lawful r r_ours gave.1)) ∙ sym (link_named (crossings_of (y ∷ ms)) r x r_names) ∙ is
 
       s_link_was : link_of (crossings_of ms) s_was.life ≡ Some link
-      s_link_was = sym (one_link (all_ours hosts) ms old_lawful r s_was.life (refl, refl) gave.1 s_was.there gave.2) ∙ link_was
+      s_link_was = sym (one_link hosts ms old_lawful r s_was.life r_ours gave.1 s_was.there gave.2) ∙ link_was
 
       s_flow_was : flow_of s_was.life link ≡ flow_from x.peer x.host link
-      s_flow_was = sym (flows (all_ours hosts) ms old_lawful r s_was.life (refl, refl) gave.1 s_was.there gave.2 link)
+      s_flow_was = sym (flows hosts ms old_lawful r s_was.life r_ours gave.1 s_was.there gave.2 link)
           ∙ sym (flow_named link r x r_names) ∙ takes_on x link m.receiving
 
       -- by a moment of which nothing went out on the link
@@ -439,15 +461,15 @@ module _ (hosts : List Host) where
           ∙ ap (λ (ts : List (List Bool)). length ts) (sym (texts_older s_was.life
           (crossings_of ms) c link own partner s_link_was none)) where
             own : s_was.life.own_stamp < length (crossings_of ms)
-            own = own_below (all_ours hosts) ms old_lawful s_was.life (refl, refl) s_was.there
+            own = own_below hosts ms old_lawful s_was.life s_ours s_was.there
 
             partner : s_was.life.partner_stamp < length (crossings_of ms)
-            partner = partner_below (all_ours hosts) ms old_lawful s_was.life (refl, refl) s_was.there
+            partner = partner_below hosts ms old_lawful s_was.life s_ours s_was.there
 
             none : text_of (receives s_was.life) (flow_of s_was.life link) c ≡ []
             none = ap (λ (w : Bool). text_of w (flow_of s_was.life link) c) (send_odd s_was.life.socket s_kind_was)
                 ∙ ap (λ (g : Flow). text_of false g c) s_flow_was
-                ∙ none_out x.host x.peer c ms (subst (λ (w : Moment). Lawful (all_ours hosts) (w ∷ ms)) e l) (subst (λ
+                ∙ none_out x.host x.peer ours c ms (subst (λ (w : Moment). Lawful hosts (w ∷ ms)) e l) (subst (λ
                 (w : Moment). stay.stays x.peer x.host (events_of (w ∷ ms)) ≡ false) e left) link off
 
       waited : (z : Moment) → y ≡ z → (place : ℕ) (text : List Bool)
@@ -456,18 +478,18 @@ module _ (hosts : List Host) where
       waited (Asked g q) e place text waits = waits
       waited (Crossed c) e place text waits =
           box_was (flow_from x.peer x.host link) c (crossings_of ms) place text
-          (none_out x.host x.peer c ms (subst (λ (w : Moment). Lawful (all_ours hosts) (w ∷ ms)) e l) (subst (λ
+          (none_out x.host x.peer ours c ms (subst (λ (w : Moment). Lawful hosts (w ∷ ms)) e l) (subst (λ
           (w : Moment). stay.stays x.peer x.host (events_of (w ∷ ms)) ≡ false) e left) link off) waits
 
       by_older : (place : ℕ) (text : List Bool) → box_of (flow_from x.peer x.host link) (crossings_of (y ∷ ms))
           ≡ mail.Waiting place text
-          → ((x s : Life) → IsOf x (lives_in ms) → IsOf s (lives_in ms) → x.ended ≡ false
+          → ((x s : Life) → AreOurs hosts x.host x.peer → IsOf x (lives_in ms) → IsOf s (lives_in ms) → x.ended ≡ false
           → Match (crossings_of ms) x s → (link : ℕ) → link_of (crossings_of ms) x ≡ Some link
           → (place : ℕ) (text : List Bool) → box_of (flow_from x.peer x.host link) (crossings_of ms)
           ≡ mail.Waiting place text → IsFull ms s) → IsFull (y ∷ ms) s
       by_older place text waits rest =
           subst (λ (z : Life). IsFull (y ∷ ms) z) (sym s_was.is)
-          (still_full y refl (rest r s_was.life gave.1 s_was.there r_goes gave.2 link link_was place text
+          (still_full y refl (rest r s_was.life r_ours gave.1 s_was.there r_goes gave.2 link link_was place text
           (subst (λ (g : Flow). box_of g (crossings_of ms)
           ≡ mail.Waiting place text) flow_is (waited y refl place text waits)))) where
             flow_is : flow_from x.peer x.host link ≡ flow_from r.peer r.host link
@@ -476,19 +498,19 @@ module _ (hosts : List Host) where
 
   -- ---- at all moments
 
-  all_out : (ms : List Moment) → Lawful (all_ours hosts) ms → (x s : Life) → IsOf x (lives_in ms) → IsOf s (lives_in ms)
+  all_out : (ms : List Moment) → Lawful hosts ms → (x s : Life) → AreOurs hosts x.host x.peer → IsOf x (lives_in ms) → IsOf s (lives_in ms)
       → x.ended ≡ false → Match (crossings_of ms) x s → (link : ℕ) → link_of (crossings_of ms) x ≡ Some link
       → (place : ℕ) (text : List Bool) → box_of (flow_from x.peer x.host link) (crossings_of ms)
       ≡ mail.Waiting place text → IsFull ms s
-  all_out [] l x s here there goes m link is place text waits = absurd here
-  all_out (y ∷ ms) l x s here there goes m link is place text waits =
-      by s.ended refl (all_out ms (below (all_ours hosts) y ms l)) where
-        f : AtLink (all_ours hosts) (y ∷ ms) x
-        f = at_link (all_ours hosts) (y ∷ ms) l x (refl, refl) here goes m.receiving
+  all_out [] l x s ours here there goes m link is place text waits = absurd here
+  all_out (y ∷ ms) l x s ours here there goes m link is place text waits =
+      by s.ended refl (all_out ms (below hosts y ms l)) where
+        f : AtLink hosts (y ∷ ms) x
+        f = at_link hosts (y ∷ ms) l x ours here goes m.receiving
 
         linked : f.link ≡ link
-        linked = some_is f.link link (sym f.linked ∙ sym (end_link (all_ours hosts) (y ∷ ms) l (together (all_ours hosts)) x
-            (among_now (all_ours hosts) (y ∷ ms) x (refl, refl) f.there) goes f.end)
+        linked = some_is f.link link (sym f.linked ∙ sym (end_link hosts (y ∷ ms) l (together hosts) x
+            (among_now hosts (y ∷ ms) x ours f.there) goes f.end)
             ∙ is)
 
         waits_here : box_of (flow_from x.peer x.host f.link) (crossings_of (y ∷ ms)) ≡ mail.Waiting place text
@@ -502,33 +524,34 @@ module _ (hosts : List Host) where
         off : (link == 0) ≡ false
         off =
             let k : (n : ℕ) × (f.end.end.link ≡ Some n) × ((n == 0) ≡ false) =
-            linked_end (all_ours hosts) (together (all_ours hosts)) (y ∷ ms) l x
-            (among_now (all_ours hosts) (y ∷ ms) x (refl, refl) f.there) goes f.end in
+            linked_end hosts (together hosts) (y ∷ ms) l x
+            (among_now hosts (y ∷ ms) x ours f.there) goes f.end in
             subst (λ (n : ℕ). (n == 0) ≡ false) (some_is k.0 link (sym k.1 ∙ f.linked
             ∙ ap (λ (n : ℕ). Some n) linked)) k.2
 
         by : (v : Bool) → s.ended ≡ v
-            → ((x s : Life) → IsOf x (lives_in ms) → IsOf s (lives_in ms) → x.ended ≡ false
+            → ((x s : Life) → AreOurs hosts x.host x.peer → IsOf x (lives_in ms) → IsOf s (lives_in ms) → x.ended ≡ false
             → Match (crossings_of ms) x s
             → (link : ℕ) → link_of (crossings_of ms) x ≡ Some link
             → (place : ℕ) (text : List Bool) → box_of (flow_from x.peer x.host link) (crossings_of ms)
             ≡ mail.Waiting place text → IsFull ms s) → IsFull (y ∷ ms) s
-        by false continues rest = full (all_ours hosts) (together (all_ours hosts)) (y ∷ ms) l s
-            (among_now (all_ours hosts) (y ∷ ms) s (refl, refl) (contains s (lives_in (y ∷ ms)) there)) continues (send_odd s.socket m.sending)
+        by false continues rest = full hosts (together hosts) (y ∷ ms) l s
+            (among_now hosts (y ∷ ms) s (ours_sender hosts m ours) (contains s (lives_in (y ∷ ms)) there)) continues (send_odd s.socket m.sending)
         by true over rest = host (stay.stays x.peer x.host (events_of (y ∷ ms))) refl where
           host : (v : Bool) → stay.stays x.peer x.host (events_of (y ∷ ms)) ≡ v → IsFull (y ∷ ms) s
           host true on = absurd (unlike s.ended over (goes_there hosts
               (y ∷ ms) l x f place text waits_here s there m on))
-          host false left = by_older y ms l x s here there goes m left some link is off place text waits rest
+          host false left = by_older y ms l x s ours here there goes m left some link is off place text waits rest
 
   -- ---- a life of earlier moments
 
-  back : (newer older : List Moment) → Lawful (all_ours hosts) (newer ++ older) → (x : Life) → IsOf x (lives_in (newer ++ older))
+  back : (newer older : List Moment) → Lawful hosts (newer ++ older) → (x : Life) → AreOurs hosts x.host x.peer
+      → IsOf x (lives_in (newer ++ older))
       → x.own_stamp < length (crossings_of older) → x.partner_stamp < length (crossings_of older) → WasLife older x
-  back [] older l x i own partner = record { life = x; there = i; names = named_itself x; still = λ e. refl }
-  back (y ∷ newer) older l x i own partner = from (were_there (all_ours hosts) (together (all_ours hosts)) y (newer ++ older) l x
-      (among_now (all_ours hosts) (y ∷ (newer ++ older)) x (refl, refl) (contains x (lives_in (y ∷ (newer ++ older))) i)) (more x.own_stamp own) (more x.partner_stamp partner))
-      (back newer older (below (all_ours hosts) y (newer ++ older) l)) where
+  back [] older l x ours i own partner = record { life = x; there = i; names = named_itself x; still = λ e. refl }
+  back (y ∷ newer) older l x ours i own partner = from (were_there hosts (together hosts) y (newer ++ older) l x
+      (among_now hosts (y ∷ (newer ++ older)) x ours (contains x (lives_in (y ∷ (newer ++ older))) i)) (more x.own_stamp own) (more x.partner_stamp partner))
+      (back newer older (below hosts y (newer ++ older) l)) where
         more : (p : ℕ) → p < length (crossings_of older) → p < length (crossings_of (newer ++ older))
         more p less =
             let all : length (crossings_of (newer ++ older))
@@ -537,8 +560,8 @@ module _ (hosts : List Host) where
             ∙ length-append (crossings_of newer) (crossings_of older) in
             omega (arith, less, all)
 
-        from : WasThere (all_ours hosts) (newer ++ older) x
-            → ((v : Life) → IsOf v (lives_in (newer ++ older)) → v.own_stamp < length (crossings_of older)
+        from : WasThere hosts (newer ++ older) x
+            → ((v : Life) → AreOurs hosts v.host v.peer → IsOf v (lives_in (newer ++ older)) → v.own_stamp < length (crossings_of older)
             → v.partner_stamp < length (crossings_of older) → WasLife older v) → WasLife older x
         from w rest = record {
           life = z.life;
@@ -549,7 +572,10 @@ module _ (hosts : List Host) where
         } where
           w_in : IsOf w.life (lives_in (newer ++ older))
           w_in = is_of w.life (lives_in (newer ++ older))
-              (now_kept (all_ours hosts) (newer ++ older) w.life w.there).0
+              (now_kept hosts (newer ++ older) w.life w.there).0
+
+          w_ours : AreOurs hosts w.life.host w.life.peer
+          w_ours = (now_kept hosts (newer ++ older) w.life w.there).1
 
           names : Named w.life x
           names = record {
@@ -572,22 +598,23 @@ module _ (hosts : List Host) where
 
           is : x ≡ ((grown y (newer ++ older)).change w.life)
           is =
-              one_own (all_ours hosts) (y ∷ (newer ++ older)) l x ((grown y (newer ++ older)).change w.life)
-              (refl, refl) (refl, refl) i v_in
+              one_own hosts (y ∷ (newer ++ older)) l x ((grown y (newer ++ older)).change w.life)
+              ours (ours_of hosts ((grown y (newer ++ older)).change w.life) w.life.host w.life.peer w_ours
+              (((grown y (newer ++ older)).names w.life).host, ((grown y (newer ++ older)).names w.life).peer)) i v_in
               (named_request w.life x names ∙ sym (named_request w.life ((grown y (newer ++ older)).change w.life)
               ((grown y (newer ++ older)).names w.life)))
 
           z : WasLife older w.life
           z =
-              rest w.life w_in
+              rest w.life w_ours w_in
               (let same : x.own_stamp ≡ w.life.own_stamp =
               w.own in omega (arith, own, same)) (let same : x.partner_stamp ≡ w.life.partner_stamp =
               w.partner in omega (arith, partner, same))
 
   -- ---- a message that was taken
 
-  module _ (newer older : List Moment) (m : HostMessage) (l : Lawful (all_ours hosts) (newer ++ older)) (step : Lawful (all_ours hosts)
-      (Crossed (crossing.In m) ∷ older)) (x : Life) (here : IsOf x (lives_in (newer ++ older))) (kind : receives x
+  module _ (newer older : List Moment) (m : HostMessage) (l : Lawful hosts (newer ++ older)) (step : Lawful hosts
+      (Crossed (crossing.In m) ∷ older)) (x : Life) (ours : AreOurs hosts x.host x.peer) (here : IsOf x (lives_in (newer ++ older))) (kind : receives x
       ≡ true)
       (counted : IsCounted (crossings_of (newer ++ older)) (length (crossings_of older)) m x) where
     abbrev log_now : List Crossing
@@ -596,8 +623,8 @@ module _ (hosts : List Host) where
     abbrev older_log : List Crossing
     older_log = crossings_of older
 
-    before_lawful : Lawful (all_ours hosts) older
-    before_lawful = below (all_ours hosts) (Crossed (crossing.In m)) older step
+    before_lawful : Lawful hosts older
+    before_lawful = below hosts (Crossed (crossing.In m)) older step
 
     log_is : crossings_of (newer ++ older) ≡ crossings_of newer ++ crossings_of older
     log_is = all_crossings newer older
@@ -606,7 +633,13 @@ module _ (hosts : List Host) where
     before_is = ap (before (length (crossings_of older))) log_is ∙ before_end (crossings_of newer) (crossings_of older)
 
     x_was : WasLife older x
-    x_was = back newer older l x here counted.own counted.partner
+    x_was = back newer older l x ours here counted.own counted.partner
+
+    x_ours : AreOurs hosts x_was.life.host x_was.life.peer
+    x_ours = (
+      subst (λ (h : Host). hosts.strange h ≡ false) x_was.names.host ours.0,
+      subst (λ (h : Host). hosts.strange h ≡ false) x_was.names.peer ours.1,
+    )
 
     link_now : link_of log_now x ≡ link_of older_log x_was.life
     link_now =
@@ -629,8 +662,8 @@ module _ (hosts : List Host) where
       by true e =
           let least : x_was.life.messages ≤ length (texts_on x_was.life (link_of older_log x_was.life) older_log) =
           enough (receives x_was.life) x_was.life.messages (texts_on x_was.life
-          (link_of older_log x_was.life) older_log) x_was.life.bits (all_formed hosts older before_lawful x_was.life
-          (contains x_was.life (lives_in older) x_was.there)).bits in
+          (link_of older_log x_was.life) older_log) x_was.life.bits (formed hosts older before_lawful x_was.life
+          (among_now hosts older x_was.life x_ours (contains x_was.life (lives_in older) x_was.there))).bits in
           let c : length (texts_on x (link_of log_now x) (before (length older_log) log_now)) < x.messages =
           counted.counted in
           let same : x.messages ≡ x_was.life.messages = ap (λ (z : Life). z.messages) (x_was.still e) in
@@ -641,12 +674,12 @@ module _ (hosts : List Host) where
     x_kind : receives x_was.life ≡ true
     x_kind = ap is_receive_socket (sym x_was.names.socket) ∙ kind
 
-    x_link : AtLink (all_ours hosts) older x_was.life
-    x_link = at_link (all_ours hosts) older before_lawful x_was.life (refl, refl) x_was.there x_goes x_kind
+    x_link : AtLink hosts older x_was.life
+    x_link = at_link hosts older before_lawful x_was.life x_ours x_was.there x_goes x_kind
 
     x_linked : link_of older_log x_was.life ≡ Some x_link.link
-    x_linked = end_link (all_ours hosts) older before_lawful (together (all_ours hosts)) x_was.life
-        (among_now (all_ours hosts) older x_was.life (refl, refl) x_link.there) x_goes x_link.end
+    x_linked = end_link hosts older before_lawful (together hosts) x_was.life
+        (among_now hosts older x_was.life x_ours x_link.there) x_goes x_link.end
         ∙ x_link.linked
 
     x_flow : flow_from x_was.life.peer x_was.life.host x_link.link ≡ m.flow
@@ -673,16 +706,19 @@ module _ (hosts : List Host) where
     s_then_matches : Match older_log x_was.life s_then
     s_then_matches = sending_matches hosts older before_lawful x_was.life x_link x_waits.0 m.text x_waits.1
 
+    s_ours_then : AreOurs hosts s_then.host s_then.peer
+    s_ours_then = ours_sender hosts s_then_matches x_ours
+
     s_then_counts : s_then.messages ≡ length (texts_for x_was.life x_link.link older_log) + 1
     s_then_counts = sender_counts hosts older before_lawful x_was.life x_link x_waits.0 m.text x_waits.1 s_then
         s_then_in s_then_matches
 
     s_then_link : link_of older_log s_then ≡ Some x_link.link
-    s_then_link = sym (one_link (all_ours hosts) older before_lawful x_was.life s_then (refl, refl) x_was.there s_then_in s_then_matches)
+    s_then_link = sym (one_link hosts older before_lawful x_was.life s_then x_ours x_was.there s_then_in s_then_matches)
         ∙ x_linked
 
     s_then_flow : flow_of s_then x_link.link ≡ m.flow
-    s_then_flow = sym (flows (all_ours hosts) older before_lawful x_was.life s_then (refl, refl) x_was.there s_then_in s_then_matches
+    s_then_flow = sym (flows hosts older before_lawful x_was.life s_then x_ours x_was.there s_then_in s_then_matches
         x_link.link) ∙ takes_on x_was.life x_link.link x_kind ∙ x_flow
 
     s_then_kind : receives s_then ≡ false
@@ -698,7 +734,7 @@ module _ (hosts : List Host) where
 
     s_then_all : s_then.messages ≡ out_of older_log
     s_then_all =
-        all_out older before_lawful x_was.life s_then x_was.there s_then_in x_goes s_then_matches x_link.link x_linked
+        all_out older before_lawful x_was.life s_then x_ours x_was.there s_then_in x_goes s_then_matches x_link.link x_linked
         x_waits.0 m.text x_waits.1
         ∙ ap (λ (o : Option ℕ). length (texts_on s_then o older_log)) s_then_link ∙ texts_are older_log
 
@@ -718,8 +754,8 @@ module _ (hosts : List Host) where
     link_later_is =
         link_named log_now s_then now.life now.names ∙ ap (λ (xs : List Crossing). link_of xs s_then) log_is
         ∙ link_later (crossings_of newer) (crossings_of older) s_then
-        (own_below (all_ours hosts) older before_lawful s_then (refl, refl) s_then_in)
-        (partner_below (all_ours hosts) older before_lawful s_then (refl, refl) s_then_in) ∙ s_then_link
+        (own_below hosts older before_lawful s_then s_ours_then s_then_in)
+        (partner_below hosts older before_lawful s_then s_ours_then s_then_in) ∙ s_then_link
 
     out_then : length (texts_on now.life (link_of log_now now.life) (before last_one.place log_now))
         ≡ out_of (before last_one.place older_log)
@@ -733,11 +769,14 @@ module _ (hosts : List Host) where
         (crossings_of older) last_one.place (let less : last_one.place < length older_log =
         place_less in omega (arith, less)))
 
-    was_sent : WasSent log_now (lives_in (newer ++ older)) (length older_log) m x
+    now_ours : AreOurs hosts now.life.host now.life.peer
+    now_ours = ours_of hosts now.life s_then.host s_then.peer s_ours_then (now.names.host, now.names.peer)
+
+    was_sent : WasSent log_now (lives_among hosts.strange (lives_in (newer ++ older))) (length older_log) m x
     was_sent = record {
       sender = now.life;
-      there = contains now.life (lives_in (newer ++ older)) now.there;
-      matches = match_later (all_ours hosts) newer older before_lawful x_was.life s_then x now.life (refl, refl) x_was.there s_then_in
+      there = among_there hosts now.life (lives_in (newer ++ older)) now_ours (contains now.life (lives_in (newer ++ older)) now.there);
+      matches = match_later hosts newer older before_lawful x_was.life s_then x now.life x_ours x_was.there s_then_in
           x_was.names now.names s_then_matches;
       out = last_one.place;
       last = ap (last_out m.flow) before_is ∙ last_one.last;
@@ -773,32 +812,42 @@ module _ (hosts : List Host) where
 
   -- ---- of a book
 
-  pub each_was_sent : (ms : List Moment) → Lawful (all_ours hosts) ms → EachWasSent (crossings_of ms) (lives_in ms)
-  each_was_sent ms l x place m here kind crossed counted =
-      subst (λ (n : ℕ). WasSent (crossings_of ms) (lives_in ms) n m x) (sym p.at) (of ms l whole here (subst (λ
-      (n : ℕ). IsCounted (crossings_of ms) n m x) p.at counted)) where
+  pub each_was_sent : (ms : List Moment) → Lawful hosts ms
+      → EachWasSent (crossings_of ms) (lives_among hosts.strange (kept_in ms).book.lives)
+  each_was_sent ms l x place m among kind crossed counted =
+      subst (λ (n : ℕ). WasSent (crossings_of ms) (lives_among hosts.strange (lives_in ms)) n m x) (sym p.at)
+      (of ms l whole here.0 (subst (λ (n : ℕ). IsCounted (crossings_of ms) n m x) p.at counted)) where
+        here : Contains (lives_in ms) x × AreOurs hosts x.host x.peer
+        here = in_book hosts (lives_in ms) x among
+
         p : PlacedAt ms place (crossing.In m)
         p = placed ms place (crossing.In m) crossed
 
-        step : Lawful (all_ours hosts) (Crossed (crossing.In m) ∷ p.earlier)
-        step = rest_lawful (all_ours hosts) p.later (Crossed (crossing.In m) ∷ p.earlier) (subst (λ
-            (ns : List Moment). Lawful (all_ours hosts) ns) p.is l)
+        step : Lawful hosts (Crossed (crossing.In m) ∷ p.earlier)
+        step = rest_lawful hosts p.later (Crossed (crossing.In m) ∷ p.earlier) (subst (λ
+            (ns : List Moment). Lawful hosts ns) p.is l)
 
         whole : (p.later ++ Crossed (crossing.In m) ∷ []) ++ p.earlier ≡ ms
         whole = append_assoc p.later (Crossed (crossing.In m) ∷ []) p.earlier ∙ sym p.is
 
-        of : (ns : List Moment) → Lawful (all_ours hosts) ns → (p.later ++ Crossed (crossing.In m) ∷ []) ++ p.earlier ≡ ns
+        of : (ns : List Moment) → Lawful hosts ns → (p.later ++ Crossed (crossing.In m) ∷ []) ++ p.earlier ≡ ns
             → Contains (lives_in ns) x → IsCounted (crossings_of ns) (length (crossings_of p.earlier)) m x
-            → WasSent (crossings_of ns) (lives_in ns) (length (crossings_of p.earlier)) m x
+            → WasSent (crossings_of ns) (lives_among hosts.strange (lives_in ns)) (length (crossings_of p.earlier)) m x
         of ns k is =
             subst (λ (os : List Moment). Contains (lives_in os) x
             → IsCounted (crossings_of os) (length (crossings_of p.earlier)) m x
-            → WasSent (crossings_of os) (lives_in os) (length (crossings_of p.earlier)) m x) is
+            → WasSent (crossings_of os) (lives_among hosts.strange (lives_in os)) (length (crossings_of p.earlier)) m x) is
             (λ there counts. was_sent (p.later ++ Crossed (crossing.In m) ∷ []) p.earlier m (subst (λ
-            (os : List Moment). Lawful (all_ours hosts) os) (sym is) k) step x (is_of x (lives_in ((p.later ++ Crossed
+            (os : List Moment). Lawful hosts os) (sym is) k) step x here.1 (is_of x (lives_in ((p.later ++ Crossed
             (crossing.In m) ∷ []) ++ p.earlier)) there) kind counts)
 
 -- ---- worlds
+
+-- where all hosts run the program, so it is of all lives
+pub all_was_sent : (hosts : List Host) (ms : List Moment) → Lawful (all_ours hosts) ms
+    → EachWasSent (crossings_of ms) (kept_in ms).book.lives
+all_was_sent hosts ms l = subst (λ (ls : List Life). EachWasSent (crossings_of ms) ls) (among_all (kept_in ms).book.lives)
+    (each_was_sent (all_ours hosts) ms l)
 
 pub world_was_sent : {C : Type 0} (seen : C → Seen) (hosts : List Host) (w : WorldState C) → IsLawful seen hosts w
     → EachWasSent w.kept.book.crossings w.kept.book.lives
@@ -806,4 +855,4 @@ world_was_sent seen hosts w lawful =
     subst (λ (log : List Crossing). EachWasSent log w.kept.book.lives) (sym lawful.whole.crossings)
     (subst (λ (lives : List Life). EachWasSent (crossings_of lawful.whole.moments) lives) (sym
     (book_lives seen hosts w lawful))
-    (each_was_sent hosts lawful.whole.moments (book_lawful seen hosts w lawful)))
+    (all_was_sent hosts lawful.whole.moments (book_lawful seen hosts w lawful)))

@@ -10,6 +10,7 @@ use Rattle.world_keeps_streams.proofs.Books.Ending.{WasClosed, ended_by_partner}
 use Rattle.world_keeps_streams.proofs.Books.EndingHanded.{took_sent}
 use Rattle.world_keeps_streams.proofs.Books.Firsts.{formed}
 use Rattle.world_keeps_streams.proofs.Books.Later.{closes_whole}
+use Rattle.world_keeps_streams.proofs.Books.WasSent.{each_was_sent}
 use Rattle.world_keeps_streams.proofs.Ends.Arrived.{answers, closed_all, counts_all}
 use Rattle.world_keeps_streams.proofs.Ends.Contacts.{contacts_now_are}
 use Rattle.world_keeps_streams.proofs.Ends.Fits.{over_now}
@@ -21,6 +22,7 @@ pub returns : goal.returns
 returns c = record {
   lives = λ hosts moments. among_same hosts.strange moments;
   source = λ hosts moments l x ours there. source hosts moments l.0 l.1 l.2 x ours there;
+  was_sent = each_was_sent;
   closes = closes_whole;
   came = all_came;
   ended = λ hosts moments l x ours there kind.

@@ -17,7 +17,7 @@ use Rattle.world_keeps_streams.proofs.Books.EndingHanded.{closes_all}
 use Rattle.world_keeps_streams.proofs.Books.Handed.{took_handed}
 use Rattle.world_keeps_streams.proofs.Books.Later.{closes_whole}
 use Rattle.world_keeps_streams.proofs.Books.Firsts.{all_formed, firsts}
-use Rattle.world_keeps_streams.proofs.Books.WasSent.{each_was_sent}
+use Rattle.world_keeps_streams.proofs.Books.WasSent.{all_was_sent}
 use Rattle.world_keeps_streams.proofs.Ends.Contacts.{contacts_are}
 use Rattle.world_keeps_streams.proofs.Ends.Fits.{all_over}
 use Rattle.world_keeps_streams.proofs.Ends.Within.{all_within}
@@ -26,7 +26,7 @@ use Rattle.world_keeps_streams.proofs.law.lives.Goals as goal
 pub returns : goal.returns
 returns c = record {
   source = λ hosts moments addresses run time receiver. source (all_ours hosts) moments addresses run (happened hosts moments time) receiver (refl, refl);
-  was_sent = λ hosts moments addresses run time. each_was_sent hosts moments (addresses, run, happened hosts moments time);
+  was_sent = λ hosts moments addresses run time. all_was_sent hosts moments (addresses, run, happened hosts moments time);
   closes = λ hosts moments addresses run time receiver closed. closes_whole (all_ours hosts) moments (addresses, run, happened hosts moments time) receiver (refl, refl) closed (refl, refl);
   came = λ hosts moments addresses run time later earlier is x. all_came (all_ours hosts) moments (addresses, run, happened hosts moments time) later earlier is x (refl, refl);
   handed = λ hosts moments addresses run time receiver. took_handed hosts moments (addresses, run, happened hosts moments time) receiver;
