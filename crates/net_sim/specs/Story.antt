@@ -7,7 +7,7 @@ use Rattle.interface.specs.declared.crossing.Crossing.TheVariants as crossing
 use Rattle.interface.specs.declared.crossing.Inbound.TheVariants as inbound
 use Rattle.interface.specs.declared.message.HostMessage.{HostMessage}
 use Rattle.sockets.specs.Accepting.{accepted}
-use Rattle.sockets.specs.Pairs.{NcpState, opening_state}
+use Rattle.sockets.specs.Pairs.{NcpState, opening_state, pair_with}
 use Rattle.sockets.specs.Peers.{AreInOrder}
 use Rattle.sockets.specs.Requests.{served}
 use Rattle.host_pairs.specs.Parcels.{Parcel}
@@ -16,7 +16,7 @@ use Rattle.sockets.specs.declared.peer.Peer.{Peer}
 use Rattle.sockets.specs.declared.request.Request.{Request}
 use Rattle.reset_law.specs.Events.{Event}
 use Rattle.reset_law.specs.Pairs.{pair}
-use Rattle.net_sim.specs.Projection.{IsApart, message_on, event_of, event_by}
+use Rattle.net_sim.specs.Projection.{Agrees, IsApart, message_on, event_of, event_by}
 use Rattle.reset_law.specs.Network.{AreOurs, Network}
 
 -- something crosses, or the user of a host asks for something and isn't refused
@@ -50,6 +50,10 @@ program_after a here (Asked h r) s = if same_host a h then served s r else s
 abbrev pub program : Host → List Moment → NcpState
 program a [] = opening_state a
 program a (x ∷ moments) = program_after a (places moments) x (program a moments)
+
+-- after these moments host `a`'s program is, for its peer `b`, where the law of resets has it
+abbrev pub AgreesAfter : List Moment → Host → Host → Type 0
+AgreesAfter moments a b = Agrees (pair_with b (program a moments).peers) (pair a b (events_of moments))
 
 -- what goes out is what its host's program says next
 pub record IsNext (s : NcpState) (m : HostMessage) : Type 0 where

@@ -9,16 +9,15 @@ ghost use Rattle.interface.specs.declared.crossing.Crossing.{Crossing};
 ghost use Rattle.interface.specs.declared.crossing.Inbound.TheVariants as inbound;
 ghost use Rattle.interface.specs.declared.message.HostMessage.{HostMessage};
 ghost use Rattle.interface.specs.Mailboxes.{Needs, box_of, is_up};
-ghost use Rattle.net_sim.specs.Story.{Moment, IsStory, program, events_of};
-ghost use Rattle.net_sim.specs.Projection.{Agrees, event_of};
+ghost use Rattle.net_sim.specs.Story.{AgreesAfter, IsStory, Moment, events_of, program};
+ghost use Rattle.net_sim.specs.Projection.{event_of};
 ghost use Rattle.net_sim.specs.Timeline.{IsAddressed, crossings_of, seen_box};
 ghost use Rattle.reset_law.specs.Boxes.{boxes};
 ghost use Rattle.reset_law.specs.Events as events;
 ghost use Rattle.reset_law.specs.Network.{AreOurs, Network};
-ghost use Rattle.reset_law.specs.Pairs as pairs;
 ghost use Rattle.reset_law.specs.Runs as runs;
 ghost use Rattle.sockets.specs.Accepting.{accepted};
-ghost use Rattle.sockets.specs.Pairs.{NcpState, pair_with};
+ghost use Rattle.sockets.specs.Pairs.{NcpState};
 ghost use Rattle.sockets.specs.Peers.{AreInOrder};
 ghost use Rattle.sockets.specs.Requests.{served};
 ghost use Rattle.sockets.specs.Sending.{offered};
@@ -36,7 +35,7 @@ pub fn resets()
 /// What becomes of all programs, moment by moment: crossings, and what users ask for.
 pub fn stories()
     // in a story each program is, for each peer, where the law of resets has it
-    ensures agrees { (hosts : Network) (moments : List Moment) (a b : Host) → AreOurs hosts a b → IsStory hosts moments → Agrees (pair_with b (program a moments).peers) (pairs.pair a b (events_of moments)) }
+    ensures agrees { (hosts : Network) (moments : List Moment) (a b : Host) → AreOurs hosts a b → IsStory hosts moments → AgreesAfter moments a b }
 
     // and keeps its own address
     ensures own { (moments : List Moment) (a : Host) → (program a moments).own ≡ a }
