@@ -1,6 +1,7 @@
 //! Scripts: one event a line.
 
 ghost use Rattle.std.specs.Prelude.{◌≡◌, ◌≢◌, ◌==◌, ◌≤◌, false, ◌∷◌, ◌++◌, length, codes, MatchOption, MatchResult, IfOk, IfErr};
+ghost use Rattle.std.proofs.Common.{inr};
 ghost use Rattle.interface.specs.Printed.{flow_text};
 ghost use Rattle.script.specs.Script.{lines_of, is_passed_over, AskFor, IsLineFault};
 ghost use Rattle.script.specs.Spelling.{ReadsAs, IsFlow, IsMessage, IsEvent, IsTextRead, WantsMemory, message_text, spelling};
@@ -8,8 +9,9 @@ ghost use Rattle.script.specs.Steps.{AreCutTwice, AreTooFew, Lacks, ReadsFlow};
 
 use crate::event::RawEvent;
 use crate::fault::LineFault;
-use crate::input::{MAX_INPUT, first_line};
+use crate::input::MAX_INPUT;
 use crate::network::read_net;
+use crate::scripts::{ScriptEvent, read_events};
 use crate::word::{cut, is_word, plain_number, read_count, read_host, read_octet, read_text};
 use interface::{Flow, HostMessage, Link};
 use std::alloc::{AllocError, Global};
@@ -24,21 +26,21 @@ pub fn read_script(alloc: Global, text: &[u8]) -> Result<Vec<RawEvent>, LineFaul
     requires { length text.now ≤ MAX_INPUT }
     ensures { MatchResult result (λ events. AskFor events.items (lines_of text.now)) (IsLineFault text.now) }
 {
-    let mut events = Vec::new(alloc);
-    let mut passed = 0;
-    let mut rest = Some(text);
-    'lines: while let Some(left) = rest {
-        let (line, more) = first_line(left);
-        if !is_passed_over(line) {
-            let Some(event) = read_event(alloc, line)? else {
-                return Err(LineFault::BadLine(passed + 1));
-            };
-            events.push(event)?;
-        }
-        passed += 1;
-        rest = more;
+    read_events(alloc, text)
+}
+
+impl ScriptEvent for RawEvent {
+    ghost spelled = { spelling };
+
+    ghost is_meant = { IsEvent };
+
+    ghost wants = { WantsMemory };
+
+    fn read(alloc: Global, line: &[u8]) -> Result<Option<RawEvent>, AllocError> {
+        read_event(alloc, line)
     }
-    Ok(events)
+
+    ghost kept = { λ e line same meant. inr (e, same, meant) };
 }
 
 /// Returns whether a line is empty or a comment.

@@ -14,6 +14,7 @@ mod input;
 pub mod law;
 mod network;
 pub mod reading;
+mod scripts;
 mod word;
 
 pub use event::RawEvent;

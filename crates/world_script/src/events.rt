@@ -1,6 +1,7 @@
 //! Scripts of worlds: one event a line.
 
 ghost use Rattle.std.specs.Prelude.{◌≡◌, ◌≢◌, ℕ, ◌≤◌, List, ◌∷◌, ◌++◌, codes, length, MatchResult, IfOk, IfErr};
+ghost use Rattle.std.proofs.Common.{inr};
 ghost use Rattle.script.specs.Script.{lines_of};
 ghost use Rattle.script.specs.Spelling.{ReadsAs};
 ghost use Rattle.script.specs.Steps.{Lacks};
@@ -14,9 +15,7 @@ use crate::request::read_request;
 use crate::services::{read_server, read_typed, read_user};
 use crate::verb::{Verb, read_verb};
 use net_sim::Event;
-use script::reading::{
-    cut, first_line, is_passed_over, is_word, plain_number, read_host, read_net,
-};
+use script::reading::{ScriptEvent, cut, is_word, plain_number, read_events, read_host, read_net};
 use script::{LineFault, MAX_INPUT};
 use std::alloc::{AllocError, Global};
 
@@ -29,21 +28,21 @@ pub fn read_world_script(alloc: Global, text: &[u8]) -> Result<Vec<WorldEvent>, 
     requires { length text.now ≤ MAX_INPUT }
     ensures { MatchResult result (λ events. AskFor events.items (lines_of text.now)) (IsLineFault text.now) }
 {
-    let mut events = Vec::new(alloc);
-    let mut passed = 0;
-    let mut rest = Some(text);
-    'lines: while let Some(left) = rest {
-        let (line, more) = first_line(left);
-        if !is_passed_over(line) {
-            let Some(event) = read_event(alloc, line)? else {
-                return Err(LineFault::BadLine(passed + 1));
-            };
-            events.push(event)?;
-        }
-        passed += 1;
-        rest = more;
+    read_events(alloc, text)
+}
+
+impl ScriptEvent for WorldEvent {
+    ghost spelled = { world_spelling };
+
+    ghost is_meant = { IsWorldEvent };
+
+    ghost wants = { WantsMemory };
+
+    fn read(alloc: Global, line: &[u8]) -> Result<Option<WorldEvent>, AllocError> {
+        read_event(alloc, line)
     }
-    Ok(events)
+
+    ghost kept = { λ e line same meant. inr (e, same, meant) };
 }
 
 /// Returns the event that a line asks for. `None` if the line is not a valid event.

@@ -1,6 +1,7 @@
 //! Scripts of worlds with strangers: one event a line.
 
 ghost use Rattle.std.specs.Prelude.{◌≡◌, ◌≢◌, ◌≤◌, ◌∷◌, ◌++◌, codes, length, MatchResult, IfOk, IfErr};
+ghost use Rattle.std.proofs.Common.{inr};
 ghost use Rattle.script.specs.Script.{lines_of};
 ghost use Rattle.script.specs.Spelling.{ReadsAs};
 ghost use Rattle.script.specs.Steps.{Lacks};
@@ -9,7 +10,7 @@ ghost use Rattle.world_script.specs.Mixed.{AskForMixed, IsMixedEvent, IsMixedFau
 use crate::event::{MixedWorldEvent, WorldEvent};
 use crate::events::read_words;
 use net_sim::MixedEvent;
-use script::reading::{cut, first_line, is_passed_over, is_word, read_message};
+use script::reading::{ScriptEvent, cut, is_word, read_events, read_message};
 use script::{LineFault, MAX_INPUT};
 use std::alloc::{AllocError, Global};
 
@@ -23,21 +24,21 @@ pub fn read_mixed_script(alloc: Global, text: &[u8]) -> Result<Vec<MixedWorldEve
     requires { length text.now ≤ MAX_INPUT }
     ensures { MatchResult result (λ events. AskForMixed events.items (lines_of text.now)) (IsMixedFault text.now) }
 {
-    let mut events = Vec::new(alloc);
-    let mut passed = 0;
-    let mut rest = Some(text);
-    'lines: while let Some(left) = rest {
-        let (line, more) = first_line(left);
-        if !is_passed_over(line) {
-            let Some(event) = read_mixed(alloc, line)? else {
-                return Err(LineFault::BadLine(passed + 1));
-            };
-            events.push(event)?;
-        }
-        passed += 1;
-        rest = more;
+    read_events(alloc, text)
+}
+
+impl ScriptEvent for MixedWorldEvent {
+    ghost spelled = { mixed_spelling };
+
+    ghost is_meant = { IsMixedEvent };
+
+    ghost wants = { WantsMixed };
+
+    fn read(alloc: Global, line: &[u8]) -> Result<Option<MixedWorldEvent>, AllocError> {
+        read_mixed(alloc, line)
     }
-    Ok(events)
+
+    ghost kept = { λ e line same meant. inr (inr (e, same, meant)) };
 }
 
 /// Returns the event that a line asks for. `None` if the line is not a valid event.

@@ -1,9 +1,0 @@
-use Rattle.std.proofs.Common.{◌≡◌, ◌≤◌, drop, take, length}
-use Rattle.script.specs.Script.{lines_of, lines_after, AskFor}
-use Rattle.script.proofs.events.read_script.Given as goal
-
-abbrev pub invariant-lines : goal.invariant-lines
-invariant-lines l = (drop l.passed (lines_of l.text) ≡ lines_after l.rest) × AskFor l.events.items (take l.passed (lines_of l.text)) × (length l.text ≤ 268435456)
-
-abbrev pub decreases-lines : goal.decreases-lines
-decreases-lines l = length (lines_after l.rest)
