@@ -67,10 +67,8 @@ GOOD = {
     "empty ones": log([*OPEN, out(NONE), *comes(NONE), out(NONE)], lives(0, "", "", more=1)[0], lives(0, "", "", more=2)[1]),
 }
 BROKEN = {
-    "of before a reset": log(after_a_reset(X), *lives(0, "", "58", "reset"), *lives(13, "5858", "5858")),
-    "of before a reset, without bits": log(
-        after_a_reset(NONE), lives(0, "", "", "reset")[0], lives(0, "", "", "reset", more=1)[1], *lives(13, "", "", more=2)
-    ),
+    "of before a reset": text_of(f"{ROOT}/logs/an-old-message").splitlines(),
+    "of before a reset, without bits": text_of(f"{ROOT}/logs/an-old-message-without-bits").splitlines(),
     "a repeat": log([*OPEN, out(X), *comes(X)[:1], *comes(X), out(X)], *lives(0, "5858", "5858")),
     "a gap": log([*OPEN, out(X), "answer incomplete 0/2 0/1 5", out(X), *comes(X)], *lives(0, "58", "5858")),
     "of another link": log([*OPEN, out(X, 6), *comes(X), out(X)], *lives(0, "58", "58")),

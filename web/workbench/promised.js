@@ -103,6 +103,7 @@ function ofLife(book, life, names) {
         ...(life.receives ? [life] : others).map((it) => grants(life, it)),
         over(book, life, names),
         within(book, life),
+        ...(life.receives ? [sent(book, life, others)] : []),
         whole(life, others),
         allCounted(book, life),
         allThere(book, life, others),
@@ -247,6 +248,35 @@ function within(book, life) {
     const late = book.countedBy(life).find((it) => it > place);
     const name = late === undefined ? "in time" : "too late";
     return said("within", name, { place: place + 1, late: (late ?? 0) + 1, messages: life.messages });
+}
+
+/**
+ * Whether the messages that it counts are the first of a life that it matches.
+ *
+ * @param {Book} book
+ * @param {Life} life
+ * @param {Life[]} others
+ */
+function sent(book, life, others) {
+    const [flow, taken] = [book.flowOf(life), book.countedBy(life)];
+    if (!taken.length) return said("lawful.was_sent", "none counted");
+    const outs = taken.map((at) => book.lastOut(flow, at));
+    const known = others.map((it) => common(outs, book.countedBy(it)));
+    const most = Math.max(0, ...known);
+    if (most < outs.length) return said("lawful.was_sent", "not that", { number: most + 1, line: taken[most] + 1 });
+    const other = others[known.indexOf(most)].line;
+    return said("lawful.was_sent", "each sent", { lines: lines(outs), messages: outs.length, other });
+}
+
+/**
+ * How many are the same at the start of both lists.
+ *
+ * @param {number[]} some
+ * @param {number[]} others
+ */
+function common(some, others) {
+    const at = some.findIndex((it, place) => it !== others[place]);
+    return at < 0 ? some.length : at;
 }
 
 /**

@@ -7,7 +7,7 @@ stranger those of `mixed_worlds::law::toward`. All is worked out by the independ
 
 from __future__ import annotations
 
-from collections.abc import Iterator
+from collections.abc import Iterator, Sequence
 from typing import NamedTuple
 
 from dorydate.model import firsts
@@ -21,12 +21,14 @@ from dorydate.model.fates import LEAVES
 from dorydate.model.fates import over as crossed_by
 from dorydate.model.log import Book
 from dorydate.model.names import Flow, spell_host
+from dorydate.model.was_sent import WasSent
 from dorydate.sentences.table import filled, listed, sentences
 
 SAID = sentences("book")
 TEXTS = sentences("texts")
 ANSWERS = sentences("answers")
 READING = Arrived()
+SENT = WasSent()
 
 
 class Said(NamedTuple):
@@ -102,6 +104,8 @@ def of_life(book: Book, at: int) -> Iterator[Said]:
     yield from grants(book, life, others)
     yield Said("over", over(book, life))
     yield Said("within", within(book, life))
+    if life.receives():
+        yield Said("lawful.was_sent", sent(book, life, others))
     yield Said("whole", whole(book, life, others))
     yield Said("arrived.all", all_counted(book, life))
     yield Said("arrived.closed", all_there(book, life, others))
@@ -233,6 +237,26 @@ def within(book: Book, life: Life) -> str:
     if late is None:
         return filled(SAID["in time"], place=book.crossing_line(place), messages=life.messages)
     return filled(SAID["too late"], place=book.crossing_line(place), late=book.crossing_line(late))
+
+
+def sent(book: Book, life: Life, others: list[Life]) -> str:
+    """Whether the messages that it counts are the first of a life that it matches."""
+    outs = SENT.outs(book.log, life)
+    if not outs:
+        return SAID["none counted"]
+    known = [common(outs, SENT.counted(book.log, it)) for it in others]
+    most = max(known, default=0)
+    if most < len(outs):
+        place = SENT.counted(book.log, life)[most]
+        return filled(SAID["not that"], number=most + 1, line=book.crossing_line(place))
+    other = line_of(book, others[known.index(most)])
+    went = [it for it in outs if it is not None]
+    return filled(SAID["each sent"], messages=len(outs), lines=lines(book, went), other=other)
+
+
+def common(some: Sequence[int | None], others: Sequence[int]) -> int:
+    """How many are the same at the start of both lists."""
+    return next((at for at, (it, other) in enumerate(zip(some, others)) if it != other), min(len(some), len(others)))
 
 
 def whole(book: Book, life: Life, others: list[Life]) -> str:
