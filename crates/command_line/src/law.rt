@@ -1,7 +1,7 @@
 //! What replays, logs and audits promise, as laws over their definitions. The functions here do nothing: their clauses
 //! are the laws.
 
-ghost use Rattle.std.specs.Prelude.{◌≡◌, ◌↔◌, ◌+◌, ℕ, Bool, true, false, List, [], ◌∷◌, reverse};
+ghost use Rattle.std.specs.Prelude.{◌≡◌, ◌↔◌, ◌+◌, ℕ, Bool, true, false, List, [], ◌∷◌, length, reverse};
 ghost use Rattle.std.specs.Prelude.{Ok, Option, Some, None, codes};
 ghost use Rattle.book_judge.specs.Fates.{AreSuited};
 ghost use Rattle.book_judge.specs.Lives.{AreMade};
@@ -24,6 +24,7 @@ ghost use Rattle.promise.specs.declared.life.Amount.{Amount};
 ghost use Rattle.promise.specs.declared.life.Life.{Life};
 ghost use Rattle.replay.specs.declared.print.Detail.{Detail};
 ghost use Rattle.command_line.specs.Audits.{IsKeptLog, IsSafeLog, KeepsEnds, SaysKept, SaysOf, kept, layout_of, place_in};
+ghost use Rattle.command_line.specs.Audits.{found_text, malformed_text, toward_text};
 ghost use Rattle.command_line.specs.Audits.{program_fates, program_lists, program_lives, word_text};
 ghost use Rattle.command_line.specs.Events.{is_raw};
 ghost use Rattle.command_line.specs.Laws.{FirstPart, OneBook, OneOutput, OneReplay, WorkedAmong, WorkedLines, WorkedLives};
@@ -34,7 +35,8 @@ ghost use Rattle.command_line.specs.MixedPrinted.{PrintsBookAmong, PrintsPartAmo
 ghost use Rattle.command_line.specs.Printed.{PrintsBook, PrintsPart};
 ghost use Rattle.command_line.specs.Replayed.{Ran, RanInPart};
 ghost use Rattle.command_line.specs.Worked.{here, life_one, there, told_one, took_one};
-ghost use Rattle.command_line.specs.WorkedVerdicts.{NotSaid, matched_past};
+ghost use Rattle.command_line.specs.WorkedVerdicts.{IsNeverSaid, NotSaid, matched_past};
+ghost use Rattle.command_line.specs.WorkedVerdicts.{beside_one, broken_beside, broken_lines};
 ghost use Rattle.command_line.specs.declared.verdict.Verdict.{Verdict};
 
 /// The input determines the output, with the book and without it, with texts and without them. It asks for one list of
@@ -178,7 +180,29 @@ pub fn worked_judged()
     ensures exchanged { (n : ℕ) → NotSaid (record kept { partners = Some (finding.Lives (n + 1) n) }) }
     ensures crossing { (n : ℕ) → NotSaid (record kept { streams = Some (finding.Crossing n) }) }
     ensures list { (n : ℕ) → NotSaid (record kept { grants = Some (finding.List n) }) }
-    ensures match_past { (hosts : List Host) (b : log.Book) → SaysOf (matched_past hosts b) hosts b → ⊥ }
+    ensures match_past { IsNeverSaid matched_past }
+{}
+
+/// Places past the end of a log, where nothing of it is broken: no audit names such a place.
+pub fn worked_first()
+    ensures run { IsNeverSaid (λ _ b. record kept { stray = Some (length b.crossings) }) }
+    ensures lives { IsNeverSaid (λ hosts b. record kept { unmade = Some (length (program_lives hosts b)) }) }
+    ensures malformed { IsNeverSaid (λ _ b. record kept { malformed = Some (finding.Life (length (log.lives_of b))) }) }
+    ensures messages { IsNeverSaid (λ _ b. record kept { messages = Some (finding.Crossing (length b.crossings)) }) }
+    ensures fates { IsNeverSaid (λ hosts b. record kept { unsuited = Some (length (program_lives hosts b)) }) }
+    ensures toward { IsNeverSaid (λ _ b. record kept { toward = Some (length (log.lives_of b) + length b.handed) }) }
+{}
+
+/// The lines of an audit, by their places: of a log of one stranger, three crossings and three lives, the first of
+/// which is toward the stranger.
+pub fn worked_places()
+    // run and messages are about all crossings, lives, partners, streams and fates about lives among programs
+    ensures said { found_text beside_one broken_beside ≡ broken_lines }
+
+    // toward and malformed are about all lives, and lists come after them
+    ensures toward { toward_text beside_one (Some 0) ≡ codes "broken toward line 5\n" }
+    ensures life { malformed_text beside_one (Some (finding.Life 0)) ≡ codes "malformed line 5\n" }
+    ensures list { malformed_text beside_one (Some (finding.List 2)) ≡ codes "malformed line 10\n" }
 {}
 
 /// Of a log that is kept nothing else is said.

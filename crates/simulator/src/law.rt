@@ -4,8 +4,9 @@
 ghost use Rattle.std.specs.Prelude.{◌≡◌, ℕ, Bool, true, false, List, [], ◌∷◌, length};
 ghost use Rattle.std.specs.Prelude.{Ok, Err, Some, None, codes};
 ghost use Rattle.simulator.specs.Laws.{OneTrace};
-ghost use Rattle.simulator.specs.Program.{Closes, EndsTask, Sides};
+ghost use Rattle.simulator.specs.Program.{Closes, EndsTask, Sides, exit_status};
 ghost use Rattle.simulator.specs.Recorded.{PrintsTrace, recorded_text, unforgotten};
+ghost use Rattle.command_line.specs.Audits.{kept};
 ghost use Rattle.simulator.specs.WorkedSides.{Never, starts};
 ghost use Rattle.simulator.specs.WorkedSides.{drained, no_options, only_check, out_of_memory, unread, wrote};
 ghost use Rattle.command_line.specs.declared.auditing.AuditFault.TheVariants as unlogged;
@@ -74,4 +75,19 @@ pub fn worked_failures()
 
     // options that were read are not refused
     ensures good_words { (s : Sides) → EndsTask None (Some no_options) s (Err (fault.Script script.BadOptions)) → ⊥ }
+{}
+
+/// Exit statuses.
+pub fn worked_statuses()
+    // of what was written, of a log that is kept, and of one in which anything is broken, be it how a life ends
+    ensures written { exit_status (Ok did.Written) ≡ 0 }
+    ensures kept { exit_status (Ok (did.Audited kept)) ≡ 0 }
+    ensures safe { (n : ℕ) → exit_status (Ok (did.Audited (record kept { unsuited = Some n }))) ≡ 4 }
+    ensures broken { (n : ℕ) → exit_status (Ok (did.Audited (record kept { stray = Some n }))) ≡ 4 }
+
+    // of an audit's faults
+    ensures no_log { (line : ℕ) → exit_status (Err (fault.Audit (unlogged.BadLog line))) ≡ 2 }
+    ensures unread { exit_status (Err (fault.Audit unlogged.CannotRead)) ≡ 1 }
+    ensures memory { exit_status (Err (fault.Audit unlogged.OutOfMemory)) ≡ 3 }
+    ensures unwritten { exit_status (Err (fault.Audit unlogged.CannotWrite)) ≡ 3 }
 {}
