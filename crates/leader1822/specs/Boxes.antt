@@ -219,39 +219,19 @@ host_started b h = record b {
 abbrev pub no_event_refusal : Bool → Option CarrierFault
 no_event_refusal stopped = if stopped then Some fault.Stopped else Some fault.NoSuch
 
--- the first refusal of an event
+-- the first refusal of an event; plain mailboxes have these three alone
 abbrev pub step_refusal : Boxes → NetEvent → Option CarrierFault
 step_refusal b (event.GiveUp f) = give_up_refusal b f
 step_refusal b (event.HostDown h) = host_refusal b h
 step_refusal b (event.HostUp h) = host_up_refusal b h
-step_refusal b (event.Deliver line direction frame) = no_event_refusal b.stopped
-step_refusal b (event.Drop line direction frame) = no_event_refusal b.stopped
-step_refusal b (event.Resend imp) = no_event_refusal b.stopped
-step_refusal b (event.Route imp) = no_event_refusal b.stopped
-step_refusal b (event.EndDown imp line) = no_event_refusal b.stopped
-step_refusal b (event.EndUp imp line) = no_event_refusal b.stopped
-step_refusal b (event.ImpDown imp) = no_event_refusal b.stopped
-step_refusal b (event.ImpUp imp) = no_event_refusal b.stopped
-step_refusal b (event.Forget at from) = no_event_refusal b.stopped
-step_refusal b (event.Abandon f) = no_event_refusal b.stopped
-step_refusal b (event.Ask f) = no_event_refusal b.stopped
+step_refusal b e = no_event_refusal b.stopped
 
 -- what an event leaves, where it is not refused
 abbrev pub stepped : Boxes → NetEvent → Boxes
 stepped b (event.GiveUp f) = given_up b f
 stepped b (event.HostDown h) = host_stopped b h
 stepped b (event.HostUp h) = host_started b h
-stepped b (event.Deliver line direction frame) = b
-stepped b (event.Drop line direction frame) = b
-stepped b (event.Resend imp) = b
-stepped b (event.Route imp) = b
-stepped b (event.EndDown imp line) = b
-stepped b (event.EndUp imp line) = b
-stepped b (event.ImpDown imp) = b
-stepped b (event.ImpUp imp) = b
-stepped b (event.Forget at from) = b
-stepped b (event.Abandon f) = b
-stepped b (event.Ask f) = b
+stepped b e = b
 
 -- ---- memory
 
@@ -268,17 +248,7 @@ abbrev pub step_grows : Boxes → NetEvent → Bool
 step_grows b (event.GiveUp f) = give_up_grows b f
 step_grows b (event.HostDown h) = true
 step_grows b (event.HostUp h) = true
-step_grows b (event.Deliver line direction frame) = false
-step_grows b (event.Drop line direction frame) = false
-step_grows b (event.Resend imp) = false
-step_grows b (event.Route imp) = false
-step_grows b (event.EndDown imp line) = false
-step_grows b (event.EndUp imp line) = false
-step_grows b (event.ImpDown imp) = false
-step_grows b (event.ImpUp imp) = false
-step_grows b (event.Forget at from) = false
-step_grows b (event.Abandon f) = false
-step_grows b (event.Ask f) = false
+step_grows b e = false
 
 -- ---- the calls
 
