@@ -7,9 +7,9 @@ ghost use Rattle.net_sim.specs.MixedWorlds.{IsLawfulAmong, MixedCalmGives, Mixed
 ghost use Rattle.net_sim.specs.MixedWorlds.{OpensMixed, opening_mixed, strange_in};
 ghost use Rattle.net_sim.specs.Rest.{IsAtRest};
 ghost use Rattle.net_sim.specs.Silent.{AllSilent};
+ghost use Rattle.net_sim.specs.World.{StepGives};
 ghost use Rattle.promise.specs.Fates.{AreFated};
 
-use crate::WorldFault;
 use crate::book::Book;
 use crate::mixed::{MixedEvent, MixedFault, StrangersFault};
 use crate::parts::Hosts;
@@ -17,6 +17,7 @@ use crate::seat::{Seat, ServiceSeat};
 use crate::strangers::{absent_in, answer_of, programs_of, stops_mixed, strangers_of};
 use crate::world::are_addresses;
 use crate::world_core::WorldCore;
+use crate::{Event, WorldFault};
 use interface::{Carrier, CarrierFault, HostAddr};
 use promise::{BitLog, Fate};
 use std::alloc::{AllocError, Global};
@@ -146,6 +147,19 @@ impl<C: Carrier> MixedWorld<C> {
         ensures { MixedStepGives (shown C.calls) self.old event result self.new }
     {
         self.core.step_among(&self.strangers, event)
+    }
+
+    /// Lets one event happen as those of a calm do, in which no stranger has a turn: at a stranger it is refused, as at a host
+    /// that the network doesn't have, and what waits for it stays.
+    ///
+    /// Errors: those of [`World::step`](crate::World::step).
+    pub fn turn(&mut self, event: Event) -> Result<(), WorldFault>
+        ensures gives { StepGives (shown C.calls) self.old.world event result self.new.world }
+        ensures strangers { self.new.strangers ≡ self.old.strangers }
+    {
+        let done = self.core.step(&event);
+        self.core.is_run();
+        done
     }
 
     /// Lets one event happen after the other. It continues after a refusal, and ends when memory runs out.

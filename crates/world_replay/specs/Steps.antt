@@ -1,16 +1,9 @@
 -- What the contracts of private functions say. No public clause cites this file.
-use Rattle.std.specs.Prelude.{◌≡◌, ℕ, suc, ◌+◌, Bool, false, true, List, [], ◌++◌, Option, Some, Result, Ok, Err}
+use Rattle.std.specs.Prelude.{◌≡◌, ℕ, suc, ◌+◌, false, true, List, [], ◌++◌, Option, Some, Result, Ok, Err}
 use Rattle.std.specs.Io.KnownBytes.{Appends}
-use Rattle.interface.specs.Host.{Host, is_host}
-use Rattle.interface.specs.declared.carrier.CarrierFault.TheVariants as carrier
 use Rattle.interface.specs.declared.crossing.Crossing.{Crossing}
 use Rattle.net_sim.specs.MixedWorlds.{mixed_stops}
-use Rattle.net_sim.specs.declared.event.Event.{Event}
-use Rattle.net_sim.specs.declared.event.Event.TheVariants.{Offer, Take}
-use Rattle.net_sim.specs.declared.event.WorldFault.{WorldFault}
-use Rattle.net_sim.specs.declared.event.WorldFault.TheVariants.{Carrier}
 use Rattle.net_sim.specs.declared.mixed.MixedFault.{MixedFault}
-use Rattle.net_sim.specs.declared.mixed.MixedFault.TheVariants.{HasProgram, NoProgram, World}
 use Rattle.replay.specs.declared.events.ReplayFault.{ReplayFault}
 use Rattle.replay.specs.declared.events.ReplayFault.TheVariants as fault
 use Rattle.replay.specs.declared.print.Detail.{Detail}
@@ -79,22 +72,3 @@ pub record Fronts (detail : Detail) (before : ℕ) (crossings : List Crossing) (
   pub whole : (more : List Shown)
       → shown_in_turn before crossings (news ++ more) ≡ shown ++ shown_in_turn later left more
   pub written : Appends a b (output detail shown)
-
--- ---- an event of a calm among strangers
-
--- a taking, and an offer in its place
-abbrev pub taken_or_offered : Bool → Host → Event
-taken_or_offered true h = Offer h
-taken_or_offered false h = Take h
-
--- what strangers would take stays
-abbrev pub untaken : List Host → Event → Event
-untaken strangers (Take h) = taken_or_offered (is_host strangers h) h
-untaken strangers e = e
-
--- an answer of a world in which strangers aren't there
-abbrev pub as_absent : Result (Unit {0}) MixedFault → Result (Unit {0}) WorldFault
-as_absent (Ok done) = Ok done
-as_absent (Err (World f)) = Err f
-as_absent (Err NoProgram) = Err (Carrier carrier.NoSuch)
-as_absent (Err HasProgram) = Err (Carrier carrier.NoSuch)

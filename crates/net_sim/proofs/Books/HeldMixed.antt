@@ -1,5 +1,6 @@
 -- What a world with strangers keeps is enough for its next event.
-use Rattle.net_sim.proofs.Common.{◌≡◌, ℕ, Bool, false, List, [], sym, subst, MatchBool, Calls, InOrder, Host, IsAddress, is_host, Kept, shown, running, WorldState, Carrier, Seat, ServiceSeat}
+use Rattle.net_sim.proofs.Common.{◌≡◌, ℕ, Bool, false, List, [], sym, subst, MatchBool, Calls, InOrder, Host, IsAddress, is_host, IsNamed, Kept, shown, running, StepGives, WorldState, WorldFault, Carrier, Seat, ServiceSeat}
+use Rattle.net_sim.specs.World.{Event}
 use Rattle.std.proofs.Common.{All, Result}
 use Rattle.std.specs.List.{filter}
 use Rattle.interface.specs.Mailboxes.{IsRun}
@@ -31,23 +32,28 @@ module _ {C : Type 0} (own : Calls C) (old new : MixedState C) (r : Result (Unit
   abbrev Lawful : List Host → Type 0
   Lawful hs = IsLawfulAmong (strange_in new) own.seen hs new.world
 
-  held_by : mixed.Keeps own hosts (strange_in new) new.world
-      → (IsRun hosts (own.seen new.world.carrier).log → Lawful hosts) → IsHeldAmong own.seen new
-  held_by kept lawful =
+  held_by : mixed.Keeps own hosts (strange_in new) new.world → IsHeldAmong own.seen new
+  held_by kept =
       let same : (own.seen new.world.carrier).hosts ≡ hosts = kept.whole.network in
       let mine : IsRun hosts (own.seen new.world.carrier).log =
       subst (λ (hs : List Host). IsRun hs (own.seen new.world.carrier).log) same run in
-      record { ordered = subst InOrder (sym same) held.ordered; lawful = subst Lawful (sym same) (lawful mine) }
+      record {
+        ordered = subst InOrder (sym same) held.ordered;
+        lawful = subst Lawful (sym same) (mixed.lawful_by own hosts (strange_in new) new.world held.lawful.addresses mine kept);
+      }
 
   step_held : (e : MixedEvent) → IsNamedMixed e → MixedStepGives (shown own) old e r new → IsHeldAmong own.seen new
   step_held e named gives =
       held_by (mixed.mixed_keeps own hosts e old r new named (mixed.kept_of own hosts old held.lawful) gives)
-      (λ mine. mixed.step_mixed own hosts old new r held.lawful mine e named gives)
+
+  pub turn_held : (e : Event) (answer : Result (Unit {0}) WorldFault) → IsNamed e → StepGives (shown own) old.world e answer new.world
+      → new.strangers ≡ old.strangers → IsHeldAmong own.seen new
+  turn_held e answer named gives same =
+      held_by (mixed.turn_keeps own hosts e old answer new named (mixed.kept_of own hosts old held.lawful) gives same)
 
   pub calm_held : (times : ℕ) → MixedCalmGives (shown own) times old r new → IsHeldAmong own.seen new
   calm_held times gives =
       held_by (mixed.calm_keeps own hosts times old r new (mixed.kept_of own hosts old held.lawful) gives)
-      (λ mine. mixed.calm_mixed own hosts old new r held.lawful mine times gives)
 
 abbrev pub on_now : {C : Type 0} → MixedState C → MixedState C
 on_now s = record { world = running s.world.carrier s.world.seats s.world.services s.world.kept; strangers = s.strangers }

@@ -69,6 +69,10 @@ module _ {C : Type 0} (own : Calls C) (hosts : List Host) where
     strangers = k.strangers;
   }
 
+  -- as in a world in which no stranger is
+  pub turn_keeps : (e : Event) (old : MixedState C) (r : Answer) (new : MixedState C) → IsNamed e → Kept old → StepGives (shown own) old.world e r new.world → new.strangers ≡ old.strangers → Kept new
+  turn_keeps e old r new named k h same = subst (λ (xs : List Host). Keeps (λ g. is_host xs g) new.world) (sym same) (step_keeps (strange_in old) e old.world r new.world named k h)
+
   -- something that a stranger isn't asked for
   asked_keeps : (e : Event) (old : MixedState C) (r : Mixed) (new : MixedState C) → IsNamed e → Kept old
       → MatchBool (is_strange (strange_in old) (asked_at e)) (RefusesMixed NoProgram old r new) (OfWorld (StepGives (shown own) old.world e) old r new) → Kept new
