@@ -87,15 +87,15 @@ class OfBooks(unittest.TestCase):
 
     def test_message_by_message(self) -> None:
         """What was counted went out as the partner's message of that number, or not."""
-        self.assertEqual(said(10)["lawful.was_sent"], "What it counts went out in line 7: the first 1 message of the life of line 11.")
-        self.assertNotIn("lawful.was_sent", said(11))
+        self.assertEqual(said(10)["sent"], "What it counts went out in line 7: the first 1 message of the life of line 11.")
+        self.assertNotIn("sent", said(11))
         twice = ("in 0/2 0/1 5 56 00080002004849\n", 2 * "in 0/2 0/1 5 56 00080002004849\n"), ("1 16 1 100 0 0 open 4849", "2 32 1 100 0 0 open 48494849")
         words = "Message 2 of those that it counts, of line 9, isn't message 2 of a life that it matches."
-        self.assertEqual(said(11, *twice)["lawful.was_sent"], words)
+        self.assertEqual(said(11, *twice)["sent"], words)
         unsent = ("1 16 0 0 0 0 open 4849", "0 0 0 0 0 0 open -")
-        self.assertRegex(said(10, unsent)["lawful.was_sent"], "^Message 1 .*, of line 8, isn't message 1 of a life that it matches.$")
+        self.assertRegex(said(10, unsent)["sent"], "^Message 1 .*, of line 8, isn't message 1 of a life that it matches.$")
         fewer = ("receive 1 16 1 100 0 0 open 4849", "receive 0 0 1 100 0 0 open -")
-        self.assertEqual(said(10, fewer)["lawful.was_sent"], "It counts no message.")
+        self.assertEqual(said(10, fewer)["sent"], "It counts no message.")
 
     def test_contacts(self) -> None:
         self.assertRegex(said(7)["contacts"], "^It isn't just an RST, .* with 0/1 since 0/2 last sent there")

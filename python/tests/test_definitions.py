@@ -258,6 +258,13 @@ class OfLogs(unittest.TestCase):
             ("receiver: line 10", "16 is more than 15"),
         )
 
+    def test_a_message_of_before_a_reset(self) -> None:
+        """Whether it has the bits of the one that was sent, or both have none, only message by message it shows."""
+        for file in ("an-old-message", "an-old-message-without-bits"):
+            found = self.broken(file=file)
+            self.assertEqual([*found], ["sent"])
+            self.assertIn("receiver: line 28", found["sent"])
+
     def test_a_contact_that_nobody_sees(self) -> None:
         self.assertEqual(self.broken(("receive 1 16 1 100 0 0 open", "receive 1 16 1 100 0 0 reset")), {})
 

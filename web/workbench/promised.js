@@ -259,13 +259,13 @@ function within(book, life) {
  */
 function sent(book, life, others) {
     const [flow, taken] = [book.flowOf(life), book.countedBy(life)];
-    if (!taken.length) return said("lawful.was_sent", "none counted");
+    if (!taken.length) return said("sent", "none counted");
     const outs = taken.map((at) => book.lastOut(flow, at));
     const known = others.map((it) => common(outs, book.countedBy(it)));
     const most = Math.max(0, ...known);
-    if (most < outs.length) return said("lawful.was_sent", "not that", { number: most + 1, line: taken[most] + 1 });
+    if (most < outs.length) return said("sent", "not that", { number: most + 1, line: taken[most] + 1 });
     const other = others[known.indexOf(most)].line;
-    return said("lawful.was_sent", "each sent", { lines: lines(outs), messages: outs.length, other });
+    return said("sent", "each sent", { lines: lines(outs), messages: outs.length, other });
 }
 
 /**

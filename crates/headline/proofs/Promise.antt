@@ -16,8 +16,9 @@ use Rattle.headline.specs.Promise.{IsExact, KeepsPromise}
 use Rattle.world_keeps_connections.proofs.lemmas.{world_joined}
 use Rattle.world_keeps_lives.proofs.lemmas.{world_drained, world_handed, world_taken, world_told}
 use Rattle.world_keeps_pairing.proofs.lemmas.{world_alone, world_partners}
+use Rattle.world_keeps_streams.specs.Sent.{EachWasSent}
 use Rattle.world_keeps_streams.specs.Within.{CountNothingLater}
-use Rattle.world_keeps_streams.proofs.lemmas.{world_agrees, world_answered, world_arrives, world_calms, world_came, world_closes, world_comes, world_firsts, world_formed, world_handed_over, world_rests, world_sent, world_settles, world_source, world_was_sent}
+use Rattle.world_keeps_streams.proofs.lemmas.{world_agrees, world_answered, world_arrives, world_calms, world_came, world_closes, world_comes, world_firsts, world_formed, world_handed_over, world_rests, world_sent, world_settles, world_source}
 
 -- what is left of a run without its newest crossings is one
 older_run : (hosts : List Host) (more log : List Crossing) → IsRun hosts (more ++ log) → IsRun hosts log
@@ -64,15 +65,15 @@ exact seen w lawful = record {
   drained = world_drained seen (seen w.carrier).hosts w lawful;
   handed = world_handed_over seen (seen w.carrier).hosts w lawful;
   firsts = world_firsts seen (seen w.carrier).hosts w lawful;
-  was_sent = world_was_sent seen (seen w.carrier).hosts w lawful;
 }
 
 -- so it is where a call promises each of the book that it gives
 pub given : {C : Type 0} (seen : C → Seen) (w : WorldState C) (k : Kept) → k ≡ w.kept → Promised (seen w.carrier).hosts k.book k.handed → AreFated k.book.lives k.fates
     → ClosesWhole k.book.crossings k.book.lives k.handed k.fates → ArrivedBook k.book.contacts k.book.crossings k.book.lives k.fates
     → AreLeft k.book.contacts k.book.crossings k.book.lives k.fates → AreContacts k.book.contacts k.book.crossings
-    → CountNothingLater k.book.contacts k.book.crossings k.book.lives → IsExact seen w → KeepsPromise seen w
-given seen w k is promised fated whole arrived over contacts within exact = record {
+    → CountNothingLater k.book.contacts k.book.crossings k.book.lives → EachWasSent k.book.crossings k.book.lives
+    → IsExact seen w → KeepsPromise seen w
+given seen w k is promised fated whole arrived over contacts within sent exact = record {
   promised = subst (λ (j : Kept). Promised (seen w.carrier).hosts j.book j.handed) is promised;
   fated = subst (λ (j : Kept). AreFated j.book.lives j.fates) is fated;
   whole = subst (λ (j : Kept). ClosesWhole j.book.crossings j.book.lives j.handed j.fates) is whole;
@@ -80,5 +81,6 @@ given seen w k is promised fated whole arrived over contacts within exact = reco
   over = subst (λ (j : Kept). AreLeft j.book.contacts j.book.crossings j.book.lives j.fates) is over;
   contacts = subst (λ (j : Kept). AreContacts j.book.contacts j.book.crossings) is contacts;
   within = subst (λ (j : Kept). CountNothingLater j.book.contacts j.book.crossings j.book.lives) is within;
+  sent = subst (λ (j : Kept). EachWasSent j.book.crossings j.book.lives) is sent;
   exact = exact;
 }

@@ -19,8 +19,7 @@ use Rattle.world_keeps_streams.specs.Within.{CountNothingLater}
 
 -- a world is lawful; in its moments data arrive, and RFNM of data means that they did; lives agree where their ends
 -- close and where they rest; all that was ever sent had come in when a CLS was taken, and what was handed over was sent
--- where a sender closes first; each message that went out is one of a sending life, and the k-th that a receiving one
--- counts is the k-th of its partner, whatever their bits
+-- where a sender closes first; and each message that went out is one of a sending life
 pub record IsExact {C : Type 0} (seen : C → Seen) (w : WorldState C) : Type 0 where
   pub lawful : IsLawful seen (seen w.carrier).hosts w
   pub arrives : AllArrive lawful.whole.moments
@@ -35,7 +34,6 @@ pub record IsExact {C : Type 0} (seen : C → Seen) (w : WorldState C) : Type 0 
   pub drained : AllDrained lawful.whole.moments
   pub handed : AllHanded lawful.whole.moments
   pub firsts : FirstBook w.kept.book.crossings w.kept.book.lives
-  pub was_sent : EachWasSent w.kept.book.crossings w.kept.book.lives
 
 -- the book of a world keeps the promise, and the world is exact: what `book_of` says of it, a field for each clause
 pub record KeepsPromise {C : Type 0} (seen : C → Seen) (w : WorldState C) : Type 0 where
@@ -46,4 +44,5 @@ pub record KeepsPromise {C : Type 0} (seen : C → Seen) (w : WorldState C) : Ty
   pub over : AreLeft w.kept.book.contacts w.kept.book.crossings w.kept.book.lives w.kept.fates
   pub contacts : AreContacts w.kept.book.contacts w.kept.book.crossings
   pub within : CountNothingLater w.kept.book.contacts w.kept.book.crossings w.kept.book.lives
+  pub sent : EachWasSent w.kept.book.crossings w.kept.book.lives
   pub exact : IsExact seen w

@@ -6,6 +6,7 @@ ghost use Rattle.promise.specs.Arrived.{ArrivedBook};
 ghost use Rattle.promise.specs.Ends.{AreContacts, AreLeft};
 ghost use Rattle.promise.specs.Fates.{AreFated, ClosesWhole};
 ghost use Rattle.promise.specs.Promised.{Promised};
+ghost use Rattle.world_keeps_streams.specs.Sent.{EachWasSent};
 ghost use Rattle.world_keeps_streams.specs.Within.{CountNothingLater};
 
 use interface::Carrier;
@@ -23,6 +24,7 @@ use net_sim::{Book, World};
 /// - `over`: `AreLeft`. Nothing ends a life between its requests, and it is over by what its fate says.
 /// - `contacts`: `AreContacts`. What a host sends to another next after a contact with it is an RST.
 /// - `within`: `CountNothingLater`. A life that is over counts no message that crossed after what ended it.
+/// - `sent`: `EachWasSent`. The k-th message that a receiving life counts is the k-th of the life that it matches.
 ///
 /// By `lawful` the world is exact (`IsExact`): the book says what the programs of all hosts make of what crossed and of
 /// what their users asked for.
@@ -36,6 +38,7 @@ pub fn book_of<C: Carrier>(world: &World<C>) -> Book<'_>
     ensures over { AreLeft result.book.contacts result.book.crossings result.book.lives result.fates }
     ensures contacts { AreContacts result.book.contacts result.book.crossings }
     ensures within { CountNothingLater result.book.contacts result.book.crossings result.book.lives }
+    ensures sent { EachWasSent result.book.crossings result.book.lives }
 {
     world.book()
 }

@@ -23,6 +23,7 @@ use Rattle.world_keeps_lives.proofs.lemmas.{handed_among}
 use Rattle.world_keeps_lives.proofs.lemmas.Laws as laws
 use Rattle.world_keeps_streams.proofs.lemmas.{among_there, in_beside, took_all}
 use Rattle.world_keeps_streams.specs.Laws as streams
+use Rattle.world_keeps_streams.specs.Sent.{EachWasSent}
 use Rattle.world_keeps_streams.specs.Within.{CountNothingLater}
 use Rattle.mixed_worlds.specs.Arrived.{ArrivedAmong}
 use Rattle.mixed_worlds.proofs.Contacts.{same_course, same_stage}
@@ -169,6 +170,9 @@ module _ (law : streams.Among) (hosts : Network) (moments : List Moment) (addres
   within x cause place there over =
       subst (λ (xs : List Life). CountNothingLater (contacts_of moments) log xs) (same_lives hosts.strange moments) (law.within hosts moments all) x cause place there
       (sym (same_stage hosts x (kept x there).1 (contacts_of moments) log) ∙ over)
+
+  pub sent : EachWasSent log lives
+  sent = subst (λ (xs : List Life). EachWasSent log xs) (same_lives hosts.strange moments) (law.was_sent hosts moments all)
 
   pub arrived : ArrivedAmong hosts.strange (contacts_among hosts.strange (contacts_of moments)) log lives fates
   arrived = record {

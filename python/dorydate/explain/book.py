@@ -105,7 +105,7 @@ def of_life(book: Book, at: int) -> Iterator[Said]:
     yield Said("over", over(book, life))
     yield Said("within", within(book, life))
     if life.receives():
-        yield Said("lawful.was_sent", sent(book, life, others))
+        yield Said("sent", sent(book, life, others))
     yield Said("whole", whole(book, life, others))
     yield Said("arrived.all", all_counted(book, life))
     yield Said("arrived.closed", all_there(book, life, others))

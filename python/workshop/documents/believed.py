@@ -21,7 +21,7 @@ from workshop.parts import ROOT
 
 PAGE = f"{ROOT}/docs/measured/promise.md"
 BOOK = f"{ROOT}/crates/headline/src/book.rt"
-MOST_LINES = 563  # without comments, imports and empty lines: what the clauses need, counted
+MOST_LINES = 577  # without comments, imports and empty lines: what the clauses need, counted
 READING = ("host_pairs", "ncp_control", "bit_messages")  # crates whose definitions say how texts are read
 HEAD = """# What must be believed
 

@@ -50,6 +50,8 @@ WORKED = (
     ("`arrived`", "an open life counts what came in on its link, and RFNM of data means that they are among its bits", "line 9 is RFNM of the message of line 7, the first one of the life of line 11. Line 8 took it, and it is the first one of the life of line 10, which is open"),
     ("`over`", "nothing ends a life between its requests, and it is over as its fate says", "the life of 0/1 begins with line 5 and that of 0/2 with line 4, the second request of each. Since then no CLS, no RST and no answer but RFNM crossed between them, no host stopped, and nobody asked for a contact: both have the stage `Going false false`, which leaves `Open`"),
     ("`contacts`", "what a host sends to another next after a contact is an RST", "nothing here: there is no contact"),
+    ("`within`", "a life that is over counts nothing that crossed later", "nothing here: no life is over"),
+    ("`sent`", "the k-th message that a receiving life counts went out as the k-th of the life that it matches", "0/1 took its first message in line 8. The last one of that flow before this went out in line 7, and it is the first one of the life of line 11"),
 )
 
 

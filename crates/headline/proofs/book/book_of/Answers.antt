@@ -6,7 +6,8 @@ use Rattle.promise.specs.Fates.{AreFated, ClosesWhole}
 use Rattle.promise.specs.Promised.{Promised}
 use Rattle.net_sim.proofs.lemmas.{world_fated}
 use Rattle.world_keeps_streams.proofs.lemmas.{world_arrived, world_contacts, world_ended, world_over}
-use Rattle.world_keeps_streams.proofs.lemmas.{world_within}
+use Rattle.world_keeps_streams.proofs.lemmas.{world_was_sent, world_within}
+use Rattle.world_keeps_streams.specs.Sent.{EachWasSent}
 use Rattle.world_keeps_streams.specs.Within.{CountNothingLater}
 use Rattle.headline.proofs.Promise.{exact, promised}
 use Rattle.headline.proofs.book.book_of.Goals as goal
@@ -48,4 +49,10 @@ pub returns-clause-within : goal.returns-clause-within
 returns-clause-within g c =
     subst (λ (k : Kept). CountNothingLater k.book.contacts k.book.crossings k.book.lives) (sym c.book.ensures.value)
     (world_within g.C.Carrier.calls.seen
+    (g.C.Carrier.calls.seen c.args.world.now.carrier).hosts c.args.world.now c.book.ensures.lawful)
+
+pub returns-clause-sent : goal.returns-clause-sent
+returns-clause-sent g c =
+    subst (λ (k : Kept). EachWasSent k.book.crossings k.book.lives) (sym c.book.ensures.value)
+    (world_was_sent g.C.Carrier.calls.seen
     (g.C.Carrier.calls.seen c.args.world.now.carrier).hosts c.args.world.now c.book.ensures.lawful)

@@ -1,7 +1,7 @@
 use Rattle.std.proofs.Common.{◌≡◌, List}
 use Rattle.reset_law.specs.Network.{Network}
 use Rattle.mixed_worlds.proofs.Joined.{joins}
-use Rattle.mixed_worlds.proofs.Ours.{arrived, fated, over, safe, whole, within}
+use Rattle.mixed_worlds.proofs.Ours.{arrived, fated, over, safe, sent, whole, within}
 use Rattle.mixed_worlds.proofs.Settled.{settles}
 use Rattle.world_keeps_lives.proofs.lemmas.{told}
 use Rattle.mixed_worlds.proofs.law.among.Goals as goal
@@ -24,6 +24,8 @@ returns c = record {
       c.among.ensures.contacts (record { all = hosts; strange = strange }) moments (mixed.addresses, mixed.run, mixed.happen);
   within = λ strange hosts moments mixed.
       within c.among.ensures (record { all = hosts; strange = strange }) moments mixed.addresses mixed.run mixed.happen;
+  sent = λ strange hosts moments mixed.
+      sent c.among.ensures (record { all = hosts; strange = strange }) moments mixed.addresses mixed.run mixed.happen;
   told = λ strange hosts moments mixed.
       told (record { all = hosts; strange = strange }) mixed.addresses moments mixed.run mixed.happen;
   joined = λ strange hosts moments mixed reports backed. joins strange hosts moments mixed reports backed;
