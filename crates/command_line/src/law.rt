@@ -116,8 +116,8 @@ pub fn logs_are_kept()
 {}
 
 /// What an audit names is broken, and what it doesn't name holds. A malformed book has requests that nothing names, so
-/// its partners, streams, grants, closes and toward aren't looked at. Of a network with strangers all but a run, messages,
-/// the form and toward are of the lives among hosts with programs.
+/// its partners, streams, grants, closes and toward aren't looked at. Of a network with strangers all but a run,
+/// messages, the form and toward are of the lives among hosts with programs.
 pub fn named_parts()
     ensures run { (hosts : List Host) (b : log.Book) (v : Verdict) → SaysOf v hosts b → (v.stray ≡ None) ↔ IsSomeRun (reverse b.crossings) }
     ensures lives { (hosts : List Host) (b : log.Book) (v : Verdict) → SaysOf v hosts b → (v.unmade ≡ None) ↔ AreMade (reverse b.crossings) (program_lives hosts b) }
