@@ -219,7 +219,7 @@ host_started b h = record b {
 abbrev pub no_event_refusal : Bool → Option CarrierFault
 no_event_refusal stopped = if stopped then Some fault.Stopped else Some fault.NoSuch
 
--- the first refusal of an event; plain mailboxes have these three alone
+-- the first refusal of an event; plain mailboxes have only these three
 abbrev pub step_refusal : Boxes → NetEvent → Option CarrierFault
 step_refusal b (event.GiveUp f) = give_up_refusal b f
 step_refusal b (event.HostDown h) = host_refusal b h
