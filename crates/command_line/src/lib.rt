@@ -26,7 +26,7 @@ mod logging;
 mod mixed;
 mod mixed_logging;
 mod options;
-mod simulator;
+mod replaying;
 mod source;
 mod verdict;
 
@@ -40,6 +40,6 @@ pub use mixed::{MixedInput, read_mixed_input};
 pub use net_sim::Finding;
 pub use options::{Options, OptionsFault, Task};
 pub use replay::{Detail, Output, Printer, WriteFailed};
-pub use simulator::{run, run_script};
+pub use replaying::{run, run_script};
 pub use source::{ReadFailed, Reader, Source};
 pub use verdict::Verdict;

@@ -1,7 +1,7 @@
 use Rattle.std.proofs.Common.{◌≡◌, Err, rules}
 use Rattle.command_line.proofs.Replayed.Either.{mixed_read, mixed_replayed, mixed_stopped}
 use Rattle.command_line.proofs.Faults.{unwritten, write_fault}
-use Rattle.command_line.proofs.simulator.follow_mixed.Goals as goal
+use Rattle.command_line.proofs.replaying.follow_mixed.Goals as goal
 
 pub returns-clause-read : goal.returns-clause-read
 returns-clause-read g c = mixed_read c.args.octets.now c.replay_mixed_on.result

@@ -2,7 +2,7 @@ use Rattle.command_line.proofs.Common.{◌≡◌, Err, List, ℕ, MatchResult, O
 use Rattle.command_line.proofs.Common.{IsEitherInput, ReplaysEither, StopsEither}
 use Rattle.command_line.specs.Stopping.{NothingOr}
 use Rattle.command_line.proofs.Replayed.Either.{at_known, part_either, ran_either, unread_either}
-use Rattle.command_line.proofs.simulator.run_script.Goals as goal
+use Rattle.command_line.proofs.replaying.run_script.Goals as goal
 
 pub returns-clause-ran : goal.returns-clause-ran
 returns-clause-ran g c = λ off.

@@ -2,7 +2,7 @@ use Rattle.command_line.proofs.Common.{subst, asked_of, IsInputFault, ScriptFaul
 use Rattle.command_line.proofs.Replayed.Either.{either_read, either_replayed, either_stopped, follow_fault}
 use Rattle.command_line.proofs.Replayed.Either.{plain_read, plain_replayed, plain_stopped}
 use Rattle.command_line.proofs.Faults.{write_fault}
-use Rattle.command_line.proofs.simulator.follow.Goals as goal
+use Rattle.command_line.proofs.replaying.follow.Goals as goal
 
 -- ---- without strangers
 

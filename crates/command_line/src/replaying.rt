@@ -1,4 +1,4 @@
-//! The whole simulator, as a function of the words of its command line, a reader and a writer.
+//! A replay, as a function of the words of the command line, a reader and a writer.
 
 ghost use Rattle.std.specs.Prelude.{◌≡◌, ◌≢◌, ◌≤◌, ◌⊎◌, ◌↔◌, length, None, Err, true, false, codes, IfSome, IfErr, MatchResult, OnOk};
 ghost use Rattle.std.specs.Io.KnownBytes.{Appends};
@@ -22,7 +22,7 @@ use replay::{Detail, Output};
 use script::MAX_INPUT;
 use std::alloc::Global;
 
-/// Runs the simulator on the words after its name, from a reader to a writer.
+/// Replays the input that a reader gives, as the words after the program's name ask, and writes it to a writer.
 ///
 /// Errors: `BadOptions` for words other than `--book`, `--check` and `--texts`, each at most once, with nothing read
 /// and nothing written; else as [`run_script`]. `OutOfMemory` may come for any words, since the parser of words
