@@ -1,8 +1,10 @@
 """What a long calm has printed is seen while it lasts, and calms that rest end at once (a second).
 
-Two echo services send one octet to and fro for as long as a calm lasts. From its 65th round on the program has to write whole lines after each
-round, and of a trace each line, so that an interrupt loses none of them. A network that rests has to end at once, however many rounds it is given, also where a host has more to
-say than its IMP has room for.
+Two echo services send one octet to and fro for as long as a calm lasts. From its 65th round on the program has to write
+whole lines after each round, and of a trace each line, so that an interrupt loses none of them. Where something waits
+for a stranger rounds pass that change nothing, and what was printed before them has to be written too (of a trace it is
+not, as no line comes then). A network that rests has to end at once, however many rounds it is given, also where a host
+has more to say than its IMP has room for.
 
 ./check seen [PROGRAM]: without one it takes the proved program, or the one that was built without proofs.
 """
@@ -10,6 +12,8 @@ say than its IMP has room for.
 from __future__ import annotations
 
 import json
+import os
+import select
 import socket
 import subprocess
 import sys
@@ -26,6 +30,8 @@ WITHIN = 2.0  # seconds, on a busy machine
 CHAIN = Topology("subnet", False, [(imp, 4) for imp in range(1, 14)], [(imp, imp + 1) for imp in range(1, 13)])
 CONTACTS = [f"contact 0/1 {host}/{imp}" for imp in range(2, 14) for host in range(4)]
 SILENT = Topology("subnet", True, [(1, 1), (2, 1)], [(1, 2)])
+# a contact waits for a stranger, so that the calm lasts though no round of it changes anything
+WAITING = spelled_input(Topology("plain", False, [(1, 2)], [], [(1, [1])]), ["contact 0/1 1/1", f"calm {MOST}"])
 # what comes before a calm that rests though something was refused or lost, and its network
 RESTING = {
     "offers that are refused": (CHAIN, ["calm 20", "enddown 2 0", *CONTACTS]),
@@ -81,6 +87,21 @@ def faults_of_trace(program: str) -> list[str]:
     return wrong
 
 
+def faults_of_waiting(program: str) -> list[str]:
+    """What is wrong with a calm that lasts though nothing changes: what comes before it has to be written."""
+    with tempfile.TemporaryFile() as source:
+        source.write(WAITING)
+        source.seek(0)
+        with subprocess.Popen([program], stdin=source, stdout=subprocess.PIPE) as process:
+            assert process.stdout
+            ready, _, _ = select.select([process.stdout], [], [], WITHIN)
+            first = os.read(process.stdout.fileno(), 1 << 16) if ready else b""
+            ended = process.poll() is not None
+            process.kill()
+    good = first.endswith(b"\n") and not ended
+    return [] if good else ["nothing is written before a calm that lasts though nothing changes"]
+
+
 def faults_of_resting(program: str) -> list[str]:
     """Which calms take as long as they have rounds, or print something else than short ones."""
     wrong = []
@@ -102,8 +123,9 @@ def main() -> int:
     if program is None:
         print("check seen: there is no program of these sources")
         return 1
-    wrong = faults_of_dialogue(program) + faults_of_trace(program) + faults_of_resting(program)
+    wrong = faults_of_dialogue(program) + faults_of_trace(program) + faults_of_waiting(program) + faults_of_resting(program)
     for it in wrong:
         print(f"check seen: {it}")
-    print(f"check seen: a dialogue without end, its trace, and {len(RESTING)} calms that rest: {len(wrong)} faults")
+    calms = f"a dialogue without end, its trace, a calm that changes nothing, and {len(RESTING)} that rest"
+    print(f"check seen: {calms}: {len(wrong)} faults")
     return 1 if wrong else 0
