@@ -1,6 +1,5 @@
 pub mod Common
 pub mod Accounts
-mod Among
 mod AtHosts
 pub mod CalmRounds
 mod CalmEvents
