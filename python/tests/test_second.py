@@ -4,7 +4,6 @@ from __future__ import annotations
 
 import shutil
 import unittest
-from unittest import mock
 
 from dorydate.definitions.deciding import Decider
 from dorydate.definitions.files import Definition, Structure, read_file
@@ -14,7 +13,7 @@ from dorydate.definitions.reading import term_of
 from workshop.second import agda, laws, mutants
 from workshop.second.mutants import changes, page, spread
 from workshop.second.proofs import ProofWriter
-from workshop.second.rows import Row, computed, rows_of, sources
+from workshop.second.rows import Row, all_rows, computed, rows_of, sources
 
 FORMED = "Rattle.promise.specs.Formed"
 WRONG = "abbrev pub f : ℕ → ℕ\nf zero = 0\nf (suc n) = f (suc n)\n"
@@ -121,8 +120,7 @@ class OfChanges(unittest.TestCase):
         self.assertEqual(spread(every, 5)[0], every[0])
 
     def test_what_rows_say(self) -> None:
-        with mock.patch.object(mutants, "files", lambda: ["promise/src/worked.rt"]):
-            rows = deeply(mutants.Rows)
+        rows = deeply(lambda: mutants.Rows(all_rows(["promise/src/worked.rt"])))
         ends = "Rattle.promise.specs.Ends"
         for name, what, said in (
             ("asks_for", "clause 1: && → ||", mutants.NOTICED),

@@ -5,14 +5,15 @@ typed and each recursion ending. It is Debian's `agda-bin`; where there is none,
 
 The evaluator of `python/dorydate/definitions` knows how definitions compute and how a statement of given values is
 searched, and no rule of the network. It computes the worked rows of all crates, the clauses of functions `worked_..`;
-those that speak of all values of a type are counted. And it judges 1,000 logs, by hand, of the examples and of random
-books with strangers and without, as `--audit` does: each part has to be the same.
+those that speak of all values of a type are counted. Each definition of the promise is changed in one word, which a row
+has to notice. And it judges 1,000 logs, by hand, of the examples and of random books with strangers and without, as
+`--audit` does: each part has to be the same.
 
 ./check second --laws has Agda check the laws of streams, resets and pairing, each lemma from the same text (some minutes
 of the processor). It is no part of the gate: `./check release` does it before a release.
 
-./check second --mutants changes each definition of the promise in one word, in 20 ways, and prints which of these
-changes no row refuses, and why (some minutes; no part of the gate). One that no row notices lacks a row.
+./check second --mutants does that in 20 ways, and prints which of these changes no row refuses, and why (a minute of
+the processor).
 """
 
 from __future__ import annotations
@@ -56,11 +57,14 @@ def in_agda() -> list[str]:
 
 
 def worked() -> list[str]:
-    """What is wrong with rows."""
-    seen, failed, unread = deeply(rows.all_rows)
-    print(f"check second: worked rows: {listed(seen)}", flush=True)
+    """What is wrong with rows; each definition is tried with one word changed, too, which rows have to notice."""
+    all_ = deeply(rows.all_rows)
+    print(f"check second: worked rows: {listed(all_.counted())}", flush=True)
+    unread = all_.unread
     many = f"{len(unread)} rows are not read, of at most {MOST_UNREAD}: {'; '.join(unread)}"
-    return failed + ([many] if len(unread) > MOST_UNREAD else [])
+    found = deeply(lambda: [*mutants.tried(all_, 1)])
+    print(f"check second: definitions with one word changed: {listed(Counter(it for _, it in found))}", flush=True)
+    return all_.failed + ([many] if len(unread) > MOST_UNREAD else []) + mutants.lacking_rows(found)
 
 
 def judge(count: int) -> list[str]:
@@ -77,9 +81,9 @@ def main() -> int:
         print("check second: laws are refused" if wrong else "check second: the laws are proved a second time")
         return 1 if wrong else 0
     if sys.argv[1:] == ["--mutants"]:
-        lines = deeply(lambda: [*mutants.table()])
-        print(*lines, sep="\n")
-        return 1 if any(it.endswith((mutants.LATE, mutants.MISSED)) for it in lines) else 0
+        found = deeply(lambda: [*mutants.tried(rows.all_rows())])
+        print(*mutants.table(found), *mutants.lacking_rows(found), sep="\n")
+        return 1 if mutants.lacking_rows(found) else 0
     count = next((int(it) for it in sys.argv[1:]), LOGS)
     wrong = [*in_agda(), *worked(), *judge(count)]
     print(*wrong[:10], sep="\n", end="\n" if wrong else "")

@@ -5,7 +5,7 @@ from __future__ import annotations
 import dataclasses
 import time
 from collections import Counter
-from collections.abc import Collection, Iterator
+from collections.abc import Collection, Iterable, Iterator
 from dataclasses import dataclass, replace
 from typing import Union
 
@@ -30,7 +30,7 @@ from dorydate.definitions.terms import (
     inside,
 )
 from workshop.second.agda import BUILT_IN
-from workshop.second.rows import Row, computed, files, rows_of, sources
+from workshop.second.rows import All, Row, computed
 
 MOST_SECONDS = 4  # of the processor for each change: the rows that lead to the fewest definitions come first
 MOST_CALLS = 60_000  # of definitions in a row: a changed one may never end
@@ -188,13 +188,11 @@ def page() -> dict[Key, Defined | Typed]:
 class Rows:
     """The rows that hold, by the definitions to which they lead."""
 
-    def __init__(self) -> None:
-        self.library = Library(sources())
+    def __init__(self, all_: All) -> None:
+        self.library = all_.library
         self.graph: dict[Key, set[Key]] = {}
         self.ordered: dict[Key, list[Row]] = {}
-        rows = [*rows_of(self.library, files())]
-        decider = Decider(self.library)
-        self.rows = [(row, self.below(row)) for row in rows if computed(decider, row) == "holds"]
+        self.rows = [(row, self.below(row)) for row, said in all_.rows if said == "holds"]
 
     def below(self, row: Row) -> set[Key]:
         """The definitions to which a row leads."""
@@ -227,12 +225,12 @@ class Rows:
         own[change.key[1]] = change.item
         self.library.meanings.clear()
         try:
-            return self.tried(change)
+            return self.by_rows(change)
         finally:
             own[change.key[1]] = before
             self.library.meanings.clear()
 
-    def tried(self, change: Change) -> str:
+    def by_rows(self, change: Change) -> str:
         decider = Decider(self.library)
         decider.compiler.most_calls = MOST_CALLS
         end, open_ones = time.process_time() + MOST_SECONDS, 0
@@ -248,19 +246,27 @@ class Rows:
         return EQUAL if change.called in SAME else OPEN if open_ones else MISSED
 
 
-def table(most: int = WAYS) -> Iterator[str]:
+def tried(all_: All, most: int = WAYS) -> Iterator[tuple[Change, str]]:
+    """Changes of each definition of the promise, and what rows say of them."""
+    rows = Rows(all_)
+    for key, it in sorted(page().items()):
+        yield from ((it, rows.say(it)) for it in spread([*changes(rows.library, key, it.item)], most))
+
+
+def lacking_rows(found: Iterable[tuple[Change, str]]) -> list[str]:
+    return [f"no row notices {it.called}: {said}" for it, said in found if said in (LATE, MISSED)]
+
+
+def table(found: Iterable[tuple[Change, str]]) -> Iterator[str]:
     """A line for each file, with what rows say of the changes of its definitions; and those that none refuses."""
-    rows = Rows()
     seen: dict[str, Counter[str]] = {}
     left = []
-    for key, it in sorted(page().items()):
-        for change in spread([*changes(rows.library, key, it.item)], most):
-            said = rows.say(change)
-            seen.setdefault(key[0].removeprefix("Rattle.").replace(".specs.", "/"), Counter())[said] += 1
-            why = f", {SAME[change.called]}" if said == EQUAL else ""
-            left += [f"- `{change.called}`: {said}{why}"] if said != NOTICED else []
+    for change, said in found:
+        seen.setdefault(change.key[0].removeprefix("Rattle.").replace(".specs.", "/"), Counter())[said] += 1
+        why = f", {SAME[change.called]}" if said == EQUAL else ""
+        left += [f"- `{change.called}`: {said}{why}"] if said != NOTICED else []
     whole = sum(seen.values(), Counter[str]())
     yield f"| File | Tried | {' | '.join(it.capitalize() for it in SAID)} |\n|{'---|' * (2 + len(SAID))}"
-    for name, found in [*seen.items(), ("all", whole)]:
-        yield f"| {name} | {found.total()} | {' | '.join(str(found[it] or '') for it in SAID)} |"
+    for name, many in [*seen.items(), ("all", whole)]:
+        yield f"| {name} | {sum(many.values())} | {' | '.join(str(many[it] or '') for it in SAID)} |"
     yield from left

@@ -5,7 +5,7 @@ from __future__ import annotations
 import glob
 import os
 from collections import Counter
-from collections.abc import Iterable, Iterator
+from collections.abc import Iterable, Iterator, Sequence
 from dataclasses import dataclass
 from pathlib import Path
 
@@ -98,13 +98,27 @@ def found_of(decider: Decider, row: Row) -> str:
     return "holds" if decider.holds((Goal(statement, env),)) else "fails"
 
 
-def all_rows() -> tuple[Counter[str], list[str], list[str]]:
-    """How many rows come to what, those that fail, and those that aren't read."""
+@dataclass(frozen=True)
+class All:
+    """Rows with what each comes to, and the library that has their modules."""
+
+    library: Library
+    rows: list[tuple[Row, str]]
+
+    @property
+    def failed(self) -> list[str]:
+        return [f"{row.called} fails" for row, said in self.rows if said == "fails"]
+
+    @property
+    def unread(self) -> list[str]:
+        return [f"{row.called} {said}" for row, said in self.rows if said.startswith("isn't")]
+
+    def counted(self) -> Counter[str]:
+        return Counter("isn't read" if said.startswith("isn't") else said for _, said in self.rows)
+
+
+def all_rows(names: Sequence[str] | None = None) -> All:
+    """The rows of some files, or of all."""
     library = Library(sources())
-    seen, failed, unread = Counter[str](), list[str](), list[str]()
-    for row in rows_of(library, files()):
-        found = computed(Decider(library), row)
-        seen["isn't read" if found.startswith("isn't") else found] += 1
-        failed += [f"{row.called} fails"] if found == "fails" else []
-        unread += [f"{row.called} {found}"] if found.startswith("isn't") else []
-    return seen, failed, unread
+    decider = Decider(library)
+    return All(library, [(it, computed(decider, it)) for it in [*rows_of(library, names or files())]])
