@@ -11,7 +11,7 @@ from pathlib import Path
 from unittest import mock
 
 from workshop.builds import one
-from workshop.checks.edits import options, status_of
+from workshop.checks.edits import status_of, words_of
 from workshop.measure import gate
 from workshop.tools import NOTED, TOOLS, lacking, left_out
 
@@ -71,7 +71,8 @@ class Yardstick(unittest.TestCase):
 
 class EditsOfTheGate(unittest.TestCase):
     def test_a_number_of_jobs_is_no_crate(self) -> None:
-        self.assertEqual(options(["--gate", "--jobs", "2"]), (False, ["--jobs", "2"], []))
+        asked = words_of().parse_intermixed_args(["--gate", "--jobs", "2"])
+        self.assertEqual((asked.whole, asked.jobs, asked.edit), (False, 2, []))
 
     def test_none_tried_is_no_success(self) -> None:
         with redirect_stdout(io.StringIO()):

@@ -6,8 +6,9 @@ import re
 import sys
 
 from workshop.parts import ROOT, list_all, run, text_of
+from workshop.report import run_all
 
-CHECK = """Lists the checks: ./check. Runs those of the gate: ./check all. Runs one: ./check NAME [ARGUMENTS]. Says what one does: ./check NAME --help.
+CHECK = """Lists the checks: ./check. Runs those of the gate: ./check all. Runs some, with one report: ./check these NAME.. Runs one: ./check NAME [ARGUMENTS]. Says what one does: ./check NAME --help.
 
 Each is a module of workshop.checks. The first line of its text says what it checks and how long that takes.
 """
@@ -24,17 +25,6 @@ def of_the_gate() -> list[list[str]]:
     return [it.split() for it in found if not it.startswith(("edits", "tools"))]
 
 
-def check_all() -> int:
-    """Runs the checks of the gate, one after the other, whether or not one before has failed."""
-    failed, checks = [], of_the_gate()
-    for name, *words in checks:
-        print(f"\n./check {' '.join([name, *words])}", flush=True)
-        if run("checks", "check", name, words):
-            failed.append(name)
-    print(f"\ncheck: failed: {', '.join(failed)}" if failed else f"\ncheck: all {len(checks)} passed")
-    return 1 if failed else 0
-
-
 def listed(kind: str, text: str) -> int:
     print(text)
     list_all(kind)
@@ -45,7 +35,9 @@ def check() -> int:
     name, *words = sys.argv[1:] or ["--help"]
     if name in ("--help", "-h"):
         return listed("checks", CHECK)
-    return check_all() if name == "all" else run("checks", "check", name, words)
+    if name == "all":
+        return run_all(of_the_gate())
+    return run_all([[it] for it in words]) if name == "these" else run("checks", "check", name, words)
 
 
 def measure() -> int:

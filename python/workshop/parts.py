@@ -10,6 +10,8 @@ import subprocess
 import sys
 from collections.abc import Callable
 
+from workshop.words import Words
+
 ROOT = os.path.dirname(os.path.dirname(os.path.dirname(os.path.realpath(__file__))))
 FOLDER = f"{ROOT}/python/workshop"
 MAIN = re.compile(r"^def main\(", re.MULTILINE)
@@ -68,16 +70,9 @@ def run(kind: str, command: str, name: str, words: list[str]) -> int:
     if name not in names:
         print(f"there is no {command} called {name}; there are {', '.join(names)}", file=sys.stderr)
         return 1
-    if {"--help", "-h"} & {*words}:
-        print(said_of(kind, name))
-        return 0
     sys.argv = [f"{command} {name}", *words]
-    main: Callable[[], int | None] = importlib.import_module(f"workshop.{kind}.{name}").main
-    try:
-        return main() or 0
-    except ValueError as fault:
-        wrong = next((it for it in words if str(fault) == f"invalid literal for int() with base 10: {it!r}"), None)
-        if wrong is None:
-            raise
-        print(f"{command}: `{wrong}` is no number; ./{command} {name} --help says what is asked for", file=sys.stderr)
-        return 1
+    part = importlib.import_module(f"workshop.{kind}.{name}")
+    if not {"Words", "argparse"} & {*vars(part)}:  # it takes no words
+        Words(part.__doc__).asked()
+    main: Callable[[], int | None] = part.main
+    return main() or 0

@@ -5,60 +5,16 @@ from __future__ import annotations
 import re
 from collections.abc import Callable, Iterator, Sequence
 
-from dorydate.definitions.computing import (
-    NOTHING,
-    Abstraction,
-    Arithmetic,
-    Bound,
-    Build,
-    Call,
-    Change,
-    Choice,
-    Connective,
-    Construct,
-    Delayed,
-    Env,
-    Expression,
-    Get,
-    Join,
-    Literal,
-    Local,
-    NotComputed,
-    OfFields,
-    OfForm,
-    Pattern,
-    Same,
-    Slot,
-    Successor,
-    Unfolded,
+from dorydate.definitions.computing import (  # fmt: skip
+    NOTHING, Abstraction, Arithmetic, Bound, Build, Call, Change, Choice, Connective, Construct, Delayed, Env,
+    Expression, Get, Join, Literal, Local, NotComputed, OfFields, OfForm, Pattern, Same, Slot, Successor, Unfolded,
 )
 from dorydate.definitions.files import Structure
 from dorydate.definitions.library import WORDS, Constant, Declared, Defined, Form, Library, Meaning, Typed, Word
 from dorydate.definitions.maps import MAPS, made
-from dorydate.definitions.terms import (
-    Apply,
-    Both,
-    Changed,
-    Field,
-    ForAll,
-    Function,
-    If,
-    Implicit,
-    Let,
-    Match,
-    Name,
-    Number,
-    Operation,
-    Record,
-    Section,
-    Term,
-    Text,
-    Tuple,
-    Universe,
-    Unknown,
-    arity,
-    head_of,
-    result_of,
+from dorydate.definitions.terms import (  # fmt: skip
+    Apply, Both, Changed, Field, ForAll, Function, If, Implicit, Let, Match, Name, Number, Operation, Record, Section,
+    Term, Text, Tuple, Universe, Unknown, arity, head_of, result_of,
 )
 from dorydate.definitions.values import FALSE, NIL, NONE, TRUE, Data, Lambda, Value, applied, data, forget, listed
 from dorydate.definitions.words import NATIVE

@@ -10,19 +10,8 @@ from collections.abc import Iterator, Sequence
 from typing import Union
 
 from dorydate.definitions.terms import Term, Unknown
-from dorydate.definitions.values import (
-    NIL,
-    TRUE,
-    Data,
-    Lambda,
-    Struct,
-    Value,
-    applied,
-    data,
-    items_of,
-    listed,
-    struct,
-    truth,
+from dorydate.definitions.values import (  # fmt: skip
+    NIL, TRUE, Data, Lambda, Struct, Value, applied, data, items_of, listed, struct, truth,
 )
 
 

@@ -11,44 +11,13 @@ from collections.abc import Iterator, Sequence
 from dataclasses import dataclass
 
 from dorydate.definitions.compiling import NO_NAMES, Compiler, Scope
-from dorydate.definitions.computing import (
-    Delayed,
-    Env,
-    Evidence,
-    Expression,
-    Get,
-    Join,
-    Local,
-    NotComputed,
-    Pattern,
-    Slot,
-    Trail,
-    Unbound,
-    Variable,
-    bind,
-    bound_so_far,
-    forced,
-    known,
-    list_of,
-    number,
-    unbind,
+from dorydate.definitions.computing import (  # fmt: skip
+    Delayed, Env, Evidence, Expression, Get, Join, Local, NotComputed, Pattern, Slot, Trail, Unbound, Variable, bind,
+    bound_so_far, forced, known, list_of, number, unbind,
 )
 from dorydate.definitions.library import WORDS, Defined, Library, Meaning, Typed
-from dorydate.definitions.terms import (
-    Apply,
-    Both,
-    Field,
-    ForAll,
-    Function,
-    If,
-    Implicit,
-    Let,
-    Name,
-    Operation,
-    Term,
-    head_of,
-    inside,
-    taken_types,
+from dorydate.definitions.terms import (  # fmt: skip
+    Apply, Both, Field, ForAll, Function, If, Implicit, Let, Name, Operation, Term, head_of, inside, taken_types,
 )
 from dorydate.definitions.values import FALSE, TRUE, Data, Lambda, Struct, Value, items_of
 

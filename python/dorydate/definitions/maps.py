@@ -4,19 +4,8 @@ from __future__ import annotations
 
 from collections.abc import Sequence
 
-from dorydate.definitions.values import (
-    Data,
-    Lambda,
-    Struct,
-    Value,
-    applied,
-    data,
-    items_of,
-    listed,
-    some,
-    tupled,
-    NONE,
-    TRUE,
+from dorydate.definitions.values import (  # fmt: skip
+    Data, Lambda, Struct, Value, applied, data, items_of, listed, some, tupled, NONE, TRUE,
 )
 
 FIRST = ("imp", "host", "source", "destination", "link")  # fields in the order by which keys are compared

@@ -6,32 +6,9 @@ import re
 from collections.abc import Sequence
 from dataclasses import dataclass
 
-from dorydate.definitions.terms import (
-    Apply,
-    Binder,
-    Both,
-    Case,
-    Changed,
-    Field,
-    ForAll,
-    Function,
-    If,
-    Implicit,
-    Let,
-    Match,
-    Name,
-    Number,
-    Operation,
-    Parameter,
-    Part,
-    Record,
-    Section,
-    Term,
-    Text,
-    Tuple,
-    Universe,
-    Unknown,
-    for_all,
+from dorydate.definitions.terms import (  # fmt: skip
+    Apply, Binder, Both, Case, Changed, Field, ForAll, Function, If, Implicit, Let, Match, Name, Number, Operation,
+    Parameter, Part, Record, Section, Term, Text, Tuple, Universe, Unknown, for_all,
 )
 
 # infix words: how strongly they bind, and on which side a chain of them is nested

@@ -5,19 +5,8 @@ from __future__ import annotations
 from collections.abc import Callable
 
 from dorydate.definitions.computing import list_of, number
-from dorydate.definitions.values import (
-    NIL,
-    NONE,
-    TRUE,
-    Data,
-    Lambda,
-    Value,
-    applied,
-    items_of,
-    listed,
-    some,
-    truth,
-    tupled,
+from dorydate.definitions.values import (  # fmt: skip
+    NIL, NONE, TRUE, Data, Lambda, Value, applied, items_of, listed, some, truth, tupled,
 )
 
 

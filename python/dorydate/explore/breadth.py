@@ -46,7 +46,7 @@ class Node:
         return not all(self.reached)
 
 
-@dataclass
+@dataclass(frozen=True)
 class Count:
     """What was looked at at a depth: steps, how many of them were refused, states that are new, all states, and seconds."""
 

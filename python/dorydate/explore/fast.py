@@ -16,7 +16,7 @@ from collections.abc import Iterator, Sequence
 from dataclasses import dataclass, field
 from pathlib import Path
 
-from dorydate.explore.breadth import Asked
+from dorydate.explore.breadth import Asked, Count
 from dorydate.explore.many import CannotRun
 from dorydate.explore.pattern import Part, Pattern
 from dorydate.explore.shrink import Script as Events
@@ -96,19 +96,10 @@ def input_of(asked: Asked) -> bytes:
 
 
 @dataclass(frozen=True)
-class Level:
+class Level(Count):
     """What was looked at at a depth."""
 
-    depth: int
-    steps: int
-    refused: int
-    new: int
-    states: int
-    seconds: float
     octets: int  # of the longest spelling of a state so far
-
-    def line(self) -> str:
-        return f"{self.depth} events: {self.steps} steps, {self.refused} refused, {self.new} new states, {self.states} in all, {self.seconds:.1f} s"
 
 
 @dataclass(frozen=True)

@@ -78,7 +78,24 @@ Given = Union[Reply, Message]
 # ---- carriers
 
 
-class Carrier(ABC):
+class Printing(ABC):
+    """Something to which events happen, with the lines that they print."""
+
+    printed: list[str]
+
+    @abstractmethod
+    def step(self, kind: str, *parts: Any) -> None:
+        """Lets an event happen, which may be refused."""
+
+    def happen(self, kind: str, *parts: Any) -> None:
+        """Lets an event happen, and prints what comes of it or why it is refused."""
+        try:
+            self.step(kind, *parts)
+        except Refused as refused:
+            self.printed.append(f"refused {refused}")
+
+
+class Carrier(Printing):
     """A network with its log, the oldest crossing first, and the lines that it printed."""
 
     def __init__(self) -> None:
@@ -89,13 +106,6 @@ class Carrier(ABC):
         """Notes a crossing, and prints it."""
         self.log.append(crossing)
         self.printed.append(spell_crossing(crossing))
-
-    def happen(self, kind: str, *parts: Any) -> None:
-        """Lets an event happen, and prints what crosses or why it is refused."""
-        try:
-            self.step(kind, *parts)
-        except Refused as refused:
-            self.printed.append(f"refused {refused}")
 
     def step(self, kind: str, *parts: Any) -> None:
         """Lets an event happen, which may be refused: the method of its kind."""

@@ -13,7 +13,7 @@ from typing import Any, TypeVar
 
 from dorydate.model.bits import bits_of
 from dorydate.model.book import Book
-from dorydate.model.crossings import Carrier, Turned
+from dorydate.model.crossings import Carrier, Printing, Turned
 from dorydate.model.host import Host
 from dorydate.model.names import HostName, Refused, spell_host
 from dorydate.model.resting import is_looked_at
@@ -31,7 +31,7 @@ CALLS = {"opensend": "open_send", "openrecv": "open_receive", "askback": "ask_ba
 T = TypeVar("T")
 
 
-class World:
+class World(Printing):
     """A carrier, the program of each host that is up, what runs on them, and the book."""
 
     further: frozenset[str] = frozenset()  # events of the carrier that no script of the program has
@@ -43,13 +43,6 @@ class World:
         self.terminals: dict[HostName, Terminal] = {}  # of a host: the terminal whose user machine was done last
         self.book = Book()
         self.printed: list[str] = []
-
-    def happen(self, kind: str, *parts: Any) -> None:
-        """Lets an event happen, and prints all that comes of it."""
-        try:
-            self.step(kind, *parts)
-        except Refused as refused:
-            self.printed.append(f"refused {refused}")
 
     def step(self, kind: str, *parts: Any) -> None:
         """Lets an event happen, which may be refused."""

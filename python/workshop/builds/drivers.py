@@ -34,21 +34,27 @@ def crates_below(lines: Mapping[str, Sequence[str]], name: str) -> list[str]:
     return found
 
 
-def with_driver(folder: str) -> str:
-    """Puts the program's sources into a folder as a crate, with copies of the crates that it uses."""
+def with_crate(folder: str, crate: str, uses: str, files: Mapping[str, str]) -> str:
+    """Puts sources into a folder as a crate, each file under its name there, with copies of the crates that it uses."""
     with open(f"{ROOT}/crates.txt", encoding="utf-8") as file:
         lines = dict(line.strip().split(":") for line in file if line.strip() and not line.startswith("#"))
     below = {name: below.split() for name, below in lines.items()}
-    needed = [*dict.fromkeys(it for name in USES.split() for it in crates_below(below, name))]
+    needed = [*dict.fromkeys(it for name in uses.split() for it in crates_below(below, name))]
     for name in needed:
         shutil.copytree(f"{ROOT}/crates/{name}", f"{folder}/crates/{name}", ignore=shutil.ignore_patterns("out"))
-    os.makedirs(f"{folder}/crates/calls/src")
-    for path in glob.glob(f"{ROOT}/tools/calls/*.rs"):
-        shutil.copy(path, f"{folder}/crates/calls/src/{os.path.basename(path).removesuffix('.rs')}.rt")
+    os.makedirs(f"{folder}/crates/{crate}/src")
+    for path, name in files.items():
+        shutil.copy(path, f"{folder}/crates/{crate}/src/{name}")
     with open(f"{folder}/crates.txt", "w", encoding="utf-8") as file:
         file.writelines(f"{name}:{lines[name]}\n" for name in needed)
-        file.write(f"calls: {USES}\n")
-    return f"{folder}/crates/calls"
+        file.write(f"{crate}: {uses}\n")
+    return f"{folder}/crates/{crate}"
+
+
+def with_driver(folder: str) -> str:
+    """Puts the program's sources into a folder as a crate."""
+    paths = glob.glob(f"{ROOT}/tools/calls/*.rs")
+    return with_crate(folder, "calls", USES, {it: f"{os.path.basename(it).removesuffix('.rs')}.rt" for it in paths})
 
 
 def kept_at() -> str:

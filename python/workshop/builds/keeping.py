@@ -11,6 +11,7 @@ import sys
 
 from workshop.builds.unproved import NotKept, build, keep, kept_for_sources
 from workshop.parts import ROOT
+from workshop.words import Words
 
 EXAMPLE = f"{ROOT}/examples/first-message"
 
@@ -22,6 +23,7 @@ def make(room: str) -> None:
 
 
 def main() -> int:
+    Words(__doc__).asked()
     for number in (signal.SIGTERM, signal.SIGHUP, signal.SIGINT):
         signal.signal(number, lambda number, _: sys.exit(128 + number))
     try:

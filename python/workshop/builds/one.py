@@ -32,6 +32,7 @@ from functools import cached_property
 from workshop.builds.drivers import crates_below
 from workshop.checks.copies import lines_of_crates
 from workshop.parts import ROOT, text_of
+from workshop.words import Words
 
 CLAUSE = re.compile(r"^\s*(?:ensures|requires|ghost)\b.*?(?= ?(?:;|\{ ?\}?)?$)", re.MULTILINE)
 
@@ -170,10 +171,10 @@ def command(crate: str, lines: dict[str, list[str]], built: dict[str, str], kept
 
 
 def main() -> int:
-    if not sys.argv[1:] or sys.argv[1] in ("-h", "--help"):
-        print(__doc__)
-        return 0 if sys.argv[1:] else 1
-    crate, *words = sys.argv[1:]
+    takes = Words(__doc__)
+    takes.add_argument("crate", metavar="CRATE", help="its name, and then the words for the checker")
+    asked, words = takes.parse_known_args()
+    crate = asked.crate
     lines = {name: below.split() for name, below in lines_of_crates().items()}
     if crate not in lines:
         sys.exit(f"check-one: crates.txt has no crate {crate}")

@@ -26,6 +26,7 @@ from workshop.wasm import pack
 from workshop.wasm.again import build_again
 from workshop.wasm.binary import Refused
 from workshop.wasm.make import make, makers, read_note
+from workshop.words import Words
 
 
 def note(text: str) -> None:
@@ -108,8 +109,9 @@ def keep_released() -> str | None:
 
 
 def main() -> int:
+    asked = Words(__doc__).flag("any", "the released module of these sources, unless one is made already").asked()
     try:
-        if sys.argv[1:] == ["--any"] and (page := keep_released()):
+        if asked.any and (page := keep_released()):
             print(page)
             return 0
         program = module_of_program()

@@ -19,7 +19,6 @@ what runs without a build.
 
 from __future__ import annotations
 
-import argparse
 import hashlib
 import html
 import os
@@ -36,6 +35,7 @@ from workshop.documents.versions import faults as other_versions, for_debian, fo
 from workshop.parts import ROOT, read_octets, text_of
 from workshop.wasm.make import read_note
 from workshop.wasm.pack import title_of
+from workshop.words import Words
 
 LESSON = re.compile(r"\]\(\.\./examples/([a-z0-9-]+)\)")
 STATIC = "the machine code of the proved program, linked statically with Debian's C library"
@@ -228,9 +228,7 @@ def make(folder: str, clone: str) -> None:
 
 
 def main() -> int:
-    about, more = (__doc__ or "").strip().split("\n\n", 1)
-    plain = argparse.RawDescriptionHelpFormatter
-    words = argparse.ArgumentParser("./release", description=about, epilog=more, formatter_class=plain)
+    words = Words(__doc__, "./release")
     words.add_argument("folder", nargs="?", default=f"{ROOT}/out/release", metavar="FOLDER")
     where = "the clone in which .ci/run passed on these sources (this one)"
     words.add_argument("--gate", default=ROOT, metavar="CLONE", help=where)

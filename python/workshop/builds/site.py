@@ -20,6 +20,7 @@ import sys
 from collections.abc import Iterable, Iterator
 
 from workshop.parts import ROOT, any_program, text_of
+from workshop.words import Words
 
 PAGES = (
     "README.md",
@@ -28,6 +29,7 @@ PAGES = (
     "docs/*.md",
     "docs/measured/*.md",
     "crates/*/CLAIMS.md",
+    "crates/*/WHY.md",
     "web/README.md",
 )
 ASSETS = ("style.css", "search.js")
@@ -215,21 +217,18 @@ def has_markdown() -> bool:
 
 
 def main() -> int:
-    if not 2 <= len(sys.argv) <= 3 or sys.argv[1].startswith("-"):
-        print((__doc__ or "").strip())
-        return 0 if {"--help", "-h"} & {*sys.argv} else 1
+    words = Words(__doc__)
+    words.add_argument("folder", metavar="FOLDER", help="where the site is made")
+    page = "the page of the workbench; else the released one"
+    asked = words.one("workbench", f"{ROOT}/released/dorydate.html", page).asked()
     if not has_markdown():
         if os.path.realpath(sys.executable) != os.path.realpath(SYSTEM) and os.path.exists(SYSTEM):
             os.execv(SYSTEM, [SYSTEM, "-B", f"{ROOT}/python", "site", *sys.argv[1:]])
         print("site: Python has no package markdown: apt-get install python3-markdown", file=sys.stderr)
         return 1
-    folder = os.path.abspath(sys.argv[1])
+    folder = os.path.abspath(asked.folder)
     try:
-        count = make(
-            folder,
-            sys.argv[2] if len(sys.argv) > 2 else f"{ROOT}/released/dorydate.html",
-            os.environ.get("DORYDATE_PROGRAM") or any_program(),
-        )
+        count = make(folder, asked.workbench, os.environ.get("DORYDATE_PROGRAM") or any_program())
     except (NoSite, OSError) as why:
         print(f"site: {why}", file=sys.stderr)
         return 1

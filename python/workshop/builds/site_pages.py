@@ -36,8 +36,8 @@ def address_of(path: str) -> str:
     """Where a file or folder of the repository is in the site."""
     if path in OWN:
         return OWN[path]
-    if found := re.fullmatch(r"crates/(\w+)/CLAIMS\.md", path):
-        return f"crates/{found[1]}.html"
+    if found := re.fullmatch(r"crates/(\w+)/(CLAIMS|WHY)\.md", path):
+        return f"crates/{found[1]}{'' if found[2] == 'CLAIMS' else '-why'}.html"
     if re.fullmatch(r"docs/.*\.md|web/README\.md", path):
         return f"{path.removesuffix('.md')}.html"
     if re.fullmatch(r"examples/[a-z0-9-]+", path):

@@ -16,6 +16,7 @@ from collections.abc import Iterator
 from workshop.documents.crates_page import below, needs
 from workshop.measure import gate
 from workshop.parts import ROOT, text_of
+from workshop.words import Words
 
 # paths, and the checks that look at them
 CHECKS = (
@@ -115,9 +116,9 @@ def lines_of(revision: str) -> Iterator[str]:
 
 
 def main() -> int:
-    words = sys.argv[1:]
-    if len(words) > 1 or (words and not git("rev-parse", "--verify", "-q", words[0])):
-        print(f"check affected: there is no revision {' '.join(words)}", file=sys.stderr)
+    before = Words(__doc__).one("revision", None, "what the change is to; the commit that main has, if it is left out").asked().revision
+    if before is not None and not git("rev-parse", "--verify", "-q", before):
+        print(f"check affected: there is no revision {before}", file=sys.stderr)
         return 1
-    print(*lines_of(words[0] if words else base()), sep="\n")
+    print(*lines_of(base() if before is None else before), sep="\n")
     return 0

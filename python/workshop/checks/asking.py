@@ -12,10 +12,10 @@ the exact contracts as such are not among them.
 
 from __future__ import annotations
 
-import sys
 from collections import Counter
 from functools import partial
 
+from workshop.words import Words
 from dorydate.model.chance.questions import Counting, MakesSubnet, Questions
 from dorydate.model.crossings import Answer, Answered, Crossing, Passed, Reply, Turned
 from dorydate.model.imp import TELLS, Deed, Imp
@@ -201,10 +201,11 @@ def runs_of(numbers: Numbers, runs: int, seen: Counter[str]) -> bool:
 
 def main() -> int:
     """The exit status."""
+    runs = Words(__doc__).count("runs", RUNS, "random scripts for each of the two ranges of numbers").asked().runs
     if wrong := wrong_by_hand():
         print(f"check asking: {wrong}")
         return 1
-    runs, seen = int(sys.argv[1]) if len(sys.argv) > 1 else RUNS, Counter[str]()
+    seen = Counter[str]()
     if not all(runs_of(numbers, runs, seen) for numbers in (NUMBERS, FEW)):
         return 1
     print(f"check asking: {len(LOGS) + len(TOLD)} logs by hand, each judged rightly; {2 * runs} scripts, each log a run of the mailboxes")

@@ -44,6 +44,7 @@ from workshop.checks import log_rows
 from workshop.checks.cases import Case, cases_below
 from workshop.checks import headline
 from workshop.parts import ROOT, any_program
+from workshop.words import Words
 
 COUNT = 10_000
 LOGGED = 10  # of this many worlds one is logged by the program too
@@ -378,7 +379,7 @@ def listed(seen: Counter[str], start: str = "") -> str:
 
 
 def main() -> int:
-    count = int(sys.argv[1]) if len(sys.argv) > 1 else COUNT
+    count = Words(__doc__).count("count", COUNT, "random books of each kind").asked().count
     program()  # built before the processes that try books are
     wrong = [*check_logs(), *check_long(), *check_stored(), *check_options(), *check_inputs(), *check_without(), *check_chance(count)]
     print(*wrong[:10], sep="\n", end="\n" if wrong else "")

@@ -51,17 +51,24 @@ def kept_by(program: Host | None) -> Any:
     return {peer: it for peer, it in pairs.items() if it != ("closed", False, False, set(), [], [])}, {**program.listening}
 
 
-def broken(world: World) -> str | None:
-    """What a world's book breaks, None where it keeps all."""
-    log, lives = world.carrier.log, world.book.lives
-    if isinstance(world, Watched) and unclean(log, world.book.contacts, world.effects) is not None:
-        return "a clean reset"
+def broken_book(log: Log, lives: Lives) -> str | None:
+    """What a book breaks by what crossed, None where it keeps all."""
     if part := audit(log, lives):
         return part
     if was_sent.broken(log, lives):
         return "messages of a connection"
     if next(pairs_that_differ(log, lives), None):
         return "lives that continue and are no connection"
+    return None
+
+
+def broken(world: World) -> str | None:
+    """What a world's book breaks, None where it keeps all."""
+    log, lives = world.carrier.log, world.book.lives
+    if isinstance(world, Watched) and unclean(log, world.book.contacts, world.effects) is not None:
+        return "a clean reset"
+    if part := broken_book(log, lives):
+        return part
     if any(notice.startswith("error") for _, notice, _ in world.book.notices):
         return "an error"
     if not determined(log, lives):

@@ -19,13 +19,13 @@ import ast
 import os
 import re
 import subprocess
-import sys
 from collections.abc import Iterator
 from concurrent.futures import ThreadPoolExecutor
 from dataclasses import dataclass
 
 from workshop.parts import any_program
 from workshop.rows import FOLDER as CALLS
+from workshop.words import Words
 
 SECONDS = 120  # for one input
 PART = re.compile(r'("(?:[^"\\]|\\.)*")(?:\*(\d+))?(?: +|$)')
@@ -122,7 +122,7 @@ def stray_files(folder: str) -> Iterator[str]:
 
 def run() -> int:
     """Runs the cases of these folders. The status is 0 if each ended as it should."""
-    folders = sys.argv[1:]
+    folders = Words(__doc__).names("folder", "folders of stored inputs").asked().folder
     try:
         stray = [it for folder in folders for it in stray_files(folder)]
         if stray:

@@ -6,6 +6,7 @@ Where the package was installed, so it imports nothing of the repository. With -
 
 from __future__ import annotations
 
+import argparse
 import ast
 import contextlib
 import io
@@ -50,12 +51,15 @@ def run_by_jupyter(cells: list[Any], path: str) -> list[str]:
 
 
 def main() -> int:
-    *words, path = sys.argv[1:]
-    with open(path, encoding="utf-8") as file:
+    takes = argparse.ArgumentParser(prog="cells.py", description=(__doc__ or "").split("\n\n")[0])
+    takes.add_argument("--jupyter", action="store_true", help="by a kernel of Jupyter")
+    takes.add_argument("notebook", metavar="NOTEBOOK", help="the file")
+    asked = takes.parse_args()
+    with open(asked.notebook, encoding="utf-8") as file:
         cells = [it for it in json.load(file)["cells"] if it["cell_type"] == "code"]
     names: dict[str, object] = {}
-    if words == ["--jupyter"]:
-        shown = run_by_jupyter(cells, path)
+    if asked.jupyter:
+        shown = run_by_jupyter(cells, asked.notebook)
     else:
         shown = [shown_by_python("".join(it["source"]), names) for it in cells]
     for cell, found in zip(cells, shown):

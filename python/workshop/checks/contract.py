@@ -21,7 +21,6 @@ worlds the promise breaks where one of two hosts lacks a rule: at random, and ar
 from __future__ import annotations
 
 import os
-import sys
 from collections import Counter
 from collections.abc import Callable, Iterator
 from functools import lru_cache
@@ -37,6 +36,7 @@ from dorydate.definitions.promise import crates_folder, deeply, sources_below
 from workshop.parts import ROOT, text_of
 from workshop.second.own_logs import Contract, by_judge, difference
 from workshop.second.random_logs import OwnLog, by_host, of_world
+from workshop.words import Words
 
 FOLDER = f"{ROOT}/without/contract"
 WORLDS, POWER, LOGS = 200, 60, 150
@@ -145,8 +145,10 @@ def power(many: int) -> int:
 
 
 def main() -> int:
-    words = sys.argv[1:]
-    if words[:1] == ["--power"]:
-        return power(int(words[1]) if words[1:] else POWER)
-    many, first = (int(words[at]) if words[at:] else it for at, it in enumerate((WORLDS, 0)))
+    words = Words(__doc__).count("worlds", WORLDS, "random worlds of each kind").count("first", 0, "the number of the first of them")
+    words.add_argument("--power", nargs="?", type=int, const=POWER, metavar="SCRIPTS", help="say which rules random scripts show, and no more")
+    asked = words.asked()
+    if asked.power is not None:
+        return power(asked.power)
+    many, first = asked.worlds, asked.first
     return max([stored(), deeply(lambda: defined(first)), *(worlds(kind, many, first) for kind in KINDS)])

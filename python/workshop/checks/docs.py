@@ -3,12 +3,12 @@
 Checks what the documents name: each link leads to a file, each source that is named by its path exists, and each name
 that the claims about a crate have is in the code.
 
-crates/NAME/CLAIMS.md is about the crate in whose folder it lies. What it says before its heading `How it was attacked` is what
-is proved or not. Each name there between backquotes, or its last part if it is a path, has to be declared in src/ or specs/ of
-that crate, or of one that it is built on: as a function, a type, a variant, a constant, a clause or a definition. `law::NAME` has
-to be a function of that crate's module law, and the name of a file a file of the crate or of the repository. Below that heading
-so it is with the definitions in the tables; the rows beside them have to be functions of that crate or of one above it, stored
-calls or stored inputs of cases/; and each other name has to be one of these, or that of a planted bug of the crate.
+crates/NAME/CLAIMS.md is about the crate in whose folder it lies, in at most 300 words (workshop.documents.paragraphs). What it says
+before its heading `How it was attacked` is what is proved or not. Each name there between backquotes, or its last part if it is a
+path, has to be declared in src/ or specs/ of that crate, or of one that it is built on: as a function, a type, a variant, a
+constant, a clause or a definition. `law::NAME` has to be a function of that crate's module law, and the name of a file a file of the
+crate or of the repository. Below that heading each name has to be one of these, a row (a function of that crate or of one above it, a
+stored call, a stored input of cases/), or a planted bug of the crate. So it is with the definitions and rows of docs/measured/guarded.json.
 
 docs/PROVED.md names each clause after the path of its call, `CRATE::..::CALL`, and docs/measured/crates.md leads to the claims of each crate.
 crates.txt names for each crate only others that its sources name. The version of the program is that of the package, the citation and the change log.
@@ -30,7 +30,6 @@ entries, and clauses that are only names for statements of specs/Laws.
 
 from __future__ import annotations
 
-import argparse
 import functools
 import glob
 import io
@@ -47,6 +46,7 @@ from workshop.documents import versions, walks
 from workshop.drawings import pictures
 from workshop.parts import ROOT
 from workshop.rows import row_names
+from workshop.words import Words
 
 MOST_REACHING = 0  # imports into another crate's proofs/ beside lemmas
 MOST_DEAD = 50  # declarations of proofs/ that nothing leads to that is proved; `python3 python dead` names them
@@ -68,7 +68,7 @@ def text_of(path: str) -> str:
 
 def missing_files() -> Iterator[str]:
     """Links of the documents that lead to no file, and sources that are named and do not exist."""
-    pages = [f"{ROOT}/README.md", f"{ROOT}/CONTRIBUTING.md", f"{ROOT}/CHANGELOG.md", f"{ROOT}/docs/*.md", f"{ROOT}/docs/measured/*.md", f"{ROOT}/crates/*/CLAIMS.md"]
+    pages = [f"{ROOT}/README.md", f"{ROOT}/CONTRIBUTING.md", f"{ROOT}/CHANGELOG.md", f"{ROOT}/docs/*.md", f"{ROOT}/docs/measured/*.md", f"{ROOT}/crates/*/CLAIMS.md", f"{ROOT}/crates/*/WHY.md"]
     for page in sorted(it for some in pages for it in glob.glob(some)):
         for link in re.findall(r"\]\(([^)#]+)[^)]*\)", text_of(page)):
             if "://" not in link and not os.path.exists(os.path.join(os.path.dirname(page), link)):
@@ -135,17 +135,18 @@ def is_planted_bug(name: str, crate: str) -> bool:
 
 def unknown_attacks(crate: str, attacked: str) -> Iterator[str]:
     """Names of what attacks a crate's contracts that the code does not have."""
-    table = re.compile(r"^\| ([^|]*) \| ([^|]*) \|.*\|$", re.MULTILINE)
-    for definition, row in table.findall(attacked):
-        for name in re.findall(r"`([\w:]+)`", definition):
-            if not is_known(name, crate):
-                yield f"the code has no `{name}`"
-        for name in re.findall(r"`([a-z][\w:]*_[\w:]*)`", row):
-            if not is_row(name, crate):
-                yield f"no row is called `{name}`"
-    for name in names_in(table.sub("", attacked)):
+    for name in names_in(attacked):
         if not is_row(name, crate) and not is_planted_bug(name, crate):
             yield f"neither the code nor a planted bug is called `{name}`"
+
+
+def unknown_rows() -> Iterator[str]:
+    """Definitions and rows of docs/measured/guarded.json that the code does not have."""
+    for crate, guarded in rules.guarded().items():
+        for definition, rows in guarded.items():
+            wrong = [f"the code has no `{definition}`"] * (not is_known(definition, crate))
+            wrong += [f"no row is called `{it}`" for it in rows if not is_row(it, crate)]
+            yield from (f"docs/measured/guarded.json: {crate}: {it}" for it in wrong)
 
 
 def unknown_names() -> Iterator[str]:
@@ -245,6 +246,7 @@ def failed_tests() -> list[str]:
 
 def made() -> list[str]:
     """What isn't as it is made, and what the drawings and the words of the documents have that they shouldn't."""
+    print("check docs:", paragraphs.summary())
     print("check docs:", dialect.summary())
     print("check docs:", budget.summary())
     print("check docs:", walks.summary())
@@ -265,13 +267,13 @@ def write() -> int:
     notebook.write()
     figures.write()
     reference.write()
-    pages = "docs/measured/crates.md, planted.md, promise.md, docs/experiment.ipynb, docs/reference.md"
+    pages = "docs/measured/crates.md, planted.md, promise.md, reference.md, docs/experiment.ipynb"
     print(f"check docs: {pages} and {pictures.write()} drawings are written")
     return 0
 
 
 def main() -> int:
-    parser = argparse.ArgumentParser(prog="check docs", add_help=False)
+    parser = Words(__doc__)
     parser.add_argument("--write", action="store_true", help="make the drawings and the pages that are made of the sources")
     parser.add_argument("--lower", action="store_true", help="lower the limits of the dialect to what is counted")
     rule = "print the rules with these words, each with its definition and functions, or an index"
@@ -289,7 +291,7 @@ def main() -> int:
         stated.lower()
     if options.write or options.lower:
         return write() if options.write else 0
-    wrong = [*missing_files(), *strayed(), *missing_claims(), *unknown_names(), *unknown_clauses(), *made(), *over_limits()]
+    wrong = [*missing_files(), *strayed(), *missing_claims(), *unknown_names(), *unknown_rows(), *unknown_clauses(), *made(), *over_limits()]
     print(*wrong, sep="\n", end="\n" if wrong else "")
     print(f"check docs: {len(wrong)} wrong" if wrong else "check docs: each link, source, name and number is there, and each count within its limit")
     return 1 if wrong else 0

@@ -18,9 +18,10 @@ With --note the day on which each was refused is written into docs/measured/plan
 
 from __future__ import annotations
 
+import argparse
+import functools
 import os
 import re
-import sys
 import tempfile
 import time
 from collections.abc import Sequence
@@ -31,6 +32,7 @@ from workshop.checks.copies import Copy, CopyOfCrate, CopyOverGate, lines_of_cra
 from workshop.checks.planting import Edit, Texts, edits_of, first_batch
 from workshop.documents import planted
 from workshop.parts import ROOT
+from workshop.words import Words
 
 # what antt says of a proof that names what is no longer there, or answers a goal that says nothing any more
 GONE = r"has no field|is not in scope|has no `|was not admitted|\(nearest: \.|types are `Unit \{0\}` \(expected\)"
@@ -176,7 +178,7 @@ def has_built(crate: str) -> bool:
 
 def noted(crate: str, edits: Sequence[Edit], failed: Sequence[Edit]) -> None:
     """Writes down, with --note, which of these edits were refused."""
-    if "--note" in sys.argv[1:]:
+    if asked().note:
         planted.note(crate, [it for it in edits if it not in failed], failed)
 
 
@@ -202,14 +204,21 @@ def check_over_built(crate: str, edits: list[Edit]) -> tuple[int, int]:
     return len(edits) - len(failed), len(failed)
 
 
-def options(words: list[str]) -> tuple[bool, list[str], list[str]]:
-    """What is asked for: whether each edit is tried over whole checks, the words that `rt check` gets, and the crates and edits."""
-    whole, jobs = "--whole" in words, []
-    words = [it for it in words if it not in ("--whole", "--built", "--gate", "--note")]
-    if "--jobs" in words:
-        at = words.index("--jobs")
-        jobs, words = words[at : at + 2], words[:at] + words[at + 2 :]
-    return whole, jobs, words
+def words_of() -> Words:
+    """The words that it takes."""
+    words = Words(__doc__).names("edit", "a crate, or one bug of it as CRATE/NAME; all, if none is named")
+    way = words.add_mutually_exclusive_group()
+    way.add_argument("--gate", action="store_true", help="only those that the gate tries, over what `rt ci` has built")
+    way.add_argument("--built", action="store_true", help="over what `rt ci` has built")
+    way.add_argument("--whole", action="store_true", help="each over whole checks of its crate")
+    words.add_argument("--jobs", type=int, metavar="N", help="how many are tried at once")
+    return words.flag("note", "write down which were refused")
+
+
+@functools.cache
+def asked() -> argparse.Namespace:
+    """What is asked for."""
+    return words_of().asked()
 
 
 def status_of(counts: Sequence[tuple[int, int]]) -> int:
@@ -221,12 +230,10 @@ def status_of(counts: Sequence[tuple[int, int]]) -> int:
 
 def main() -> int:
     having = [it for it in sorted(os.listdir(f"{ROOT}/crates")) if os.path.isdir(f"{ROOT}/crates/{it}/wrong-bodies")]
-    whole, jobs, words = options(sys.argv[1:])
-    if jobs and not (jobs[1:] and jobs[1].isdecimal()):
-        print("check edits: a number of jobs is missing after --jobs")
-        return 1
-    asked: dict[str, list[str]] = {}
-    for word in words or having:
+    given = asked()
+    jobs = [] if given.jobs is None else ["--jobs", str(given.jobs)]
+    named: dict[str, list[str]] = {}
+    for word in given.edit or having:
         crate, _, name = word.partition("/")
         if crate not in having:
             print(f"check edits: no planted bugs stand in crates/{crate}/wrong-bodies; there are some in {', '.join(having)}")
@@ -234,13 +241,13 @@ def main() -> int:
         if name and name not in [it.title for it in edits_of(crate)]:
             print(f"check edits: no planted bug of {crate} is called {name}")
             return 1
-        asked.setdefault(crate, []).extend([name] if name else [])
-    if "--gate" in sys.argv[1:]:
-        with ThreadPoolExecutor(int(jobs[1]) if jobs else CORES) as threads:
-            return status_of([*threads.map(check_for_gate, asked, asked.values())])
-    if "--built" not in sys.argv[1:]:
-        counts = [check_crate(crate, names, whole, jobs) for crate, names in asked.items()]
+        named.setdefault(crate, []).extend([name] if name else [])
+    if given.gate:
+        with ThreadPoolExecutor(given.jobs or CORES) as threads:
+            return status_of([*threads.map(check_for_gate, named, named.values())])
+    if not given.built:
+        counts = [check_crate(crate, names, given.whole, jobs) for crate, names in named.items()]
     else:
-        chosen = {crate: [it for it in edits_of(crate) if not names or it.title in names] for crate, names in asked.items()}
+        chosen = {crate: [it for it in edits_of(crate) if not names or it.title in names] for crate, names in named.items()}
         counts = [check_over_built(crate, edits) for crate, edits in chosen.items()]
     return status_of(counts)

@@ -13,7 +13,6 @@ in place of all this. It is no part of the gate.
 
 from __future__ import annotations
 
-import argparse
 import json
 import os
 import shutil
@@ -27,6 +26,7 @@ from workshop.builds.unproved import kept_for_sources
 from workshop.checks.installed import complete, sources_in
 from workshop.checks.wrong import Wrong, call
 from workshop.parts import ROOT
+from workshop.words import Words
 
 PAGE = f"{ROOT}/docs/measured/fresh.md"
 SYSTEM = ("git", "python3", "python3-venv", "python3-pip", "nodejs", "npm", "ca-certificates")
@@ -163,7 +163,7 @@ def kit() -> str:
 
 
 def main() -> int:
-    words = argparse.ArgumentParser(prog="check fresh")
+    words = Words(__doc__)
     words.add_argument("--write", action="store_true")
     words.add_argument("--tests", action="store_true")
     words.add_argument("--root", default="/var/tmp/dorydate-fresh")

@@ -19,6 +19,7 @@ from typing import Any, TypeVar
 from workshop.checks.installed import FORMS, Form, check_examples, file_of
 from workshop.checks.installed_wheel import native_in
 from workshop.checks.wrong import Wrong, call
+from workshop import words as takes
 from workshop.parts import ROOT, read_octets
 from workshop.wasm import pack
 
@@ -225,7 +226,9 @@ def search_rows(room: str) -> list[dict[str, object]]:
 
 
 def run() -> int:
-    found: dict[str, Any] = {}
+    words = takes.Words(__doc__)
+    words.add_argument("file", type=Path, metavar="FILE", help="where what is found is written")
+    asked, found = words.asked(), dict[str, Any]()
     with tempfile.TemporaryDirectory(dir="/root") as room:
         rows = clone_rows(room)
         if shutil.which("rt"):
@@ -242,7 +245,7 @@ def run() -> int:
             versions = [f"Python {sys.version.split()[0]}", f"Node {call('node', '--version').strip()[1:]}"]
             found["system"] = f"Debian {Path('/etc/debian_version').read_text().strip()} with {' and '.join(versions)}"
     found["rows"] = [asdict(it) for it in rows]
-    Path(sys.argv[1]).write_text(json.dumps(found), encoding="utf-8")
+    asked.file.write_text(json.dumps(found), encoding="utf-8")
     return 0
 
 

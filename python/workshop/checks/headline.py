@@ -24,7 +24,6 @@ from __future__ import annotations
 import glob
 import os
 import random
-import sys
 from collections.abc import Iterator
 
 from dorydate.explore.without import Search, event_of, rules, sought_for
@@ -33,6 +32,7 @@ from dorydate.model.without import HARMLESS, LACKING, broken, opened_without
 from dorydate.model.without.stored import Lesson, unrolled
 from dorydate.model.world import World
 from workshop.parts import ROOT
+from workshop.words import Words
 
 SECONDS = 600.0  # at most, of a search with a plan
 
@@ -106,10 +106,14 @@ def show(path: str) -> int:
 
 def main() -> int:
     """The exit status."""
-    if sys.argv[1:2] == ["--harmless"]:
-        return harmless(int((sys.argv[2:3] or ["1000"])[0]))
-    if len(sys.argv) > 1:
-        return show(sys.argv[1])
+    words = Words(__doc__).one("script", None, "a script, of which is shown what it breaks, and no more")
+    runs = "try as many random worlds without each rule that should do no harm"
+    words.add_argument("--harmless", nargs="?", type=int, const=1_000, metavar="RUNS", help=runs)
+    asked = words.asked()
+    if asked.harmless is not None:
+        return harmless(asked.harmless)
+    if asked.script is not None:
+        return show(asked.script)
     wrong, paths = 0, stored()
     for path in paths:
         if cause := check(path) or longer(path):

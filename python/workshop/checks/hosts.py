@@ -16,7 +16,6 @@ built without proofs (workshop.builds.drivers): ./check hosts [RUNS]
 from __future__ import annotations
 
 import random
-import sys
 import tempfile
 from collections import Counter
 from typing import Any, TypeVar
@@ -30,7 +29,8 @@ from workshop.builds.drivers import run_cases, write_case
 from workshop.checks.host_calls import Calls
 from workshop.checks.host_rows import open_hosts
 from workshop.checks.host_worked import worked_runs
-from workshop.checks.readings import read_stored
+from workshop.checks.readings import read_stored, told
+from workshop.words import Words
 
 T = TypeVar("T")
 
@@ -278,16 +278,9 @@ def with_runs(folder: str, runs: int) -> Counter[str]:
 
 def main() -> int:
     """The exit status."""
-    runs = int(sys.argv[1]) if len(sys.argv) > 1 else RUNS
+    runs = Words(__doc__).count("runs", RUNS, "random runs of calls").asked().runs
     is_stored = read_stored("hosts", open_hosts, "hosts")
     with tempfile.TemporaryDirectory() as folder:
         seen = with_runs(folder, runs)
         said = run_cases(folder)
-    if said is not None:
-        print(said)
-        print("check hosts: a run came to something else than the rules say (the runs are made again by their number)")
-        return 1
-    print(f"check hosts: {seen.pop('calls')} calls agree")
-    for name, count in sorted(seen.items()):
-        print(f"  {name}: {count}")
-    return 0 if is_stored else 1
+    return told("hosts", said, f"{seen.pop('calls')} calls agree", seen, is_stored)

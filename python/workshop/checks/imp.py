@@ -16,7 +16,6 @@ built without proofs (workshop.builds.drivers): ./check imp [RUNS]
 from __future__ import annotations
 
 import random
-import sys
 import tempfile
 from collections import Counter
 from collections.abc import Iterator
@@ -33,8 +32,9 @@ from workshop.builds.drivers import run_cases, write_case
 from workshop.checks.imp_rows import ImpRows, open_imp
 from workshop.checks.imp_tables import open_tables, table_rows
 from workshop.checks.net_rows import open_net
-from workshop.checks.readings import read_stored
+from workshop.checks.readings import read_stored, told
 from workshop.rows import spelled
+from workshop.words import Words
 
 RUNS = 1000
 CALLS = 100
@@ -193,7 +193,7 @@ def with_cases(folder: str, runs: int) -> Counter[str]:
 
 def main() -> int:
     """The exit status."""
-    runs = int(sys.argv[1]) if len(sys.argv) > 1 else RUNS
+    runs = Words(__doc__).count("runs", RUNS, "random runs of calls").asked().runs
     networks = [*table_rows()]
     is_stored = read_stored("imp", open_imp, "imp") & read_stored("imp", open_tables, "tables")
     is_stored &= read_stored("imp", open_net, "line", "pieces", "sources", "destinations", "routes")
@@ -201,11 +201,5 @@ def main() -> int:
         seen = with_cases(folder, runs)
         write_case(folder, "tables", ["tables", *(row for asked, owed in networks for row in spelled(asked, owed))])
         said = run_cases(folder)
-    if said is not None:
-        print(said)
-        print("check imp: a run came to something else than the rules say (the cases are made again by their number)")
-        return 1
-    print(f"check imp: {runs * CALLS} calls in {runs} runs agree, and {len(networks)} networks of tables")
-    for name, count in sorted(seen.items()):
-        print(f"  {name}: {count}")
-    return 0 if is_stored else 1
+    agreed = f"{runs * CALLS} calls in {runs} runs agree, and {len(networks)} networks of tables"
+    return told("imp", said, agreed, seen, is_stored)

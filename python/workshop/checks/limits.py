@@ -14,7 +14,6 @@ import hashlib
 import json
 import os
 import subprocess
-import sys
 from collections.abc import Callable, Iterable, Iterator, Mapping
 from concurrent.futures import ProcessPoolExecutor, ThreadPoolExecutor
 from functools import partial
@@ -26,6 +25,7 @@ from dorydate.model.trace import ends_trace
 from dorydate.model.trace_world import ends_world
 from dorydate.model.verdict import ends_audit
 from workshop.parts import any_program
+from workshop.words import Words
 
 KEPT = os.path.join(os.path.dirname(__file__), "limits.json")
 
@@ -321,12 +321,13 @@ def differing(who: str, found: dict[str, End], wanted: dict[str, End]) -> list[s
 
 def main() -> int:
     """Tries all, or those that are named."""
-    words = sys.argv[1:]
-    names = [it for it in words if not it.startswith("--")] or NAMES
+    words = Words(__doc__).names("name", f"a limit; all, if none is named: {', '.join(NAMES)}")
+    asked = words.flag("models", "ask the models anew").flag("write", "keep what the models say").asked()
+    names = asked.name or NAMES
     if unknown := [it for it in names if it not in NAMES]:
         print(f"check limits: there is no limit called {unknown[0]}; there are {', '.join(NAMES)}")
         return 1
-    if "--write" in words:
+    if asked.write:
         return write(names)
     program = any_program()
     if program is None:
@@ -337,7 +338,7 @@ def main() -> int:
     wrong = [f"{name}: kept is no good end" for name in names if name not in good]
     with ThreadPoolExecutor(os.cpu_count() or 1) as threads:
         wrong += differing("the program", dict(zip(names, threads.map(partial(by_program, program), names))), wanted)
-    if "--models" in words:
+    if asked.models:
         wrong += differing("a model", by_models(names), wanted)
     for line in wrong:
         print(f"check limits: {line}")

@@ -10,7 +10,6 @@ dialogues of `dorydate.conformance` that need no user, and faults that are plant
 
 from __future__ import annotations
 
-import argparse
 import os
 import random
 import shutil
@@ -39,6 +38,7 @@ from workshop.checks.live_sessions import HERE, LINES, MINE, SRI, TRIANGLE, Proc
 from workshop.checks.live_sessions import ended, free_ports, outcome, session, with_strangers
 from workshop.parts import ROOT, any_program, read_octets, text_of
 from workshop.tools import lacking
+from workshop.words import Words
 
 HOST = f"{ROOT}/examples/host.c"
 MOST_LINES = 450  # of the host in C
@@ -253,7 +253,7 @@ def run(parts: Sequence[Callable[[], Iterator[str]]]) -> list[str]:
 
 
 def main() -> int:
-    parser = argparse.ArgumentParser(prog="check live", add_help=False)
+    parser = Words(__doc__)
     parser.add_argument("--seeds", type=int, default=SEEDS)
     seeds = parser.parse_args().seeds
     program = os.environ.get("DORYDATE_PROGRAM") or any_program()

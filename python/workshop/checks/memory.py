@@ -20,7 +20,6 @@ import json
 import os
 import shutil
 import subprocess
-import sys
 import tempfile
 from collections.abc import Callable
 from concurrent.futures import ThreadPoolExecutor
@@ -31,6 +30,7 @@ from dorydate.model.topology import Topology, spelled_input
 from workshop.checks.limits import CONTACT, JOINED, PAIR, in_lines, lives_of, opened, ring
 from workshop.parts import ROOT, any_program
 from workshop.tools import left_out
+from workshop.words import Words
 
 KEPT = os.path.join(os.path.dirname(__file__), "memory.json")
 SUBNET = Topology("subnet", False, [(1, 1), (2, 1)], [(1, 2)])
@@ -121,8 +121,9 @@ def write(found: dict[str, int]) -> None:
 
 
 def main() -> int:
-    words = [it for it in sys.argv[1:] if it != "--write"]
-    program = words[0] if words else any_program()
+    words = Words(__doc__).one("program", None, "the program; that of the present sources, if it is left out")
+    asked = words.flag("write", "keep what it holds now as the limits").asked()
+    program = asked.program or any_program()
     compiler = shutil.which("cc") or shutil.which("clang")
     if program is None:
         print("check memory: there is no program of these sources")
@@ -131,7 +132,7 @@ def main() -> int:
         left_out("memory", "all of it", "it wants a C compiler, and a proved program that loads libraries (./build)")
         return 1 if os.environ.get("CI") else 0
     found = counted(program, compiler)
-    if "--write" in sys.argv:
+    if asked.write:
         write(found)
     with open(KEPT, encoding="utf-8") as file:
         limits: dict[str, int] = json.load(file)

@@ -15,10 +15,8 @@ from __future__ import annotations
 from collections import Counter
 from typing import NamedTuple
 
-from workshop.checks.broken import broken, pairs_that_differ
+from workshop.checks.broken import broken, broken_book
 from workshop.checks.toward import CLAUSES, STRONGER, Clause, Watching, broken_toward
-from dorydate.model import was_sent
-from dorydate.model.audit import audit
 from dorydate.model.chance.strangers import mixed_script
 from dorydate.model.crossings import Passed
 from dorydate.model.host import Host
@@ -47,12 +45,8 @@ def broken_among(world: MixedWorld) -> str | None:
     log, lives = world.carrier.log, world.lives_among()
     if first_break(world.carrier.hosts(), log) is not None:
         return "the mailboxes"
-    if part := audit(log, lives):
+    if part := broken_book(log, lives):
         return part
-    if was_sent.broken(log, lives):
-        return "messages of a connection"
-    if next(pairs_that_differ(log, lives), None):
-        return "lives that continue and are no connection"
     peers = {notice.split(" ")[1] for _, notice, _ in world.book.notices if notice.startswith("error ")}
     if peers - {spell_host(it) for it in world.strangers}:
         return "an error"

@@ -40,6 +40,7 @@ from dorydate.model.runs import End, expected
 from dorydate.model.chance.worlds import reached
 from dorydate.model.chance.worlds import some_script as some_script_of_world
 from workshop.parts import ROOT, any_program
+from workshop.words import Words
 
 Run = tuple[list[str], bytes]  # options and an input
 PLAIN_AND_LOG: tuple[list[str], list[str]] = [], ["--log"]
@@ -162,17 +163,21 @@ def compare(program: Program, inputs: Sequence[Given], runs: Sequence[str]) -> C
 
 
 def main() -> int:
-    is_tried = sys.argv[1:2] == ["--try"]
+    words = Words(__doc__)
+    words.add_argument("--try", nargs="?", const=ROOT, dest="clone", metavar="CLONE", help="the program that `rt try` builds, of this clone or another")
+    words.add_argument("what", nargs="?", choices=["asking"], help="only networks whose IMPs ask")
+    asked = words.count("runs", 10_000, "how many of these").asked()
+    is_tried = asked.clone is not None
     path = None if is_tried else any_program()
     if not is_tried and path is None:
         print("check model: there is no program of these sources")
         return 1
-    program: Program = Tried((sys.argv[2:3] or [ROOT])[0])
+    program: Program = Tried(asked.clone or ROOT)
     if path:
         program = Kept(path)
     runs = what_it_runs(program)
-    if sys.argv[1:2] == ["asking"]:
-        return compare_asking(program, int(sys.argv[2]) if sys.argv[2:] else 10_000, runs)
+    if asked.what == "asking":
+        return compare_asking(program, asked.runs, runs)
     inputs, worlds = (INPUTS, WORLDS) if not is_tried else (INPUTS // 20, WORLDS // 10)
     if compare(program, [some_input(random.Random(seed)) for seed in range(inputs)], runs) is None:
         return 1

@@ -30,6 +30,7 @@ from workshop.checks.limits import NAMES, by_program, kept
 from workshop.checks.planting import Edit, edits_of
 from workshop.parts import ROOT, read_octets, text_of
 from workshop.rows import files
+from workshop.words import Words
 
 SECONDS = 30  # for an input with a bug
 MOST_OCTETS = 10_000_000  # of an input
@@ -181,21 +182,21 @@ def chosen(edits: dict[int, Edit], words: Sequence[str]) -> Iterator[tuple[str, 
 
 
 def main() -> int:
-    words = sys.argv[1:]
-    names = [it for it in words if not it.startswith("--")]
+    words = Words(__doc__).names("edit", "a crate, or one bug of it as CRATE/NAME; all, if none is named")
+    asked = words.flag("rows", "run tools/calls on cases/calls").flag("limits", "run the inputs of ./check limits").asked()
     edits = numbered()
     try:
-        program, has = made(CALLS if "--rows" in words else PROGRAM, edits)
+        program, has = made(CALLS if asked.rows else PROGRAM, edits)
     except (NotKept, OSError) as why:
         sys.exit(f"check noticed: the program was not built: {why}")
-    of = of_rows if "--rows" in words else of_limits if "--limits" in words else of_cases
+    of = of_rows if asked.rows else of_limits if asked.limits else of_cases
     every = of(program)
     wrong = [name for name, differs in every.items() if differs(0)]
     trials = {name: it for name, it in every.items() if name not in wrong}
     for name in wrong:
         print(f"without a bug {name} ends otherwise, and is left out")
     total = Counter[str]()
-    for crate, some in chosen(edits, names):
+    for crate, some in chosen(edits, asked.edit):
         counts = try_crate(crate, some, has, trials)
         print(f"{crate}: {counts['noticed']} of {len(some)} noticed, {counts['not tried']} not tried", flush=True)
         total += counts

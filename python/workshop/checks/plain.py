@@ -10,13 +10,13 @@ topologies that are refused or that it doesn't read. It is not part of the gate.
 from __future__ import annotations
 
 import subprocess
-import sys
 from collections import Counter
 from collections.abc import Iterable, Iterator, Sequence
 
 from dorydate.explore import fast
 from workshop.checks.cases import cases_below
 from workshop.parts import ROOT
+from workshop.words import Words
 
 LEFT_OUT = ("--log", "--trace", "--audit")
 
@@ -50,11 +50,13 @@ def beside(program: str, other: str, paths: Sequence[str]) -> Iterator[tuple[str
 
 
 def main() -> int:
-    words = sys.argv[1:]
+    words = Words(__doc__)
+    words.add_argument("--beside", nargs="+", metavar=("FILE", "INPUT"), help="also beside this program, on further inputs")
+    other = words.asked().beside
     program = fast.finder()
     told = [*stored(program)]
-    if words[:1] == ["--beside"]:
-        told += beside(program, words[1], words[2:])
+    if other:
+        told += beside(program, other[0], other[1:])
     for name, how in told:
         if how == "differs":
             print(f"differs: {name}")

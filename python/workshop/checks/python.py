@@ -1,6 +1,6 @@
 """The package dorydate: types, tests, its tutorial, and a short exploration (a minute).
 
-Checks python/, of which pip installs dorydate: ./check python
+Checks python/, of which pip installs dorydate: ./check python [TEST..]
 
 `mypy --strict` and pyflakes read both packages and their tests, where they are installed; otherwise that is said. So it is with the notebook and Jupyter. The tests
 of python/tests run, and so do the lines of docs/python.md. Then searches with fixed seeds find what they have to find, no longer than it was
@@ -17,9 +17,11 @@ import subprocess
 import sys
 import tempfile
 from collections import Counter
+from collections.abc import Sequence
 
 from workshop.parts import ROOT, any_program
 from workshop.tools import lacking, left_out, python_with
+from workshop.words import Words
 
 PACKAGE = f"{ROOT}/python"
 SOURCES = ("dorydate", "workshop", "tests", "__main__.py", "../examples/ncp.py")
@@ -51,6 +53,12 @@ def pyflakes() -> bool:
 
 def python(*words: str, env: dict[str, str]) -> subprocess.CompletedProcess[str]:
     return subprocess.run([sys.executable, "-B", *words], cwd=ROOT, capture_output=True, text=True, env=env)
+
+
+def named_tests(names: Sequence[str], env: dict[str, str]) -> int:
+    """The status of these tests."""
+    words = [sys.executable, "-B", "-m", "unittest", "-v", *(f"tests.{it}" for it in names)]
+    return subprocess.run(words, cwd=PACKAGE, env=env).returncode
 
 
 def tests(env: dict[str, str]) -> bool:
@@ -94,11 +102,14 @@ def explorations(env: dict[str, str]) -> bool:
 
 
 def main() -> int:
+    names = Words(__doc__).names("test", "only this test: test_waits, or test_waits.CLASS").asked().test
     program = os.environ.get("DORYDATE_PROGRAM") or any_program()
     if program is None:
         print("check python: there is no program of these sources: ./build makes it")
         return 1
     env = {**os.environ, "DORYDATE_PROGRAM": program, "PYTHONPATH": PACKAGE}
+    if names:
+        return named_tests(names, env)
     if program.endswith("-unproved"):
         left_out("python", "explorations", "the program without proofs is too slow for them (./build makes the fast one)")
     return 0 if all([mypy(), pyflakes(), tests(env), notebook(env), program.endswith("-unproved") or explorations(env)]) else 1

@@ -5,7 +5,7 @@ Each layer that has a model is opened by the words of a block's first row, and i
 
 from __future__ import annotations
 
-from collections.abc import Callable
+from collections.abc import Callable, Mapping
 from typing import Protocol
 
 from workshop.rows import Block, Row, plain, stored
@@ -57,6 +57,18 @@ class Compared:
                     self.compare(name, row, reading)
                     if self.wrong:
                         return
+
+
+def told(check: str, said: str | None, agreed: str, seen: Mapping[str, int], is_stored: bool) -> int:
+    """Says what random calls came to, and gives the status: 1 where some differ, or stored rows did."""
+    if said is not None:
+        print(said)
+        print(f"check {check}: a run came to something else than the rules say (the runs are made again by their number)")
+        return 1
+    print(f"check {check}: {agreed}")
+    for name, count in sorted(seen.items()):
+        print(f"  {name}: {count}")
+    return 0 if is_stored else 1
 
 
 def read_stored(check: str, open_layer: Callable[[str], tuple[Reading, list[str]]], *layers: str) -> bool:

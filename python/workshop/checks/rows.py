@@ -10,12 +10,12 @@ Python answer the same rows in the checks `imp`, `subnet`, `hosts`, `services` a
 
 from __future__ import annotations
 
-import sys
 from collections import Counter
 
 from workshop.builds.drivers import difference, made_driver, printed
 from workshop.parts import text_of
 from workshop.rows import BadRow, blocks_of, files
+from workshop.words import Words
 
 READ_BY = {
     "imp": "imp", "tables": "imp", "subnet": "subnet", "hosts": "hosts", "readers": "readers",
@@ -55,15 +55,16 @@ def write_file(program: str, path: str) -> None:
 
 
 def main() -> int:
-    words = sys.argv[1:]
-    is_writing = words[:1] == ["--write"]
-    names = words[is_writing:]
-    found = files()
+    words = Words(__doc__).names("name", "a file of cases/calls; all, if none is named")
+    asked, found = words.flag("write", "write what came into these files").asked(), files()
+    names = asked.name
+    if unknown := [it for it in names if it not in found]:
+        words.error(f"there is no file cases/calls/{unknown[0]}.rows")
     chosen = {name: found[name] for name in names or found}
     program = made_driver()
-    if is_writing:
+    if asked.write:
         if not names:
-            sys.exit("check rows: --write wants the names of files")
+            words.error("--write wants the names of files")
         for path in chosen.values():
             write_file(program, path)
         return 0

@@ -19,7 +19,6 @@ the processor).
 from __future__ import annotations
 
 import shutil
-import sys
 from collections import Counter
 
 from dorydate.definitions.promise import BOOK, BOOK_AMONG, Judge, deeply
@@ -27,6 +26,7 @@ from workshop.documents import believed
 from workshop.second import agda, laws, mutants, rows
 from workshop.second.beside import beside_audit
 from workshop.tools import lacking
+from workshop.words import Words
 
 LOGS = 1_000
 MOST_UNREAD = 3  # rows of calms, whose functions take an argument in braces
@@ -75,17 +75,21 @@ def judge(count: int) -> list[str]:
 
 
 def main() -> int:
-    if sys.argv[1:] == ["--laws"]:
+    words = Words(__doc__).count("logs", LOGS, "how many logs are judged")
+    what = words.add_mutually_exclusive_group()
+    what.add_argument("--laws", action="store_true", help="have Agda check the laws of streams and of resets")
+    what.add_argument("--mutants", action="store_true", help="change each definition of the promise in one word, and say which changes no row notices")
+    asked = words.asked()
+    if asked.laws:
         wrong = laws.faults()
         print(*wrong, sep="\n", end="\n" if wrong else "")
         print("check second: laws are refused" if wrong else "check second: the laws are proved a second time")
         return 1 if wrong else 0
-    if sys.argv[1:] == ["--mutants"]:
+    if asked.mutants:
         found = deeply(lambda: [*mutants.tried(rows.all_rows())])
         print(*mutants.table(found), *mutants.lacking_rows(found), sep="\n")
         return 1 if mutants.lacking_rows(found) else 0
-    count = next((int(it) for it in sys.argv[1:]), LOGS)
-    wrong = [*in_agda(), *worked(), *judge(count)]
+    wrong = [*in_agda(), *worked(), *judge(asked.logs)]
     print(*wrong[:10], sep="\n", end="\n" if wrong else "")
     print(f"check second: {len(wrong)} wrong" if wrong else "check second: the second reader says what the first does")
     return 1 if wrong else 0

@@ -16,13 +16,13 @@ import os
 import select
 import socket
 import subprocess
-import sys
 import tempfile
 import time
 
 from dorydate.model.topology import Topology, spelled_input
 from workshop.checks.limits import JOINED, PAIR
 from workshop.parts import any_program
+from workshop.words import Words
 
 MOST = 4_294_967_295
 UNSEEN = 64  # rounds of a calm, before each further one is written at once
@@ -119,7 +119,7 @@ def faults_of_resting(program: str) -> list[str]:
 
 
 def main() -> int:
-    program = sys.argv[1] if len(sys.argv) > 1 else any_program()
+    program = Words(__doc__).one("program", None, "the program; that of the present sources, if it is left out").asked().program or any_program()
     if program is None:
         print("check seen: there is no program of these sources")
         return 1

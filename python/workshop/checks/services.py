@@ -14,7 +14,6 @@ built without proofs (workshop.builds.drivers): ./check services [RUNS]
 from __future__ import annotations
 
 import random
-import sys
 import tempfile
 from collections import Counter
 from collections.abc import Callable, Iterable
@@ -27,6 +26,7 @@ from workshop.builds.drivers import run_cases, write_case
 from workshop.checks.readings import read_stored
 from workshop.checks.service_rows import answers_of, first_answers, open_service
 from workshop.rows import spelled
+from workshop.words import Words
 
 T = TypeVar("T")
 
@@ -142,7 +142,7 @@ class Chance:
 
 def main() -> int:
     """The exit status."""
-    runs = int(sys.argv[1]) if len(sys.argv) > 1 else RUNS
+    runs = Words(__doc__).count("runs", RUNS, "random machines").asked().runs
     seen: Counter[str] = Counter()
     is_stored = read_stored("services", open_service, "server", "user", "echo", "terminal")
     with tempfile.TemporaryDirectory() as folder:

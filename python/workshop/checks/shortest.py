@@ -13,7 +13,6 @@ from __future__ import annotations
 
 import os
 import shutil
-import sys
 import tempfile
 from collections.abc import Iterator
 from dataclasses import dataclass
@@ -32,6 +31,7 @@ from dorydate.program import Program
 from dorydate.script import Calm, Contact, Event, Listen, OpenReceive
 from workshop.parts import ROOT, any_program
 from workshop.tools import lacking
+from workshop.words import Words
 
 PAGE = f"{ROOT}/docs/measured/shortest.md"
 CALMS = tuple(map(Calm, (1, 2, 3, 5)))
@@ -210,6 +210,8 @@ def planted(program: Program) -> list[str]:
 
 
 def main() -> int:
+    words = Words(__doc__).flag("write", "write the page of what is found")
+    asked = words.flag("planted", "try whether planted faults of the search are found, and no more").asked()
     path = os.environ.get("DORYDATE_PROGRAM") or any_program()
     if path is None:
         print("check shortest: there is no program of these sources: ./build makes it")
@@ -224,7 +226,7 @@ def main() -> int:
             return 1
         lacking("shortest", "all of it", "rustc")
         return 0
-    if "--planted" in sys.argv:
+    if asked.planted:
         missed = planted(program)
         print(f"check shortest: {len(PLANTED)} planted faults, {len(missed)} not found")
         return 1 if missed else 0
@@ -234,7 +236,7 @@ def main() -> int:
         wrong += [f"{where}: {it}" for where, walk in by_trace.items() for it in spelled_apart(BESIDE[where], walk, finder)]
     print("check shortest: states by the trace and by the plain program:", ", ".join(f"{where}: {len(walk.states)}" for where, walk in by_trace.items()), flush=True)
     made = page(program)
-    if "--write" in sys.argv:
+    if asked.write:
         Path(PAGE).write_text(made, encoding="utf-8")
     elif not os.path.isfile(PAGE) or Path(PAGE).read_text(encoding="utf-8") != made:
         wrong.append("docs/measured/shortest.md is not what is found: ./check shortest --write")

@@ -24,6 +24,7 @@ from dorydate.network import Network
 from dorydate.program import Program
 from dorydate.script import Flow, GiveUp, HostDown, HostUp, Out, Take, Text
 from workshop.parts import ROOT, any_program
+from workshop.words import Words
 
 MODELS = f"{ROOT}/tools/spin"
 PAGE = f"{ROOT}/docs/measured/spin.md"
@@ -139,6 +140,7 @@ def page(found: list[tuple[Run, Seen]], traced: dict[str, int]) -> str:
 
 
 def main() -> int:
+    asked = Words(__doc__).flag("write", "write the page of what SPIN counts").asked()
     if not spin():
         print("check spin: SPIN or gcc is not installed, so nothing was looked at (apt-get install spin gcc)")
         return 0
@@ -153,7 +155,7 @@ def main() -> int:
         if run.model == "mailboxes" and run.what in traced and traced[run.what] != it.states:
             wrong.append(f"{run.what}: {it.states} states by SPIN, {traced[run.what]} by the trace")
     made = page(found, traced)
-    if "--write" in sys.argv:
+    if asked.write:
         Path(PAGE).write_text(made, encoding="utf-8")
     elif not os.path.isfile(PAGE) or Path(PAGE).read_text(encoding="utf-8") != made:
         wrong.append("docs/measured/spin.md is not what SPIN counts: ./check spin --write")

@@ -15,17 +15,17 @@ import hashlib
 import os
 import shutil
 import subprocess
-import sys
 import tempfile
 from collections import Counter
 from concurrent.futures import ThreadPoolExecutor
 from itertools import count
 
 from dorydate.model.inputs import network_in
-from workshop.builds.drivers import crates_below
+from workshop.builds.drivers import with_crate
 from workshop.parts import ROOT
 from workshop.tools import lacking
 from workshop.builds.unproved import build, keep, kept_for_sources
+from workshop.words import Words
 
 INPUTS = (
     "examples/first-message", "examples/three-imps-in-a-row", "examples/resets-that-cross",
@@ -42,22 +42,6 @@ def kept_at() -> str:
     """Where the program of the present sources is kept."""
     with open(f"{ROOT}/tools/steps.rs", "rb") as file:
         return f"{ROOT}/out/{hashlib.sha256(kept_for_sources().encode() + file.read()).hexdigest()}/steps"
-
-
-def with_sources(folder: str) -> str:
-    """Puts the program's source into a folder as a crate, with copies of the crates that it uses."""
-    with open(f"{ROOT}/crates.txt", encoding="utf-8") as file:
-        lines = dict(line.strip().split(":") for line in file if line.strip() and not line.startswith("#"))
-    below = {name: below.split() for name, below in lines.items()}
-    needed = [*dict.fromkeys(it for name in USES.split() for it in crates_below(below, name))]
-    for name in needed:
-        shutil.copytree(f"{ROOT}/crates/{name}", f"{folder}/crates/{name}", ignore=shutil.ignore_patterns("out"))
-    os.makedirs(f"{folder}/crates/steps/src")
-    shutil.copy(f"{ROOT}/tools/steps.rs", f"{folder}/crates/steps/src/main.rt")
-    with open(f"{folder}/crates.txt", "w", encoding="utf-8") as file:
-        file.writelines(f"{name}:{lines[name]}\n" for name in needed)
-        file.write(f"steps: {USES}\n")
-    return f"{folder}/crates/steps"
 
 
 def events_of(name: str) -> bytes:
@@ -100,13 +84,13 @@ def check(program: str, before: str, room: str, name: str, threads: ThreadPoolEx
 
 
 def main() -> int:
+    names = Words(__doc__).names("input", f"an example; these, if none is named: {', '.join(INPUTS)}").asked().input or INPUTS
     compiler = shutil.which("cc") or shutil.which("clang")
     if not compiler:
         lacking("steps", "all of it", "a C compiler")
         return 1 if os.environ.get("CI") else 0
     if not os.path.exists(kept_at()):
-        keep(kept_at, lambda room: build(with_sources(f"{room}/sources"), EXAMPLE, WANTED, room))
-    names = sys.argv[1:] or INPUTS
+        keep(kept_at, lambda room: build(with_crate(f"{room}/sources", "steps", USES, {f"{ROOT}/tools/steps.rs": "main.rt"}), EXAMPLE, WANTED, room))
     with tempfile.TemporaryDirectory() as room, ThreadPoolExecutor(CORES) as threads:
         before = f"{room}/failing.so"
         subprocess.run([compiler, "-O1", "-shared", "-fPIC", "-o", before, f"{ROOT}/tools/failing.c", "-ldl"], check=True)

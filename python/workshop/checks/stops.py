@@ -19,7 +19,6 @@ import functools
 import multiprocessing
 import os
 import subprocess
-import sys
 from collections import Counter
 from collections.abc import Iterator, Sequence
 from concurrent.futures import ProcessPoolExecutor
@@ -40,6 +39,7 @@ from dorydate.model.book import Fate, Life
 from dorydate.model.world import World
 from workshop.parts import ROOT, any_program
 from workshop.checks.stopping import Dialogue, Stop, Stuck
+from workshop.words import Words
 
 EXAMPLE = f"{ROOT}/examples/from-a-terminal-to-a-server"
 NAMES = {"imp": "an IMP", "host": "a host", "end": "an end of the line"}
@@ -263,7 +263,7 @@ def tell(seen: Counter[str], events: int, stops: int) -> None:
 
 
 def main() -> int:
-    every = int(sys.argv[1]) if len(sys.argv) > 1 else 1
+    every = Words(__doc__).count("every", 1, "a stop at each event whose number this divides").asked().every
     program()  # both are there before the processes that make the runs are
     _, events = dialogue()
     counts = range(every, len(events.lines) + 1, every)

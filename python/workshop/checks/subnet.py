@@ -14,16 +14,16 @@ Networks of the greatest size, 63 IMPs and 157 lines, five at each IMP but one, 
 
 from __future__ import annotations
 
-import sys
 import tempfile
 from collections import Counter
 
 from dorydate.model.chance.subnets import EVENTS, LARGEST_EVENTS, Chance
 from dorydate.model.chance.worlds import spell_event
 from workshop.builds.drivers import run_cases, write_case
-from workshop.checks.readings import read_stored
+from workshop.checks.readings import read_stored, told
 from workshop.checks.subnet_rows import SubnetRows, open_subnet, spell_network
 from workshop.rows import spelled
+from workshop.words import Words
 
 RUNS = 1000
 LARGEST_RUNS = 200
@@ -55,19 +55,16 @@ def with_runs(folder: str, runs: int, is_largest: bool) -> Counter[str]:
 
 def main() -> int:
     """The exit status."""
-    words = sys.argv[1:]
-    is_largest = words[:1] == ["largest"]
-    runs = int(words[is_largest]) if len(words) > is_largest else LARGEST_RUNS if is_largest else RUNS
+    words = Words(__doc__)
+    words.add_argument("words", nargs="*", metavar="[largest] [RUNS]", help=f"networks of the greatest size; how many runs ({RUNS}, or {LARGEST_RUNS})")
+    asked = words.asked().words
+    is_largest = asked[:1] == ["largest"]
+    if len(counts := asked[is_largest:]) > 1 or not all(it.isdecimal() for it in counts):
+        words.error(f"what is {counts[-1]}?")
+    runs = int(counts[0]) if counts else LARGEST_RUNS if is_largest else RUNS
     is_stored = read_stored("subnet", open_subnet, "subnet")
     with tempfile.TemporaryDirectory() as folder:
         seen = with_runs(folder, runs, is_largest)
         said = run_cases(folder)
-    if said is not None:
-        print(said)
-        print("check subnet: a run came to something else than the rules say (the runs are made again by their number)")
-        return 1
     events = LARGEST_EVENTS if is_largest else EVENTS
-    print(f"check subnet: {runs * events} events in {runs} runs agree")
-    for name, count in sorted(seen.items()):
-        print(f"  {name}: {count}")
-    return 0 if is_stored else 1
+    return told("subnet", said, f"{runs * events} events in {runs} runs agree", seen, is_stored)

@@ -6,13 +6,13 @@ then leaves out it says itself, and the gate says it again at its end. --package
 
 from __future__ import annotations
 
-import argparse
 
 from workshop.tools import TOOLS, installed
+from workshop.words import Words
 
 
 def main() -> int:
-    words = argparse.ArgumentParser(prog="check tools")
+    words = Words(__doc__)
     how = words.add_mutually_exclusive_group()
     how.add_argument("--install", action="store_true", help="install those that lack")
     how.add_argument("--packages", action="store_true", help="print Debian's packages of those that lack")

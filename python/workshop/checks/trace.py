@@ -26,7 +26,6 @@ import json
 import os
 import random
 import subprocess
-import sys
 from collections import Counter
 from collections.abc import Callable, Container, Iterable, Iterator, Sequence
 from contextlib import AbstractContextManager, contextmanager
@@ -52,6 +51,7 @@ from dorydate.model.trace_values import Object
 from dorydate.model.trace_world import ends_world
 from workshop.checks import trace_worlds
 from workshop.parts import ROOT
+from workshop.words import Words
 
 RUNS = 300
 MOST_TRIED = 600  # this many scripts are run to find that a rule is broken
@@ -108,12 +108,7 @@ def held_up(network: Topology, lines: Sequence[str]) -> tuple[Records, list[str]
 
 def as_printed(it: Object) -> str:
     """The line that is printed for what crossed."""
-    match it["kind"]:
-        case "out" | "in":
-            return f"{it['kind']} {it['from']} {it['to']} {it['link']} {it['bits']}"
-        case "down" | "up":
-            return f"{it['kind']} {it['host']}"
-    return f"answer {it['kind'].replace('nottaken', 'incomplete')} {it['from']} {it['to']} {it['link']}"
+    return " ".join(trace_worlds.as_logged(it).split(" ")[:5]).replace("nottaken", "incomplete")
 
 
 UNCHANGED = {"impdown", "enddown", "noroom"}  # what becomes of frames that change nothing
@@ -637,7 +632,7 @@ def document_is_right() -> bool:
 
 
 def main() -> int:
-    runs = int(sys.argv[1]) if sys.argv[1:] else RUNS
+    runs = Words(__doc__).count("runs", RUNS, "scripts over each carrier").asked().runs
     program, failed = kept_program(), 0
     counted: Counter[str] = Counter()
     fates: set[str] = set()

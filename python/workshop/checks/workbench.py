@@ -25,7 +25,6 @@ import random
 import re
 import shutil
 import subprocess
-import sys
 import tempfile
 from collections.abc import Callable
 from typing import Any
@@ -49,6 +48,7 @@ from dorydate.model.world import World
 from dorydate.sentences import DEEDS, silence
 from workshop.parts import ROOT, any_program, read_octets, text_of
 from workshop.tools import lacking, left_out
+from workshop.words import Words
 
 BOOKS = 40  # random ones of each sort
 MOST_ROUNDS = 400  # of calm in an example that the model follows
@@ -334,9 +334,7 @@ def check_browsers(command: str) -> None:
 
 
 def main() -> int:
-    if sys.argv[1:] not in ([], ["--browser"]):
-        print("usage: ./check workbench [--browser]", file=sys.stderr)
-        return 1
+    in_browsers = Words(__doc__).flag("browser", "also in browsers").asked().browser
     command, program = node(), any_program()
     if not command:
         lacking("workbench", "all of it", "Node")
@@ -346,7 +344,7 @@ def main() -> int:
     try:
         check_types()
         check_modules(command, fastest(program))
-        if sys.argv[1:]:
+        if in_browsers:
             check_browsers(command)
     except Wrong as what:
         print(f"check workbench: {what}")

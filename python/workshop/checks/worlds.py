@@ -20,7 +20,6 @@ that are wrong in one place have to be distinguished from the right one by one o
 from __future__ import annotations
 
 import copy
-import sys
 from collections import Counter
 from collections.abc import Callable, Iterable, Iterator
 from dataclasses import replace
@@ -29,6 +28,7 @@ from typing import Any, NamedTuple, TypeVar
 from workshop.checks import mixed
 from workshop.checks.broken import Watched, broken
 from workshop.checks.lefts import Books
+from workshop.words import Words
 from dorydate.model import arrived
 from dorydate.model.audit import CONTROL, audit, partners_are_kept
 from dorydate.model.book import Life
@@ -223,8 +223,10 @@ def run(seed: int) -> Ran:
 
 def main() -> int:
     """The exit status."""
-    if sys.argv[1:2] == ["--mixed"]:
-        return mixed.check(int(sys.argv[2]) if len(sys.argv) > 2 else RUNS)
+    asked = Words(__doc__).flag("mixed", "with strangers").count("runs", RUNS, "random worlds").asked()
+    runs = asked.runs
+    if asked.mixed:
+        return mixed.check(runs)
     for wanted, book in wrong_books():
         if audit(*book) != wanted:
             print(f"check worlds: a book that breaks {wanted} is found to break {audit(*book)}")
@@ -240,7 +242,6 @@ def main() -> int:
         return 1
     came_to: Counter[str] = Counter()
     tried: Counter[str] = Counter()
-    runs = int(sys.argv[1]) if len(sys.argv) > 1 else RUNS
     for seed in range(runs):
         ran = run(seed)
         if ran.part:

@@ -9,7 +9,6 @@ its statement stays: each clause is compared by the words of its statement, each
 
 from __future__ import annotations
 
-import argparse
 import glob
 import os
 import re
@@ -19,6 +18,7 @@ import tempfile
 from dataclasses import dataclass, field
 
 from workshop.parts import ROOT
+from workshop.words import Words
 
 KINDS = ("ensures", "requires")
 DEFINITION = re.compile(r"^(?:abbrev pub|unfoldable pub|pub record|pub data) ([^\s:]+)")
@@ -206,7 +206,7 @@ def compared(before: dict[str, str], after: dict[str, str]) -> list[str]:
 
 
 def main() -> int:
-    words = argparse.ArgumentParser(prog="python3 python clauses", description=(__doc__ or "").split("\n\n")[0])
+    words = Words(__doc__, "python3 python clauses")
     words.add_argument("before", metavar="BEFORE", help="a revision")
     words.add_argument("after", nargs="?", metavar="AFTER", help="another one, else the files as they are")
     asked = words.parse_args()

@@ -9,12 +9,12 @@ from __future__ import annotations
 import glob
 import os
 import re
-import sys
 from collections import Counter, defaultdict
 from collections.abc import Iterable
 from dataclasses import dataclass
 
 from workshop.parts import ROOT, text_of
+from workshop.words import Words
 
 TAKEN = re.compile(r"use ([^\s{]+)\.\{([^}]*)\}")
 DECLARED = re.compile(r" *(?:(?:pub|abbrev|unfoldable|pattern|record|data) )*([^(){}:]+?) (?:\(.*\) )?:")
@@ -162,7 +162,7 @@ def faults() -> list[str]:
 
 
 def main() -> int:
-    for crate in sys.argv[1:]:
+    for crate in Words(__doc__).names("crate", "the crates whose proofs are gathered").asked().crate:
         changed = written(Proofs(crate))
         before = sum(text_of(path).count("\n") for path in changed if os.path.exists(path))
         for path, text in changed.items():

@@ -9,6 +9,7 @@ from __future__ import annotations
 import os
 import re
 
+from workshop.documents import pages
 from workshop.parts import ROOT
 from workshop.drawings.repository import Layer, layers
 
@@ -85,15 +86,9 @@ def page() -> str:
 
 
 def write() -> None:
-    text = page()
-    with open(PAGE, "w", encoding="utf-8") as file:
-        file.write(text)
+    pages.put(PAGE, page())
 
 
 def faults() -> list[str]:
     """Whether the page is as it is made."""
-    stored = ""
-    if os.path.exists(PAGE):
-        with open(PAGE, encoding="utf-8") as file:
-            stored = file.read()
-    return [] if stored == page() else ["docs/measured/crates.md: not as it is made (./check docs --write)"]
+    return pages.unlike(PAGE, page())

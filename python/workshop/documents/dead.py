@@ -11,11 +11,11 @@ import functools
 import glob
 import os
 import re
-import sys
 from collections.abc import Iterator
 from dataclasses import dataclass, field
 
 from workshop.parts import ROOT, text_of
+from workshop.words import Words
 
 # files whose declarations the checker asks for by their names
 ASKED_FOR = ("Answers.antt", "Invariants.antt", "Proof.antt")
@@ -236,11 +236,13 @@ def without_imports(text: str, gone: dict[str, list[str]]) -> str:
 
 
 def main() -> int:
-    words = sys.argv[1:]
-    if words[:1] != ["--delete"]:
+    words = Words(__doc__)
+    words.add_argument("--delete", nargs="+", metavar="CRATE", help="take what is dead out of these crates")
+    crates = words.asked().delete
+    if crates is None:
         print(*faults(), sep="\n")
         return 0
-    gone = {module: names for module, names in dead().items() if module.split(".")[1] in words[1:]}
+    gone = {module: names for module, names in dead().items() if module.split(".")[1] in crates}
     for module, source in sources().items():
         names = gone.get(module, [])
         before = text_of(source.path)

@@ -7,8 +7,8 @@ from __future__ import annotations
 
 import doctest
 import json
-import os
 
+from workshop.documents import pages
 from workshop.parts import ROOT, text_of
 
 PAGE, NOTEBOOK = f"{ROOT}/docs/python.md", f"{ROOT}/docs/experiment.ipynb"
@@ -71,12 +71,9 @@ def made() -> str:
 
 
 def write() -> None:
-    text = made()
-    with open(NOTEBOOK, "w", encoding="utf-8") as file:
-        file.write(text)
+    pages.put(NOTEBOOK, made())
 
 
 def faults() -> list[str]:
     """Whether the notebook is as it is made."""
-    is_made = os.path.exists(NOTEBOOK) and text_of(NOTEBOOK) == made()
-    return [] if is_made else ["docs/experiment.ipynb: not as it is made (./check docs --write)"]
+    return pages.unlike(NOTEBOOK, made())

@@ -1,4 +1,5 @@
-"""Pages have one paragraph a line: no line is broken by hand. README has at most 900 words, and all pages together MOST_OF_ALL.
+"""Pages have one paragraph a line: no line is broken by hand. README has at most 900 words, each crate's claims have at most 300, and
+all pages that people read together MOST_OF_ALL.
 
 The pages of docs/measured are made by programs, and aren't counted.
 """
@@ -12,11 +13,13 @@ import re
 from workshop.parts import ROOT
 
 MOST_WORDS = 900  # of README, which is read first
+MOST_OF_CLAIMS = 300  # of each CLAIMS.md: what a crate promises, what it doesn't, and how that was attacked
 # 1,000 of these: strangers that one speaks for, a program of one's own, and lessons among them; 210: endings among
 # strangers, a book that borrows; 440: the audit of logs with strangers; 2,000: live networks, whose wire a reader has
 # to be able to write a host from; 1,400: a log judged by the definitions, and who checks the checker
 MOST_OF_ALL = 79_000
 PAGES = ("README.md", "CONTRIBUTING.md", "docs/*.md")
+CLAIMS = ("crates/*/CLAIMS.md",)
 # a line that begins something of its own: a heading, an item, a row, a quotation, a picture, a comment, code
 OWN = re.compile(r"(?:#|[-*] |\d+\. |\||>|!\[|<|```|    |\t)")
 
@@ -38,13 +41,25 @@ def joined(text: str) -> str:
     return "\n".join(lines)
 
 
-def texts() -> dict[str, str]:
+def texts(*patterns: str) -> dict[str, str]:
     """The pages, by their names."""
     found = {}
-    for path in sorted(it for some in PAGES for it in glob.glob(f"{ROOT}/{some}")):
+    for path in sorted(it for some in patterns for it in glob.glob(f"{ROOT}/{some}")):
         with open(path, encoding="utf-8") as file:
             found[os.path.relpath(path, ROOT)] = file.read()
     return found
+
+
+def claims_too_long(claims: dict[str, str]) -> list[str]:
+    """The claims that are too long."""
+    counts = {name: len(text.split()) for name, text in claims.items()}
+    return [f"{name}: {count} words, of at most {MOST_OF_CLAIMS}" for name, count in counts.items() if count > MOST_OF_CLAIMS]
+
+
+def summary() -> str:
+    """How many words there are."""
+    read, claims = (sum(len(it.split()) for it in texts(*some).values()) for some in (PAGES, CLAIMS))
+    return f"{read:,} words in the pages that people read, of at most {MOST_OF_ALL:,}; {claims:,} in the claims of all crates"
 
 
 def too_long(pages: dict[str, str]) -> list[str]:
@@ -57,8 +72,8 @@ def too_long(pages: dict[str, str]) -> list[str]:
 
 def faults() -> list[str]:
     """The pages with lines that are broken by hand, and those that are too long."""
-    pages = texts()
-    found = too_long(pages)
+    pages = texts(*PAGES)
+    found = too_long(pages) + claims_too_long(texts(*CLAIMS))
     for name, text in pages.items():
         if count := len(text.split("\n")) - len(joined(text).split("\n")):
             found.append(f"{name}: {count} lines are broken by hand; a paragraph is one line")

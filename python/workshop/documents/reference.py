@@ -1,4 +1,4 @@
-"""docs/reference.md: each public name of the package, with its parts, made of their docstrings, which have examples.
+"""docs/measured/reference.md: each public name of the package, with its parts, made of their docstrings, which have examples.
 
 The tests in python/tests/test_reference.py run every example. `./check docs` compares the page with what is made.
 """
@@ -7,15 +7,15 @@ from __future__ import annotations
 
 import doctest
 import inspect
-import os
 import re
 from collections.abc import Iterator
 from typing import Any
 
 import dorydate
-from workshop.parts import ROOT, text_of
+from workshop.documents import pages
+from workshop.parts import ROOT
 
-PAGE = f"{ROOT}/docs/reference.md"
+PAGE = f"{ROOT}/docs/measured/reference.md"
 BEGINNING = """two = Network.joined("UCLA-SRI", raw=True)  # its hosts have no programs
 net = Replay(two)
 net.calm(2)  # each IMP knows the way to the other
@@ -92,16 +92,13 @@ def made() -> str:
         parts += [
             documented(f"### `{spelled(name, part, it)}`", it.__doc__ or "") for part, it in members(kind).items()
         ]
-    return "\n".join(parts)
+    return re.sub(r"\]\((?=[\w-]+\.md)", "](../", "\n".join(parts))
 
 
 def write() -> None:
-    text = made()
-    with open(PAGE, "w", encoding="utf-8") as file:
-        file.write(text)
+    pages.put(PAGE, made())
 
 
 def faults() -> list[str]:
     """Whether the page is as it is made."""
-    is_made = os.path.exists(PAGE) and text_of(PAGE) == made()
-    return [] if is_made else ["docs/reference.md: not as it is made (./check docs --write)"]
+    return pages.unlike(PAGE, made())

@@ -1,7 +1,7 @@
 """The index of rules (`./check docs --rule`): from definitions that contracts cite to functions, rows and planted bugs.
 
 Read from the sources: definitions of specs/ with the comment above them, the clauses `ensures` of functions in src/ and the
-fields of those that are records of specs/Laws, the tables of rows in CLAIMS.md, and the edits of wrong-bodies/ by
+fields of those that are records of specs/Laws, the rows of docs/measured/guarded.json, and the edits of wrong-bodies/ by
 the function that they change. `./check docs --rule WORD..` prints the rules that have these words, each with its definition and its functions; of a definition that no contract cites, the functions whose contracts
 cite one that uses it, by the shortest way. Without a word it prints an index of all, with links as a page of docs/measured.
 """
@@ -10,6 +10,7 @@ from __future__ import annotations
 
 import functools
 import glob
+import json
 import os
 import re
 from collections.abc import Iterable
@@ -227,18 +228,17 @@ def stored() -> dict[str, Place]:
     return tables | {name: Place(*place) for name, place in row_names().items()}
 
 
-def rows(crate: str) -> dict[str, str]:
-    """The rows that a crate's claims name for its definitions, those that are stored as links."""
-    path = f"{ROOT}/crates/{crate}/CLAIMS.md"
-    found: dict[str, str] = {}
-    if os.path.exists(path):
-        last = ""
-        for names, cell in re.findall(r"^\| (`[^|]*) \| ([^|]*) \|", read(path), re.MULTILINE):
-            cell = cell.replace("the same", last, 1) if last and cell.startswith("the same") else cell
-            last = row[0] if (row := re.search(r"`\w+`", cell)) else last
-            for name in re.findall(r"`([\w'-]+)`", names):
-                found.setdefault(name, re.sub(r"`(\w+)`", lambda it: stored()[it[1]].link(it[1]) if it[1] in stored() else it[0], cell.strip()))
+@functools.cache
+def guarded() -> dict[str, dict[str, list[str]]]:
+    """For each crate its definitions with the rows that fail if one is read otherwise (docs/measured/guarded.json)."""
+    found: dict[str, dict[str, list[str]]] = json.loads(read(f"{ROOT}/docs/measured/guarded.json"))
     return found
+
+
+def rows(crate: str) -> dict[str, str]:
+    """The rows of a crate's definitions, those that are stored as links."""
+    linked = {it: place.link(it) for it, place in stored().items()}
+    return {name: ", ".join(linked.get(it, f"`{it}`") for it in them) for name, them in guarded().get(crate, {}).items()}
 
 
 def rules(crate: str) -> list[Rule]:

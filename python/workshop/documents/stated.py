@@ -22,6 +22,7 @@ from dataclasses import dataclass
 from workshop.documents import dead
 from workshop.documents.dead import Source
 from workshop.parts import ROOT, text_of
+from workshop.words import Words
 
 KEPT = f"{ROOT}/docs/measured/stated.json"
 TOKEN = re.compile(r"[^\s(){}\[\];,]+|[(){}\[\];,]")
@@ -230,6 +231,7 @@ def lower() -> None:
 
 
 def main() -> int:
+    Words(__doc__).asked()
     std = of_std()
     groups = [(said, them) for said, them in of_house().items() if len(them) > 1 or said in std]
     for said, them in sorted(groups, key=lambda it: -len(it[1])):

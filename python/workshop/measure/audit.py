@@ -24,7 +24,6 @@ from __future__ import annotations
 import argparse
 import os
 import subprocess
-import sys
 import tempfile
 from collections.abc import Callable, Iterator
 from functools import partial
@@ -36,6 +35,7 @@ from dorydate.model.crossings import Answered, Crossing, Passed
 from dorydate.model.log import Book, spelled_log
 from dorydate.model.names import Flow, HostName
 from workshop.parts import proved_program
+from workshop.words import Words
 
 OCTETS = 33_000_000
 DATA = "01000001" * 2
@@ -273,12 +273,12 @@ def measure(program: str, folder: str, words: argparse.Namespace, name: str, mak
 
 
 def main() -> None:
-    words = argparse.ArgumentParser(prog="measure audit")
+    words = Words(__doc__)
     words.add_argument("--program", default="")
     words.add_argument("--octets", type=int, default=OCTETS)
     words.add_argument("--only", default="")
     words.add_argument("rounds", nargs="?", type=int, default=1)
-    asked = words.parse_intermixed_args(sys.argv[1:])
+    asked = words.asked()
     program = asked.program or proved_program()
     print("| Log | Octets | Crossings | Lives | Time | Times | Most memory | Said |\n|---|---|---|---|---|---|---|---|")
     with tempfile.TemporaryDirectory() as folder:

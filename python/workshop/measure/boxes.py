@@ -30,6 +30,7 @@ import tempfile
 
 from workshop.measure import processor_time, written
 from workshop.parts import ROOT, proved_program
+from workshop.words import Words
 
 TOPOLOGY = 'carrier = "plain"\nraw = true\n' + "".join(f"[[imp]]\nid={imp}\nhosts=4\n" for imp in range(1, 10)) + "%\n"
 # A host that sends nothing and is sent nothing, and the others.
@@ -88,11 +89,9 @@ def filled(name: str, count: int) -> str:
 
 
 def words_of() -> argparse.Namespace:
-    words = argparse.ArgumentParser(prog="measure boxes")
-    words.add_argument("--program")
-    words.add_argument("other")
-    words.add_argument("rounds", nargs="?", type=int, default=11)
-    return words.parse_args()
+    words = Words(__doc__).option("program", "the program that is measured; else the proved one")
+    words.add_argument("other", metavar="OTHER", help="a program, or a clone that has built one")
+    return words.count("rounds", 11, "how often each is run").asked()
 
 
 def main() -> None:

@@ -22,6 +22,7 @@ from collections.abc import Callable, Mapping
 from dataclasses import dataclass
 
 from workshop.parts import ROOT, text_of
+from workshop.words import Words
 
 PAGE = f"{ROOT}/docs/measured/gate.md"
 MARKERS = "<!-- gate table: begin -->", "<!-- gate table: end -->"
@@ -164,8 +165,10 @@ def gate(folder: str) -> dict[Work | None, float]:
 
 
 def main() -> None:
-    if sys.argv[1:]:
-        seconds = watch(int(sys.argv[1]), lambda: os.path.exists(f"/proc/{sys.argv[1]}"))
+    words = Words(__doc__)
+    words.add_argument("pid", nargs="?", type=int, metavar="PID", help="of a gate that runs already")
+    if (pid := words.asked().pid) is not None:
+        seconds = watch(pid, lambda: os.path.exists(f"/proc/{pid}"))
     else:
         os.makedirs(f"{ROOT}/out", exist_ok=True)
         with tempfile.TemporaryDirectory(prefix="gate-") as folder:

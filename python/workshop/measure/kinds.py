@@ -18,6 +18,7 @@ from functools import partial
 
 from workshop.measure import best_of_all, build_of, instructions, most_memory, written
 from workshop.measure import boxes, subnet, worlds
+from workshop.words import Words
 
 HEAD = "| Measured | Network | Count | Instructions before | after | Times | Time before | after | Times | Memory before | after | Ten times the count |"
 MAILBOXES = "plain mailboxes"
@@ -75,12 +76,10 @@ def row(words: argparse.Namespace, source: str, is_small: bool) -> tuple[list[st
 
 
 def words_of() -> argparse.Namespace:
-    words = argparse.ArgumentParser(prog="measure kinds")
-    words.add_argument("before")
-    words.add_argument("after")
-    words.add_argument("--only", default="")
-    words.add_argument("rounds", nargs="?", type=int, default=5)
-    return words.parse_intermixed_args()
+    words = Words(__doc__).option("only", "what has these words in its name, and no more")
+    words.add_argument("before", metavar="BEFORE", help="a program")
+    words.add_argument("after", metavar="AFTER", help="another one")
+    return words.count("rounds", 5, "how often each is run").asked()
 
 
 def main() -> None:

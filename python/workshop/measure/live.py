@@ -9,7 +9,6 @@ map of August 1972. Times by the clock are those of this machine with what else 
 
 from __future__ import annotations
 
-import argparse
 import datetime
 import os
 import resource
@@ -28,6 +27,7 @@ from dorydate.network import Host, Imp, Line, Network
 from workshop.checks.live import HOST, compiled, on_the_map
 from workshop.checks.live_sessions import Room, Running, session
 from workshop.parts import ROOT, proved_program, text_of
+from workshop.words import Words
 
 PAGE = f"{ROOT}/docs/measured/live.md"
 CHAINS = (2, 3, 20, 63)  # IMPs
@@ -120,7 +120,7 @@ def growth(room: Room) -> Iterator[str]:
 
 
 def main() -> int:
-    parser = argparse.ArgumentParser(prog="measure live", add_help=False)
+    parser = Words(__doc__)
     parser.add_argument("--write", action="store_true")
     writes = parser.parse_args().write
     program = os.environ.get("DORYDATE_PROGRAM") or proved_program()

@@ -10,7 +10,6 @@ from __future__ import annotations
 import os
 import resource
 import subprocess
-import sys
 import tempfile
 import time
 from collections.abc import Callable, Iterator
@@ -26,6 +25,7 @@ from dorydate.program import Program
 from workshop.checks.campaigns import spent as spent_by
 from workshop.checks.shortest import BESIDE, CLAIMS, asked
 from workshop.parts import ROOT, any_program
+from workshop.words import Words
 
 PAGE = f"{ROOT}/docs/measured/search.md"
 DEEPEST = 40
@@ -110,8 +110,10 @@ def page(rows: list[str], names: list[str], seconds: float, path: str) -> str:
 
 
 def main() -> int:
-    words = [it for it in sys.argv[1:] if it != "--write"]
-    seconds = float(words[0]) if words else 60.0
+    words = Words(__doc__).flag("write", "write the page")
+    words.add_argument("seconds", nargs="?", type=float, default=60.0, metavar="SECONDS", help="for each search")
+    asked = words.asked()
+    seconds = asked.seconds
     path = os.environ.get("DORYDATE_PROGRAM") or any_program()
     if path is None:
         print("measure search: there is no program of these sources: ./build makes it")
@@ -126,6 +128,6 @@ def main() -> int:
     for row in of_names(finder):
         names.append(row)
         print(row, flush=True)
-    if "--write" in sys.argv:
+    if asked.write:
         Path(PAGE).write_text(page(rows, names, seconds, path), encoding="utf-8")
     return 0

@@ -13,6 +13,7 @@ import subprocess
 import sys
 
 from workshop.parts import ROOT, any_program
+from workshop.words import Words
 
 
 def taken(words: list[str], given: str) -> float:
@@ -25,7 +26,7 @@ def taken(words: list[str], given: str) -> float:
 
 
 def main() -> None:
-    rounds = int(sys.argv[1]) if sys.argv[1:] else 50
+    rounds = Words(__doc__).count("rounds", 50, "how often each is run").asked().rounds
     program, given = any_program(), f"{ROOT}/examples/first-message"
     if not program:
         sys.exit("measure start: there is no program of these sources")

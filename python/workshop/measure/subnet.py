@@ -39,6 +39,7 @@ from dorydate.model.packets import MOST_IMPS
 from dorydate.model.subnet import Subnet
 from workshop.measure import best_of_all, instructions, most_memory, processor_time, written
 from workshop.parts import proved_program
+from workshop.words import Words
 
 HOPS = 14
 Script = tuple[str, list[str]]  # a topology, and the lines of a script
@@ -158,13 +159,8 @@ def alone(program: str, source: str, rounds: int) -> tuple[float, float]:
 
 
 def words_of() -> argparse.Namespace:
-    words = argparse.ArgumentParser(prog="measure subnet")
-    words.add_argument("--program")
-    words.add_argument("--beside")
-    words.add_argument("--instructions", action="store_true")
-    words.add_argument("--only", default="")
-    words.add_argument("rounds", nargs="?", type=int, default=11)
-    return words.parse_args()
+    words = Words(__doc__).option("program", "the program that is measured; else the proved one").option("beside", "another program, run in turn").option("only", "what has these words in its name, and no more")
+    return words.flag("instructions", "counts instructions by callgrind").count("rounds", 11, "how often each is run").asked()
 
 
 @dataclass(frozen=True)

@@ -28,6 +28,7 @@ from collections.abc import Sequence
 from workshop.builds.drivers import crates_below
 from workshop.measure import MOST_OCTETS, most_memory, processor_time, written
 from workshop.parts import ROOT, proved_program
+from workshop.words import Words
 
 TEXT_BITS = 8063
 TOPOLOGY = 'carrier = "plain"\nraw = true\n[[imp]]\nid = 1\nhosts = 1\n[[imp]]\nid = 2\nhosts = 1\n%\n'
@@ -105,10 +106,10 @@ def measure_calls(programs: Sequence[str], rounds: int) -> None:
 
 
 def main() -> None:
-    if not 2 <= len(sys.argv) <= 3:
-        sys.exit("measure texts: the path of a clone at another commit is wanted, and how many rounds")
-    roots = [os.path.realpath(sys.argv[1]), ROOT]
-    rounds = int(sys.argv[2]) if len(sys.argv) == 3 else 21
+    words = Words(__doc__)
+    words.add_argument("other", metavar="OTHER", help="a clone at another commit")
+    asked = words.count("rounds", 21, "how often each is run").asked()
+    roots, rounds = [os.path.realpath(asked.other), ROOT], asked.rounds
     programs = [proved_program(root) for root in roots]
     with tempfile.TemporaryDirectory() as folder:
         print("| Measured | Before | After | Times |\n|---|---|---|---|")

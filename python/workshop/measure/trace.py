@@ -19,6 +19,7 @@ import tempfile
 from workshop.measure import MOST_OCTETS, processor_time, written
 from workshop.measure.worlds import CARRIERS, opened, ready
 from workshop.parts import ROOT, proved_program
+from workshop.words import Words
 
 TOPOLOGY = 'carrier = "plain"\nraw = true\n[[imp]]\nid = 1\nhosts = 1\n[[imp]]\nid = 2\nhosts = 1\n%\n'
 SINGLE = ["out 0/1 0/2 5 24 414243", "take 0/2", "take 0/1", "take 0/2"]
@@ -60,10 +61,7 @@ def printed(program: str, source: str, *options: str) -> bytes:
 
 
 def words_of() -> argparse.Namespace:
-    words = argparse.ArgumentParser(prog="measure trace")
-    words.add_argument("--program")
-    words.add_argument("rounds", nargs="?", type=int, default=21)
-    return words.parse_args()
+    return Words(__doc__).option("program", "the program that is measured; else the proved one").count("rounds", 21, "how often each is run").asked()
 
 
 def main() -> None:

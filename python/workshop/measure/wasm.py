@@ -20,6 +20,7 @@ from collections.abc import Iterator, Sequence
 from workshop.measure import best_of_all, written
 from workshop.measure.kinds import kinds
 from workshop.parts import ROOT, any_program
+from workshop.words import Words
 
 LONG = 0.010  # seconds of the native program from which on a ratio is printed by itself
 
@@ -45,7 +46,7 @@ def told(name: str, times: Sequence[float], native: Sequence[float]) -> None:
 
 
 def main() -> None:
-    rounds = int(sys.argv[1]) if sys.argv[1:] else 3
+    rounds = Words(__doc__).count("rounds", 3, "how often each is run").asked().rounds
     program = any_program()
     if not program or not os.path.exists(f"{program}.wasm"):
         sys.exit("measure wasm: ./build --wasm makes the modules first")

@@ -45,6 +45,7 @@ from collections.abc import Callable, Sequence
 
 from workshop.measure import best_of_all, most_memory, processor_time, written
 from workshop.parts import proved_program
+from workshop.words import Words
 
 CHANCE = random.Random(1822)
 CONNECTIONS = 40
@@ -314,12 +315,7 @@ def measure(words: argparse.Namespace, folder: str, name: str, make: Make, carri
 
 
 def words_of() -> argparse.Namespace:
-    words = argparse.ArgumentParser(prog="measure worlds")
-    words.add_argument("--program")
-    words.add_argument("--beside")
-    words.add_argument("--only", default="")
-    words.add_argument("rounds", nargs="?", type=int, default=11)
-    return words.parse_args()
+    return Words(__doc__).option("program", "the program that is measured; else the proved one").option("beside", "another program, run in turn").option("only", "what has these words in its name, and no more").count("rounds", 11, "how often each is run").asked()
 
 
 def main() -> None:

@@ -19,25 +19,9 @@ from dorydate.definitions.files import Clause, Structure
 from dorydate.definitions.library import WORDS, Declared, Defined, Form, Library, Meaning, Typed, Word
 from dorydate.definitions.promise import Judge
 from dorydate.definitions.reach import Reach
-from dorydate.definitions.terms import (
-    Apply,
-    Binder,
-    Both,
-    Changed,
-    Field,
-    ForAll,
-    Function,
-    If,
-    Implicit,
-    Let,
-    Name,
-    Number,
-    Operation,
-    Record,
-    Term,
-    Tuple,
-    Universe,
-    Unknown,
+from dorydate.definitions.terms import (  # fmt: skip
+    Apply, Binder, Both, Changed, Field, ForAll, Function, If, Implicit, Let, Name, Number, Operation, Record, Term,
+    Tuple, Universe, Unknown,
 )
 from workshop.parts import ROOT, text_of
 

@@ -14,20 +14,8 @@ from dorydate.definitions.files import Definition, Structure
 from dorydate.definitions.library import WORDS, Defined, Library, Typed
 from dorydate.definitions.promise import BOOK, Judge
 from dorydate.definitions.reach import Reach, meanings_in, terms_of
-from dorydate.definitions.terms import (
-    Both,
-    Case,
-    Field,
-    ForAll,
-    Function,
-    If,
-    Implicit,
-    Let,
-    Name,
-    Number,
-    Operation,
-    Term,
-    inside,
+from dorydate.definitions.terms import (  # fmt: skip
+    Both, Case, Field, ForAll, Function, If, Implicit, Let, Name, Number, Operation, Term, inside,
 )
 from workshop.second.agda import BUILT_IN
 from workshop.second.rows import All, Row, computed

@@ -14,29 +14,9 @@ from dorydate.definitions.clauses import clauses_of, uses_of
 from dorydate.definitions.files import Clause, Definition, Structure
 from dorydate.definitions.library import WORDS, Defined, Form, Library, Meaning, Module, Typed
 from dorydate.definitions.reading import term_of
-from dorydate.definitions.terms import (
-    Apply,
-    Both,
-    Case,
-    Changed,
-    Field,
-    ForAll,
-    Function,
-    Let,
-    Match,
-    Name,
-    Number,
-    Operation,
-    Record,
-    Section,
-    Term,
-    Tuple,
-    Universe,
-    Unknown,
-    arity,
-    head_of,
-    result_of,
-    taken_types,
+from dorydate.definitions.terms import (  # fmt: skip
+    Apply, Both, Case, Changed, Field, ForAll, Function, Let, Match, Name, Number, Operation, Record, Section, Term,
+    Tuple, Universe, Unknown, arity, head_of, result_of, taken_types,
 )
 from workshop.parts import ROOT, text_of
 from workshop.second.agda import NotWritten, Writer, mangled, variable

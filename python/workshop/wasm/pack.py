@@ -25,6 +25,7 @@ import sys
 from dataclasses import dataclass, field
 
 from workshop.parts import ROOT
+from workshop.words import Words
 
 IMPORT = re.compile(r"^import\s+(?:\{([^}]*)\}|\*\s+as\s+(\w+))\s+from\s+\"(\.{1,2}/[^\"]+)\";[ ]*$", re.MULTILINE)
 EXPORT = re.compile(r"^export\s+((?:async\s+)?function\s*\*?\s*(\w+)|class\s+(\w+)|const\s+(\w+))", re.MULTILINE)
@@ -231,12 +232,15 @@ def page(folder: str, module: bytes) -> str:
 
 
 def main() -> int:
-    if len(sys.argv) != 4:
-        sys.exit("usage: python3 python pack FOLDER MODULE FILE")
-    folder, module, to = sys.argv[1:]
+    words = Words(__doc__)
+    words.add_argument("folder", metavar="FOLDER", help="of the page and its scripts")
+    words.add_argument("module", metavar="MODULE", help="the program as WebAssembly")
+    words.add_argument("file", metavar="FILE", help="where the page is written")
+    asked = words.asked()
+    to = asked.file
     try:
-        with open(module, "rb") as file:
-            text = page(os.path.realpath(folder), file.read())
+        with open(asked.module, "rb") as file:
+            text = page(os.path.realpath(asked.folder), file.read())
     except (Refused, OSError) as why:
         print(f"pack: {why}", file=sys.stderr)
         return 1
