@@ -37,7 +37,8 @@ class Help(unittest.TestCase):
         self.assertIn("unrecognized arguments: more", said.getvalue())
 
     def test_what_is_left_out_has_its_value(self) -> None:
-        words = Words("Says something.", "check something").count("runs", 7, "how many").names("name", "of what").flag("write", "writes")
+        words = Words("Says something.", "check something").count("runs", 7, "how many")
+        words.names("name", "of what").flag("write", "writes")
         asked = words.parse_intermixed_args(["3", "--write", "one", "two"])
         self.assertEqual((asked.runs, asked.name, asked.write), (3, ["one", "two"], True))
         asked = words.parse_intermixed_args([])
@@ -46,7 +47,7 @@ class Help(unittest.TestCase):
 
 class Suite(unittest.TestCase):
     def ran(self, *statuses: int | str) -> tuple[int, str]:
-        """The status of a suite of checks that end so, and what it says: a number is a status, and a text is why it ends."""
+        """The status of a suite of checks that end so, by a status or by why, and what it says."""
         ends = iter(statuses)
 
         def ending(*_: object) -> int:

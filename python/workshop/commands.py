@@ -8,7 +8,8 @@ import sys
 from workshop.parts import ROOT, list_all, run, text_of
 from workshop.report import run_all
 
-CHECK = """Lists the checks: ./check. Runs those of the gate: ./check all. Runs some, with one report: ./check these NAME.. Runs one: ./check NAME [ARGUMENTS]. Says what one does: ./check NAME --help.
+CHECK = """Lists the checks: ./check. Runs those of the gate: ./check all. Runs some, with one report: ./check these NAME..
+Runs one: ./check NAME [ARGUMENTS]. Says what one does: ./check NAME --help.
 
 Each is a module of workshop.checks. The first line of its text says what it checks and how long that takes.
 """

@@ -35,7 +35,8 @@ class Words(argparse.ArgumentParser):
 
     def option(self, name: str, what: str) -> Words:
         """Takes `--NAME` and a word; "" where it is left out."""
-        self.add_argument(f"--{name}", default="", metavar="FILE" if name in ("program", "beside") else "WORDS", help=what)
+        metavar = "FILE" if name in ("program", "beside") else "WORDS"
+        self.add_argument(f"--{name}", default="", metavar=metavar, help=what)
         return self
 
     def flag(self, name: str, what: str) -> Words:

@@ -265,7 +265,8 @@ FATES: list[type[Fates]] = [
     BelievesOpen, NeverReset, OneEnd, NoStops, PeersStop, OwnRstOnly, PeersRstOnly, RrpTaken,
     AnyRrp, NoRrp, Owing, NoFailures, AnyFailure, OneCls, AnyCls, EndedFirst,
     ResetLast, SecondFirst, AnyBegin, EarlyBegin, EachByItself, WithAnyPeer, OfBothHosts, OverToo,
-    OfThoseThatContinue, StopsReset, ClsResets, DropsAreContacts, AnyStretch, NoStopBetween, NoResetBetween, NotTogether,
+    OfThoseThatContinue, StopsReset, ClsResets, DropsAreContacts, AnyStretch, NoStopBetween, NoResetBetween,
+    NotTogether,
     OnlyTogether,
 ]  # fmt: skip
 JUDGES: list[type[Judge]] = [NoFates, CountsOn, *map(by, FATES)]

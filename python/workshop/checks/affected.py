@@ -116,7 +116,8 @@ def lines_of(revision: str) -> Iterator[str]:
 
 
 def main() -> int:
-    before = Words(__doc__).one("revision", None, "what the change is to; the commit that main has, if it is left out").asked().revision
+    words = Words(__doc__).one("revision", None, "what the change is to; else the commit that main has")
+    before = words.asked().revision
     if before is not None and not git("rev-parse", "--verify", "-q", before):
         print(f"check affected: there is no revision {before}", file=sys.stderr)
         return 1

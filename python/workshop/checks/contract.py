@@ -145,8 +145,10 @@ def power(many: int) -> int:
 
 
 def main() -> int:
-    words = Words(__doc__).count("worlds", WORLDS, "random worlds of each kind").count("first", 0, "the number of the first of them")
-    words.add_argument("--power", nargs="?", type=int, const=POWER, metavar="SCRIPTS", help="say which rules random scripts show, and no more")
+    words = Words(__doc__).count("worlds", WORLDS, "random worlds of each kind")
+    words.count("first", 0, "the number of the first of them")
+    power_of = "say which rules random scripts show, and no more"
+    words.add_argument("--power", nargs="?", type=int, const=POWER, metavar="SCRIPTS", help=power_of)
     asked = words.asked()
     if asked.power is not None:
         return power(asked.power)

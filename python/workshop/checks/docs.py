@@ -3,12 +3,13 @@
 Checks what the documents name: each link leads to a file, each source that is named by its path exists, and each name
 that the claims about a crate have is in the code.
 
-crates/NAME/CLAIMS.md is about the crate in whose folder it lies, in at most 300 words (workshop.documents.paragraphs). What it says
-before its heading `How it was attacked` is what is proved or not. Each name there between backquotes, or its last part if it is a
-path, has to be declared in src/ or specs/ of that crate, or of one that it is built on: as a function, a type, a variant, a
-constant, a clause or a definition. `law::NAME` has to be a function of that crate's module law, and the name of a file a file of the
-crate or of the repository. Below that heading each name has to be one of these, a row (a function of that crate or of one above it, a
-stored call, a stored input of cases/), or a planted bug of the crate. So it is with the definitions and rows of docs/measured/guarded.json.
+crates/NAME/CLAIMS.md is about the crate in whose folder it lies, in at most 300 words (workshop.documents.paragraphs).
+What it says before its heading `How it was attacked` is what is proved or not. Each name there between backquotes, or its
+last part if it is a path, has to be declared in src/ or specs/ of that crate, or of one that it is built on: as a
+function, a type, a variant, a constant, a clause or a definition. `law::NAME` has to be a function of that crate's module
+law, and the name of a file a file of the crate or of the repository. Below that heading each name has to be one of these,
+a row (a function of that crate or of one above it, a stored call, a stored input of cases/), or a planted bug of the
+crate. So it is with the definitions and rows of docs/measured/guarded.json.
 
 docs/PROVED.md names each clause after the path of its call, `CRATE::..::CALL`, and docs/measured/crates.md leads to the claims of each crate.
 crates.txt names for each crate only others that its sources name. The version of the program is that of the package, the citation and the change log.
@@ -48,6 +49,8 @@ from workshop.parts import ROOT
 from workshop.rows import row_names
 from workshop.words import Words
 
+# the pages whose links and sources are looked for
+LINKING = ("*.md", "docs/*.md", "docs/measured/*.md", "crates/*/CLAIMS.md", "crates/*/WHY.md")
 MOST_REACHING = 0  # imports into another crate's proofs/ beside lemmas
 MOST_DEAD = 50  # declarations of proofs/ that nothing leads to that is proved; `python3 python dead` names them
 MOST_ENTRIES = 40  # of a folder of proofs/
@@ -68,8 +71,7 @@ def text_of(path: str) -> str:
 
 def missing_files() -> Iterator[str]:
     """Links of the documents that lead to no file, and sources that are named and do not exist."""
-    pages = [f"{ROOT}/README.md", f"{ROOT}/CONTRIBUTING.md", f"{ROOT}/CHANGELOG.md", f"{ROOT}/docs/*.md", f"{ROOT}/docs/measured/*.md", f"{ROOT}/crates/*/CLAIMS.md", f"{ROOT}/crates/*/WHY.md"]
-    for page in sorted(it for some in pages for it in glob.glob(some)):
+    for page in sorted(it for some in LINKING for it in glob.glob(f"{ROOT}/{some}")):
         for link in re.findall(r"\]\(([^)#]+)[^)]*\)", text_of(page)):
             if "://" not in link and not os.path.exists(os.path.join(os.path.dirname(page), link)):
                 yield f"{os.path.relpath(page, ROOT)}: no file {link}"
@@ -291,7 +293,8 @@ def main() -> int:
         stated.lower()
     if options.write or options.lower:
         return write() if options.write else 0
-    wrong = [*missing_files(), *strayed(), *missing_claims(), *unknown_names(), *unknown_rows(), *unknown_clauses(), *made(), *over_limits()]
+    wrong = [*missing_files(), *strayed(), *missing_claims(), *unknown_names(), *unknown_rows(), *unknown_clauses()]
+    wrong += [*made(), *over_limits()]
     print(*wrong, sep="\n", end="\n" if wrong else "")
     print(f"check docs: {len(wrong)} wrong" if wrong else "check docs: each link, source, name and number is there, and each count within its limit")
     return 1 if wrong else 0

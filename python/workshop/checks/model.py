@@ -164,7 +164,8 @@ def compare(program: Program, inputs: Sequence[Given], runs: Sequence[str]) -> C
 
 def main() -> int:
     words = Words(__doc__)
-    words.add_argument("--try", nargs="?", const=ROOT, dest="clone", metavar="CLONE", help="the program that `rt try` builds, of this clone or another")
+    tried = "the program that `rt try` builds, of this clone or another"
+    words.add_argument("--try", nargs="?", const=ROOT, dest="clone", metavar="CLONE", help=tried)
     words.add_argument("what", nargs="?", choices=["asking"], help="only networks whose IMPs ask")
     asked = words.count("runs", 10_000, "how many of these").asked()
     is_tried = asked.clone is not None

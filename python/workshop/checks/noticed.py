@@ -183,7 +183,8 @@ def chosen(edits: dict[int, Edit], words: Sequence[str]) -> Iterator[tuple[str, 
 
 def main() -> int:
     words = Words(__doc__).names("edit", "a crate, or one bug of it as CRATE/NAME; all, if none is named")
-    asked = words.flag("rows", "run tools/calls on cases/calls").flag("limits", "run the inputs of ./check limits").asked()
+    words.flag("rows", "run tools/calls on cases/calls").flag("limits", "run the inputs of ./check limits")
+    asked = words.asked()
     edits = numbered()
     try:
         program, has = made(CALLS if asked.rows else PROGRAM, edits)

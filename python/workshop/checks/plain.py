@@ -51,7 +51,8 @@ def beside(program: str, other: str, paths: Sequence[str]) -> Iterator[tuple[str
 
 def main() -> int:
     words = Words(__doc__)
-    words.add_argument("--beside", nargs="+", metavar=("FILE", "INPUT"), help="also beside this program, on further inputs")
+    beside_it = "also beside this program, on further inputs"
+    words.add_argument("--beside", nargs="+", metavar=("FILE", "INPUT"), help=beside_it)
     other = words.asked().beside
     program = fast.finder()
     told = [*stored(program)]

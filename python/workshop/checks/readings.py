@@ -63,7 +63,7 @@ def told(check: str, said: str | None, agreed: str, seen: Mapping[str, int], is_
     """Says what random calls came to, and gives the status: 1 where some differ, or stored rows did."""
     if said is not None:
         print(said)
-        print(f"check {check}: a run came to something else than the rules say (the runs are made again by their number)")
+        print(f"check {check}: a run came to something else than the rules say (a run is made again by its number)")
         return 1
     print(f"check {check}: {agreed}")
     for name, count in sorted(seen.items()):

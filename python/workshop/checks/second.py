@@ -78,7 +78,8 @@ def main() -> int:
     words = Words(__doc__).count("logs", LOGS, "how many logs are judged")
     what = words.add_mutually_exclusive_group()
     what.add_argument("--laws", action="store_true", help="have Agda check the laws of streams and of resets")
-    what.add_argument("--mutants", action="store_true", help="change each definition of the promise in one word, and say which changes no row notices")
+    changed = "change each definition of the promise in one word, and say which changes no row notices"
+    what.add_argument("--mutants", action="store_true", help=changed)
     asked = words.asked()
     if asked.laws:
         wrong = laws.faults()

@@ -119,7 +119,8 @@ def faults_of_resting(program: str) -> list[str]:
 
 
 def main() -> int:
-    program = Words(__doc__).one("program", None, "the program; that of the present sources, if it is left out").asked().program or any_program()
+    words = Words(__doc__).one("program", None, "the program; else that of the present sources")
+    program = words.asked().program or any_program()
     if program is None:
         print("check seen: there is no program of these sources")
         return 1

@@ -84,13 +84,15 @@ def check(program: str, before: str, room: str, name: str, threads: ThreadPoolEx
 
 
 def main() -> int:
-    names = Words(__doc__).names("input", f"an example; these, if none is named: {', '.join(INPUTS)}").asked().input or INPUTS
+    words = Words(__doc__).names("input", f"an example; these, if none is named: {', '.join(INPUTS)}")
+    names = words.asked().input or INPUTS
     compiler = shutil.which("cc") or shutil.which("clang")
     if not compiler:
         lacking("steps", "all of it", "a C compiler")
         return 1 if os.environ.get("CI") else 0
     if not os.path.exists(kept_at()):
-        keep(kept_at, lambda room: build(with_crate(f"{room}/sources", "steps", USES, {f"{ROOT}/tools/steps.rs": "main.rt"}), EXAMPLE, WANTED, room))
+        source = {f"{ROOT}/tools/steps.rs": "main.rt"}
+        keep(kept_at, lambda room: build(with_crate(f"{room}/sources", "steps", USES, source), EXAMPLE, WANTED, room))
     with tempfile.TemporaryDirectory() as room, ThreadPoolExecutor(CORES) as threads:
         before = f"{room}/failing.so"
         subprocess.run([compiler, "-O1", "-shared", "-fPIC", "-o", before, f"{ROOT}/tools/failing.c", "-ldl"], check=True)

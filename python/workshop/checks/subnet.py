@@ -56,7 +56,8 @@ def with_runs(folder: str, runs: int, is_largest: bool) -> Counter[str]:
 def main() -> int:
     """The exit status."""
     words = Words(__doc__)
-    words.add_argument("words", nargs="*", metavar="[largest] [RUNS]", help=f"networks of the greatest size; how many runs ({RUNS}, or {LARGEST_RUNS})")
+    counted = f"networks of the greatest size; how many runs ({RUNS}, or {LARGEST_RUNS})"
+    words.add_argument("words", nargs="*", metavar="[largest] [RUNS]", help=counted)
     asked = words.asked().words
     is_largest = asked[:1] == ["largest"]
     if len(counts := asked[is_largest:]) > 1 or not all(it.isdecimal() for it in counts):

@@ -1,5 +1,5 @@
-"""Pages have one paragraph a line: no line is broken by hand. README has at most 900 words, each crate's claims have at most 300, and
-all pages that people read together MOST_OF_ALL.
+"""Pages have one paragraph a line: no line is broken by hand. README has at most 900 words, each crate's claims have at
+most 300, and all pages that people read together MOST_OF_ALL.
 
 The pages of docs/measured are made by programs, and aren't counted.
 """
@@ -53,13 +53,14 @@ def texts(*patterns: str) -> dict[str, str]:
 def claims_too_long(claims: dict[str, str]) -> list[str]:
     """The claims that are too long."""
     counts = {name: len(text.split()) for name, text in claims.items()}
-    return [f"{name}: {count} words, of at most {MOST_OF_CLAIMS}" for name, count in counts.items() if count > MOST_OF_CLAIMS]
+    most = MOST_OF_CLAIMS
+    return [f"{name}: {count} words, of at most {most}" for name, count in counts.items() if count > most]
 
 
 def summary() -> str:
     """How many words there are."""
     read, claims = (sum(len(it.split()) for it in texts(*some).values()) for some in (PAGES, CLAIMS))
-    return f"{read:,} words in the pages that people read, of at most {MOST_OF_ALL:,}; {claims:,} in the claims of all crates"
+    return f"{read:,} words in pages that people read, of at most {MOST_OF_ALL:,}; {claims:,} in claims of crates"
 
 
 def too_long(pages: dict[str, str]) -> list[str]:

@@ -238,7 +238,8 @@ def guarded() -> dict[str, dict[str, list[str]]]:
 def rows(crate: str) -> dict[str, str]:
     """The rows of a crate's definitions, those that are stored as links."""
     linked = {it: place.link(it) for it, place in stored().items()}
-    return {name: ", ".join(linked.get(it, f"`{it}`") for it in them) for name, them in guarded().get(crate, {}).items()}
+    them = guarded().get(crate, {})
+    return {name: ", ".join(linked.get(it, f"`{it}`") for it in its) for name, its in them.items()}
 
 
 def rules(crate: str) -> list[Rule]:

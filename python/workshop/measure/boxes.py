@@ -28,9 +28,8 @@ import subprocess
 import sys
 import tempfile
 
-from workshop.measure import processor_time, written
+from workshop.measure import processor_time, words_with, written
 from workshop.parts import ROOT, proved_program
-from workshop.words import Words
 
 TOPOLOGY = 'carrier = "plain"\nraw = true\n' + "".join(f"[[imp]]\nid={imp}\nhosts=4\n" for imp in range(1, 10)) + "%\n"
 # A host that sends nothing and is sent nothing, and the others.
@@ -89,7 +88,7 @@ def filled(name: str, count: int) -> str:
 
 
 def words_of() -> argparse.Namespace:
-    words = Words(__doc__).option("program", "the program that is measured; else the proved one")
+    words = words_with(__doc__, "program")
     words.add_argument("other", metavar="OTHER", help="a program, or a clone that has built one")
     return words.count("rounds", 11, "how often each is run").asked()
 

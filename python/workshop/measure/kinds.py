@@ -16,9 +16,8 @@ import tempfile
 from collections.abc import Callable, Iterator
 from functools import partial
 
-from workshop.measure import best_of_all, build_of, instructions, most_memory, written
+from workshop.measure import best_of_all, build_of, instructions, most_memory, words_with, written
 from workshop.measure import boxes, subnet, worlds
-from workshop.words import Words
 
 HEAD = "| Measured | Network | Count | Instructions before | after | Times | Time before | after | Times | Memory before | after | Ten times the count |"
 MAILBOXES = "plain mailboxes"
@@ -76,7 +75,7 @@ def row(words: argparse.Namespace, source: str, is_small: bool) -> tuple[list[st
 
 
 def words_of() -> argparse.Namespace:
-    words = Words(__doc__).option("only", "what has these words in its name, and no more")
+    words = words_with(__doc__, "only")
     words.add_argument("before", metavar="BEFORE", help="a program")
     words.add_argument("after", metavar="AFTER", help="another one")
     return words.count("rounds", 5, "how often each is run").asked()

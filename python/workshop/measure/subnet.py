@@ -37,9 +37,8 @@ from dataclasses import dataclass
 from dorydate.model.names import Flow, HostName
 from dorydate.model.packets import MOST_IMPS
 from dorydate.model.subnet import Subnet
-from workshop.measure import best_of_all, instructions, most_memory, processor_time, written
+from workshop.measure import best_of_all, instructions, most_memory, processor_time, words_with, written
 from workshop.parts import proved_program
-from workshop.words import Words
 
 HOPS = 14
 Script = tuple[str, list[str]]  # a topology, and the lines of a script
@@ -159,8 +158,8 @@ def alone(program: str, source: str, rounds: int) -> tuple[float, float]:
 
 
 def words_of() -> argparse.Namespace:
-    words = Words(__doc__).option("program", "the program that is measured; else the proved one").option("beside", "another program, run in turn").option("only", "what has these words in its name, and no more")
-    return words.flag("instructions", "counts instructions by callgrind").count("rounds", 11, "how often each is run").asked()
+    words = words_with(__doc__, "program", "beside", "only").flag("instructions", "counts instructions by callgrind")
+    return words.count("rounds", 11, "how often each is run").asked()
 
 
 @dataclass(frozen=True)

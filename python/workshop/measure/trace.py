@@ -16,10 +16,9 @@ import argparse
 import subprocess
 import tempfile
 
-from workshop.measure import MOST_OCTETS, processor_time, written
+from workshop.measure import MOST_OCTETS, processor_time, words_with, written
 from workshop.measure.worlds import CARRIERS, opened, ready
 from workshop.parts import ROOT, proved_program
-from workshop.words import Words
 
 TOPOLOGY = 'carrier = "plain"\nraw = true\n[[imp]]\nid = 1\nhosts = 1\n[[imp]]\nid = 2\nhosts = 1\n%\n'
 SINGLE = ["out 0/1 0/2 5 24 414243", "take 0/2", "take 0/1", "take 0/2"]
@@ -61,7 +60,7 @@ def printed(program: str, source: str, *options: str) -> bytes:
 
 
 def words_of() -> argparse.Namespace:
-    return Words(__doc__).option("program", "the program that is measured; else the proved one").count("rounds", 21, "how often each is run").asked()
+    return words_with(__doc__, "program").count("rounds", 21, "how often each is run").asked()
 
 
 def main() -> None:

@@ -43,9 +43,8 @@ import sys
 import tempfile
 from collections.abc import Callable, Sequence
 
-from workshop.measure import best_of_all, most_memory, processor_time, written
+from workshop.measure import best_of_all, most_memory, processor_time, words_with, written
 from workshop.parts import proved_program
-from workshop.words import Words
 
 CHANCE = random.Random(1822)
 CONNECTIONS = 40
@@ -315,7 +314,8 @@ def measure(words: argparse.Namespace, folder: str, name: str, make: Make, carri
 
 
 def words_of() -> argparse.Namespace:
-    return Words(__doc__).option("program", "the program that is measured; else the proved one").option("beside", "another program, run in turn").option("only", "what has these words in its name, and no more").count("rounds", 11, "how often each is run").asked()
+    words = words_with(__doc__, "program", "beside", "only")
+    return words.count("rounds", 11, "how often each is run").asked()
 
 
 def main() -> None:
