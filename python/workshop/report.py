@@ -1,7 +1,7 @@
 """The checks as one suite of `unittest`: each is a test by its words, and one report says how all of them ended.
 
-`./check all` and `./check these NAME..` run a suite. A check fails if its status isn't 0 or if it ends by itself. What checks leave out is
-said at the end, with why (workshop.tools).
+`./check all` and `./check these NAME..` run a suite. A check fails if its status isn't 0 or if it ends by itself. What
+checks leave out is said at the end, with why (workshop.tools).
 """
 
 from __future__ import annotations
@@ -56,7 +56,8 @@ class Told(unittest.TestResult):
     def startTest(self, test: unittest.TestCase) -> None:
         super().startTest(test)
         self.since, self.before = time.monotonic(), self.wrong()
-        print(f"\ncheck: {self.testsRun} of {self.count}, after {in_minutes(self.since - self.begun)}: {test}", flush=True)
+        so_far = in_minutes(self.since - self.begun)
+        print(f"\ncheck: {self.testsRun} of {self.count}, after {so_far}: {test}", flush=True)
         print(f"check: {test.shortDescription()}", flush=True)
 
     def addFailure(self, test: unittest.TestCase, err: Cause) -> None:
@@ -80,7 +81,8 @@ class Told(unittest.TestResult):
         for name, seconds, has_failed in self.ended:
             yield f"{'FAILED' if has_failed else 'passed'}  {name}: {in_minutes(seconds)}"
         whole = in_minutes(time.monotonic() - self.begun)
-        yield f"{self.wrong()} of {self.count} failed, in {whole}" if self.wrong() else f"all {self.count} passed, in {whole}"
+        came = f"{self.wrong()} of {self.count} failed" if self.wrong() else f"all {self.count} passed"
+        yield f"{came}, in {whole}"
 
 
 def in_minutes(seconds: float) -> str:
@@ -89,7 +91,7 @@ def in_minutes(seconds: float) -> str:
 
 @contextmanager
 def what_is_left_out() -> Iterator[str]:
-    """The file in which checks note what they leave out: the gate's, or one of this run, whose lines are said at its end."""
+    """The file in which checks note what they leave out: the gate's, or one of this run."""
     if NOTED in os.environ:
         yield os.environ[NOTED]
         return

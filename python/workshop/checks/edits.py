@@ -248,6 +248,8 @@ def main() -> int:
     if not given.built:
         counts = [check_crate(crate, names, given.whole, jobs) for crate, names in named.items()]
     else:
-        chosen = {it: [edit for edit in edits_of(it) if not names or edit.title in names] for it, names in named.items()}
-        counts = [check_over_built(crate, edits) for crate, edits in chosen.items()]
+        counts = [
+            check_over_built(crate, [it for it in edits_of(crate) if not names or it.title in names])
+            for crate, names in named.items()
+        ]
     return status_of(counts)

@@ -1,4 +1,4 @@
-"""docs/measured/reference.md: each public name of the package, with its parts, made of their docstrings, which have examples.
+"""docs/measured/reference.md: each public name of the package, with its parts, made of their docstrings with examples.
 
 The tests in python/tests/test_reference.py run every example. `./check docs` compares the page with what is made.
 """
