@@ -2,6 +2,7 @@
 
 from __future__ import annotations
 
+import argparse
 import os
 import sys
 from collections.abc import Callable
@@ -43,28 +44,27 @@ def names_of_examples() -> list[str]:
     return sorted(it.name for it in folder.iterdir() if "." not in it.name and it.is_file()) if folder.is_dir() else []
 
 
-def examples(words: list[str]) -> None:
+def examples(words: argparse.ArgumentParser) -> None:
     """Lists the examples, or prints one."""
-    names = names_of_examples()
-    if not words:
+    words.add_argument("name", nargs="?", metavar="NAME", help="the example to be printed")
+    name, names = words.parse_args().name, names_of_examples()
+    if name is None:
         print(*names, sep="\n")
-    elif len(words) == 1 and words[0] in names:
-        sys.stdout.buffer.write((examples_folder() / words[0]).read_bytes())
+    elif name in names:
+        sys.stdout.buffer.write((examples_folder() / name).read_bytes())
     else:
-        raise Refused(f"there is no example {' '.join(words)}; `dorydate examples` lists all")
+        raise Refused(f"there is no example {name}; `dorydate examples` lists all")
 
 
-def page(words: list[str]) -> None:
-    """Writes the workbench."""
-    if words:
-        raise Refused("usage: dorydate page > dorydate.html")
+def page(words: argparse.ArgumentParser) -> None:
+    """Writes the workbench, a page for a browser."""
+    words.parse_args()
     sys.stdout.buffer.write(octets_of(PAGE) if is_released() else (ROOT / "released" / PAGE).read_bytes())
 
 
-def version(words: list[str]) -> None:
+def version(words: argparse.ArgumentParser) -> None:
     """Says which program runs here, and what the release says of it."""
-    if words:
-        raise Refused("usage: dorydate version")
+    words.parse_args()
     program = found()
     print(f"program: {program.path}{' (by Node)' if isinstance(program, ByNode) else ''}")
     said = note() if is_released() else {}
@@ -73,24 +73,23 @@ def version(words: list[str]) -> None:
             print(f"{key}: {said[key]}")
 
 
-def completion(words: list[str]) -> None:
+def completion(words: argparse.ArgumentParser) -> None:
     """Prints what a shell needs to complete the commands."""
     from dorydate import completion as made
 
-    if len(words) != 1 or words[0] not in made.SHELLS:
-        raise Refused("usage: dorydate completion bash | zsh | fish")
+    words.add_argument("shell", choices=made.SHELLS, help="the shell")
+    shell = words.parse_args().shell
     known = made.commands(found().run(b"", "--help").output, [*SHORT], names_of_examples())
-    print(made.script(words[0], known), end="")
+    print(made.script(shell, known), end="")
 
 
-def schema(words: list[str]) -> None:
+def schema(words: argparse.ArgumentParser) -> None:
     """Prints the JSON Schema of a line of a trace."""
-    if words:
-        raise Refused("usage: dorydate schema")
+    words.parse_args()
     print(Path(__file__).with_name("trace.schema.json").read_text(encoding="utf-8"), end="")
 
 
-SHORT: dict[str, Callable[[list[str]], None]] = {
+SHORT: dict[str, Callable[[argparse.ArgumentParser], None]] = {
     "completion": completion,
     "examples": examples,
     "page": page,
@@ -102,7 +101,7 @@ SHORT: dict[str, Callable[[list[str]], None]] = {
 def run_short(name: str) -> int:
     """The status of a command that this module has itself."""
     try:
-        SHORT[name](sys.argv[1:])
+        SHORT[name](argparse.ArgumentParser(f"dorydate {name}", description=SHORT[name].__doc__))
     except (Refused, NoProgram) as why:
         print(f"dorydate: {why}", file=sys.stderr)
         return 1

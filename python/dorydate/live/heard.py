@@ -10,6 +10,7 @@ judged as far as one without deeds can be.
 
 from __future__ import annotations
 
+import argparse
 import socket
 import subprocess
 import sys
@@ -116,7 +117,9 @@ def had(command: Sequence[str], dialogue: Dialogue, port: int = 0, simulator: Pr
 
 def main() -> int:
     """The status: 0 if all is right, else 1."""
-    if not (command := sys.argv[1:]):
+    words = argparse.ArgumentParser("heard", description=(__doc__ or "").split("\n\n")[0])
+    words.add_argument("command", nargs=argparse.REMAINDER, help="the host, with the word PORT where its IMP's port goes")
+    if not (command := words.parse_args().command):
         said = f"which host? It is {MINE}, and the word PORT is that of its IMP: ./host {MINE} PORT echo 1"
         print(f"heard: {said}", file=sys.stderr)
         return 1

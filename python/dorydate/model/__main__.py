@@ -7,6 +7,7 @@ examples have, one key a line.
 
 from __future__ import annotations
 
+import argparse
 import sys
 from collections.abc import Sequence
 from pathlib import Path
@@ -60,10 +61,12 @@ def check_cases(folder: str) -> int:
 
 def main() -> int:
     """The exit status."""
-    words = sys.argv[1:]
-    if words[:1] == ["--cases"]:
-        return max(check_cases(folder) for folder in words[1:])
-    status, output, said = ends(sys.stdin.buffer.read(), words)
+    words = argparse.ArgumentParser("tools/model", description=__doc__, allow_abbrev=False)
+    words.add_argument("--cases", nargs="+", metavar="FOLDER", help="run stored inputs")
+    asked, options = words.parse_known_args()
+    if asked.cases:
+        return max(check_cases(folder) for folder in asked.cases)
+    status, output, said = ends(sys.stdin.buffer.read(), options)
     print(output, end="")
     print(said, end="", file=sys.stderr)
     return status
