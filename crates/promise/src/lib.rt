@@ -4,15 +4,13 @@
 //! Read in this order. No host program, packet, route or buffer occurs in any of it, and nothing else has to be read.
 //! 1. What crosses between hosts and the network: `specs/Mailboxes.antt` of `interface`, and `specs/Messages.antt`
 //!    there, which says what is safe of messages.
-//! 2. What is promised, in eight clauses of `headline::book_of`: `specs/Promised.antt`, a record of five parts;
+//! 2. What is promised, in five clauses of `headline::book_of`: `specs/Promised.antt`, a record of five parts;
 //!    `specs/Fates.antt`, what a life has that its partner's CLS ended, by the lives' [`Fate`]s; `specs/Arrived.antt`,
-//!    what an open life has and RFNM of data means; `specs/Ends.antt`, by what a life is over and that a contact is
-//!    followed by an RST; and of `world_keeps_streams` `specs/Within.antt`, what a life that is over counts, and
-//!    `specs/Sent.antt`, that the k-th message which a receiving life counts is its partner's k-th.
+//!    what an open life has and RFNM of data means; and `specs/Over.antt`, by what a life is over.
 //! 3. What is written down of a world: `specs/Book.antt`, with [`Life`], [`Told`] and [`Called`].
 //! 4. The parts of the first: a safe book (`specs/Safe.antt`), the messages that a life is made of (`specs/Formed.antt`)
 //!    and that a notice reports (`specs/Notices.antt`), and the sockets that an initial connection pairs
-//!    (`specs/Connections.antt`).
+//!    (`specs/Connections.antt`). For the last, how far a life is by what crossed: `specs/Ends.antt`.
 //! 5. How the text of a message is read: `Control` and `Data` of `host_pairs`, `DataHeader`, `Numbers` and `Reading` of
 //!    `ncp_control`, `Octets` of `bit_messages`.
 //!
