@@ -16,7 +16,7 @@ from dataclasses import dataclass
 from pathlib import Path
 from typing import IO
 
-from dorydate.program import SECONDS, NoProgram, Program, Ran, TookTooLong
+from dorydate.program import MOST_PRINTED, SECONDS, NoProgram, PrintedTooMuch, Program, Ran, TookTooLong
 
 PIECE = 1 << 20  # octets of an answer that are read at once
 
@@ -74,11 +74,13 @@ class Served:
         last = time.monotonic() + seconds
         requests, _ = self.pipes()
         try:
-            requests.write(json.dumps({"words": [*options], "octets": len(octets)}).encode() + b"\n" + octets)
+            requests.write(json.dumps({"words": [*options], "octets": len(octets), "most": MOST_PRINTED}).encode() + b"\n" + octets)
             requests.flush()
         except BrokenPipeError:
             raise self.ended() from None
         told = json.loads(self.line(last))
+        if told["status"] < 0:
+            raise PrintedTooMuch
         output, said = self.octets(told["stdout"], last), self.octets(told["stderr"], last)
         return Ran(told["status"], output.decode("latin-1"), said.decode("latin-1"))
 

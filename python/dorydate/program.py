@@ -6,12 +6,15 @@ import os
 import select
 import signal
 import subprocess
+import time
 from collections.abc import Sequence
 from dataclasses import dataclass
 
 SECONDS = 60.0  # so long may a run take where nothing else is said
 UNLIMITED = 1e7  # seconds, which no run takes
 MOST_OCTETS = 268_435_456  # of an input
+MOST_PRINTED = 268_435_456  # octets that a run prints
+LOOKED = 0.25  # seconds between two looks at how much a run has printed
 
 
 class NoProgram(Exception):
@@ -26,6 +29,13 @@ class NoProgram(Exception):
 
 class TookTooLong(Exception):
     """A run was stopped at its limit of time."""
+
+
+class PrintedTooMuch(TookTooLong):
+    """A run was stopped at its limit of octets."""
+
+    def __init__(self) -> None:
+        super().__init__(f"the program prints more than {MOST_PRINTED} octets")
 
 
 @dataclass(frozen=True)
@@ -83,15 +93,22 @@ class Program:
         try:
             process = os.pidfd_open(pid)
             try:
-                if not select.select([process], [], [], seconds)[0]:
-                    raise TookTooLong(f"the program ran longer than {seconds} seconds")
+                last = time.monotonic() + seconds
+                while not select.select([process], [], [], max(0.0, min(LOOKED, last - time.monotonic())))[0]:
+                    if os.fstat(files[1]).st_size > MOST_PRINTED:
+                        raise PrintedTooMuch
+                    if time.monotonic() >= last:
+                        raise TookTooLong(f"the program ran longer than {seconds} seconds")
             finally:
                 os.close(process)
         except BaseException:
             os.kill(pid, signal.SIGKILL)
             os.waitpid(pid, 0)
             raise
-        return os.waitstatus_to_exitcode(os.waitpid(pid, 0)[1])
+        status = os.waitstatus_to_exitcode(os.waitpid(pid, 0)[1])
+        if os.fstat(files[1]).st_size > MOST_PRINTED:
+            raise PrintedTooMuch
+        return status
 
     def run_by_pipes(self, octets: bytes, options: Sequence[str], seconds: float) -> Ran:
         """The same where there are no files in memory.
@@ -103,6 +120,8 @@ class Program:
             ran = subprocess.run([self.path, *options], input=octets, capture_output=True, timeout=seconds, check=False)
         except subprocess.TimeoutExpired:
             raise TookTooLong(f"the program ran longer than {seconds} seconds") from None
+        if len(ran.stdout) > MOST_PRINTED:
+            raise PrintedTooMuch
         return Ran(ran.returncode, ran.stdout.decode("latin-1"), ran.stderr.decode("latin-1"))
 
 

@@ -11,7 +11,7 @@ from dorydate.explain.faults import diagnose, wrong_with_line
 from dorydate.explain.inside import Inside
 from dorydate.given import Input, shown
 from dorydate.explain.past import Past
-from dorydate.explain.runs import Happened, kept_program
+from dorydate.explain.runs import CannotTell, Happened, kept_program, ran
 from dorydate.program import MOST_OCTETS, Program
 from dorydate.where import found
 from dorydate.explain.telling import said_beside, telling
@@ -106,6 +106,14 @@ class Copies(unittest.TestCase):
 
 
 class Programs(unittest.TestCase):
+    def test_a_calm_that_waits_for_a_stranger_is_stopped_and_named(self) -> None:
+        calm = 'carrier = "plain"\n[[imp]]\nid = 1\nhosts = 2\nforeign = [1]\n%\ncontact 0/1 1/1\ncalm 4294967295\n'
+        with mock.patch("dorydate.explain.runs.SECONDS", 1.0):
+            with self.assertRaisesRegex(CannotTell, "longer than 1.0 seconds; all rounds of `calm 4294967295` pass while .* stranger"):
+                ran(found(), calm.encode())
+            resting = calm.replace("contact 0/1 1/1\n", "").encode()
+            self.assertEqual(ran(found(), resting).status, 0)
+
     def test_the_variable_names_another_program(self) -> None:
         found.cache_clear()
         with mock.patch.dict(os.environ, {"DORYDATE_PROGRAM": "/a/program"}):

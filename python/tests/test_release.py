@@ -17,7 +17,7 @@ from unittest import mock
 
 from dorydate import released, where
 from dorydate.by_node import SERVED, ByNode
-from dorydate.program import NoProgram, Program, TookTooLong
+from dorydate.program import NoProgram, PrintedTooMuch, Program, TookTooLong
 from workshop.builds.manual import as_roff, manual, worded
 from workshop.builds.packages import archive
 from workshop.parts import ROOT
@@ -212,6 +212,12 @@ class ByNodeTests(unittest.TestCase):
         program = ByNode(BY_NODE)
         with self.assertRaises(TookTooLong):
             program.run(INPUT, seconds=0.0)
+        self.assertEqual(program.run(INPUT).status, 0)
+
+    def test_a_run_that_prints_too_much_is_stopped_and_the_next_one_runs(self) -> None:
+        program = ByNode(BY_NODE)
+        with mock.patch("dorydate.by_node.MOST_PRINTED", 20), self.assertRaises(PrintedTooMuch):
+            program.run(INPUT, "--texts")
         self.assertEqual(program.run(INPUT).status, 0)
 
     def test_the_same_as_a_program_of_its_own(self) -> None:

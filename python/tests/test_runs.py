@@ -6,6 +6,7 @@ import os
 import re
 import unittest
 from collections.abc import Callable
+from unittest import mock
 
 from dorydate import BadNetwork, Network, Replay, Stopped
 from dorydate.ending import shown_name
@@ -19,7 +20,7 @@ from dorydate.explore.named import SEARCHES, TWO, TWO_PLAIN, TWO_RAW
 from dorydate.explore.pattern import read
 from dorydate.explore.search import Search
 from dorydate.inside import CannotFollow, state_of
-from dorydate.program import Program, TookTooLong
+from dorydate.program import PrintedTooMuch, Program, TookTooLong
 from dorydate.where import found
 from dorydate.script import BadLine, Calm, Contact, Event, Flow, Out, Script, read_event
 
@@ -38,6 +39,19 @@ class Programs(unittest.TestCase):
         text = "\n".join([f"{TWO.toml()}%", *in_step, ""])
         with self.assertRaises(TookTooLong):
             found().run(text.encode(), seconds=0.3)
+
+    def test_limit_of_octets(self) -> None:
+        """A stranger that floods a host with ECO and takes no answer: each line of the trace has all commands that wait."""
+        ecos = f"out 2/1 0/1 0 1000 000800780009{'4109' * 59}41\ncalm 1\ntake 2/1\n"
+        head = 'carrier = "plain"\n[[imp]]\nid = 1\nhosts = 3\nforeign = [2]\n%\nout 2/1 0/1 0 48 00080001000C\ncalm 2\ntake 2/1\ntake 2/1\n'
+        flood = (head + 20 * ecos).encode()
+        printed = len(found().run(flood, "--trace").output)
+        self.assertGreater(printed, 300_000)
+        for most, is_stopped in ((printed - 1, True), (printed, False)):
+            with mock.patch("dorydate.program.MOST_PRINTED", most):
+                for run in (lambda: found().run(flood, "--trace"), lambda: found().run_by_pipes(flood, ["--trace"], 60.0)):
+                    with self.subTest(most) if not is_stopped else self.assertRaisesRegex(PrintedTooMuch, f"more than {most} octets"):
+                        self.assertEqual(len(run().output), printed)
 
     def test_streams(self) -> None:
         ran = found().run(b"nothing")

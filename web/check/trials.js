@@ -383,6 +383,42 @@ export async function bundles({ $, all, pause, press, load, key, want }) {
 }
 
 /**
+ * On a map of dots no packet lies on a name.
+ *
+ * @param {Page} page
+ * @param {string} name
+ */
+export async function uncovered({ $, all, load, slide, pause, want }, name) {
+    await load(name);
+    let seen = 0;
+    for (const part of [0.2, 0.3, 0.4, 0.5, 0.6]) {
+        slide(Math.floor(part * Number($("slider").max)));
+        await pause(60);
+        const names = all("#network .imp:not(.folded) .tag .box").map((it) => it.getBoundingClientRect());
+        const signs = all("#network .frame.data .sign, #network .frame.rfnm .sign").map((it) => it.getBoundingClientRect());
+        seen += signs.length;
+        for (const { left, right, top, bottom } of signs) {
+            const [x, y] = [(left + right) / 2, (top + bottom) / 2];
+            const isOn = names.some((it) => it.left < x && x < it.right && it.top < y && y < it.bottom);
+            want(!isOn, `${name} at ${part}: a packet lies on a name`);
+        }
+    }
+    want(seen > 0, `${name}: no packet is on a line`);
+}
+
+/**
+ * A first visit has its doors, until a lesson is chosen.
+ *
+ * @param {Page} page
+ */
+export async function entered({ $, load, want }) {
+    want(!$("doors").hidden, "a first visit has no doors");
+    const words = $("sentence").textContent;
+    await load("first-message");
+    want($("doors").hidden && $("sentence").textContent !== words, "the doors stay over a lesson that was chosen");
+}
+
+/**
  * The map of a lesson can be read at each size of text: no letter is below 9 pixels, none is smaller in larger text, no
  * name, number or box lies on another, and the sites of which the lesson tells have their names.
  *

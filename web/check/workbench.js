@@ -22,7 +22,9 @@ const LARGE = /** @type {[number, number][]} */ ([[1280, 800], [360, 740]]);
 const LARGER = /** @type {[number, number][]} */ ([[1024, 768], WIDE]);
 const MOST_OCTETS = 1_050_000;
 /** The sizes at which maps are read, and the maps. */
-const READ_AT = /** @type {[number, number][]} */ ([[1280, 800], [1440, 900], [1920, 1080], [390, 844], [740, 360], [1024, 768]]);
+const READ_AT = /** @type {[number, number][]} */ (
+    [[1280, 800], [1440, 900], [1920, 1080], [390, 844], [740, 360], [1024, 768], [768, 1024], [360, 640]]
+);
 const MAPS = [
     "arpanet-of-december-1969",
     "arpanet-of-december-1970",
@@ -31,7 +33,9 @@ const MAPS = [
     "arpanet-of-september-1973",
     "arpanet-of-july-1977",
     "reassembly-lockup",
+    "lo-of-login",
 ];
+const PACKETS = "arpanet-of-april-1971"; // a map of dots with packets under way
 const SHOWN = [
     "lo-of-login",
     "arpanet-of-december-1969",
@@ -133,6 +137,7 @@ function messageOnEachLink() {
 const GIVEN = /** @type {{[name: string]: () => string}} */ ({
     large: largeNetwork,
     legible: () => "arpanet-of-july-1977",
+    uncovered: () => PACKETS,
     linked: messageOnEachLink,
 });
 
@@ -246,6 +251,21 @@ const PLANTED = /** @type {Planted[]} */ ([
         to: "true",
         by: "legible",
         words: "lies on",
+    },
+    {
+        what: "doors that stay over a lesson",
+        from: "if (this.history) this.doors.show(false);",
+        to: "",
+        by: "entered",
+        words: "the doors stay",
+    },
+    {
+        what: "packets that are put on names",
+        from: "const SHIFTS = [0, ",
+        to: "const SHIFTS = [0]; const NONE = [",
+        by: "uncovered",
+        size: [390, 844],
+        words: "lies on a name",
     },
     {
         what: "letters that shrink with the map",
@@ -457,7 +477,7 @@ async function whole(browser, address) {
     const wrong = [];
     await browser.resize(...WIDE);
     await browser.open(address);
-    wrong.push(...(await trial(browser)));
+    wrong.push(...(await trial(browser, [trials.entered])));
     const first = await browser.evaluate("return Math.round(performance.now());");
     const options = 'document.querySelectorAll("#lesson option")';
     const names = await browser.evaluate(`return [...${options}].map((it) => it.value);`);
@@ -468,7 +488,7 @@ async function whole(browser, address) {
         steps += await browser.evaluate('return Number(document.getElementById("slider").max);');
     }
     const { keys, tapped, holding, distances, compared, printed, hidden, typed, measured, contrast } = trials;
-    const { booked, bundles, followed, happening, judged, large, legible, linked, named, reached, sending, touched, unopened } = trials;
+    const { booked, bundles, followed, happening, judged, large, legible, linked, named, reached, sending, touched, uncovered, unopened } = trials;
     for (const size of LARGE) {
         await browser.resize(...size);
         wrong.push(...(await trial(browser, [large, largeNetwork()], [followed], [bundles])));
@@ -510,7 +530,7 @@ async function whole(browser, address) {
     }
     for (const [width, height] of READ_AT) {
         await browser.resize(width, height);
-        const found = await trial(browser, ...MAPS.map((name) => /** @type {[Trial, any?]} */ ([legible, name])));
+        const found = await trial(browser, ...MAPS.map((name) => /** @type {[Trial, any?]} */ ([legible, name])), [uncovered, PACKETS]);
         wrong.push(...found.map((it) => `${it}, at ${width} by ${height}`));
     }
     for (const [width, height] of LARGER) {

@@ -1,14 +1,15 @@
 /**
  * Runs the released module on one input after another, within one process of Node.
  *
- * A request on standard input is a line of JSON, `{"words": [..], "octets": N}`, and N octets, which are the input. The
- * answer on standard output is a line of JSON, `{"status": S, "stdout": N, "stderr": M}`, and the N + M octets that the
- * run wrote. Each run begins with an empty memory. The end of standard input ends the process.
+ * A request on standard input is a line of JSON, `{"words": [..], "octets": N, "most": L}`, and N octets, which are the
+ * input. The answer on standard output is a line of JSON, `{"status": S, "stdout": N, "stderr": M}`, and the N + M octets
+ * that the run wrote; or the status -1 and none, if these are more than L. Each run begins with an empty memory. The end
+ * of standard input ends the process.
  */
 
 import { readSync, writeSync } from "node:fs";
 
-import { runModule } from "./program.js";
+import { Full, runModule } from "./program.js";
 import { Refused, releasedModule } from "./released.js";
 import { joined } from "./runner.js";
 
@@ -62,16 +63,39 @@ function write(octets) {
     for (let at = 0; at < octets.length; ) at += writeSync(1, octets, at, octets.length - at);
 }
 
+/**
+ * Runs the module: the status, and what was written to standard output and standard error, if that isn't too much.
+ *
+ * @param {WebAssembly.Module} module
+ * @param {string[]} words
+ * @param {Uint8Array} input
+ * @param {number} most
+ * @returns {[number, Uint8Array, Uint8Array]}
+ */
+function ran(module, words, input, most) {
+    /** @type {Uint8Array[][]} */
+    const written = [[], [], []];
+    let room = most;
+    try {
+        const status = runModule(module, words, input, (descriptor, piece) => {
+            room -= piece.length;
+            if (room < 0) throw new Full();
+            written[descriptor].push(piece);
+        });
+        return [status, joined(written[1]), joined(written[2])];
+    } catch (why) {
+        if (!(why instanceof Full)) throw why;
+        return [-1, new Uint8Array(0), new Uint8Array(0)];
+    }
+}
+
 /** @param {WebAssembly.Module} module */
 function serve(module) {
     for (let line = nextLine(); line !== null; line = nextLine()) {
-        const { words, octets } = JSON.parse(line);
+        const { words, octets, most } = JSON.parse(line);
         const input = next(octets);
         if (input === null) return;
-        /** @type {Uint8Array[][]} */
-        const written = [[], [], []];
-        const status = runModule(module, words, input, (descriptor, piece) => written[descriptor].push(piece));
-        const [stdout, stderr] = [joined(written[1]), joined(written[2])];
+        const [status, stdout, stderr] = ran(module, words, input, most);
         const head = JSON.stringify({ status, stdout: stdout.length, stderr: stderr.length });
         write(joined([new TextEncoder().encode(`${head}\n`), stdout, stderr]));
     }

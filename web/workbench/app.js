@@ -110,6 +110,7 @@ export class Workbench {
     constructor(runner, examples, years, source) {
         this.runner = runner;
         this.examples = examples;
+        this.opens = this.beside().map(({ at, text }) => `${at ?? 0} ${text}`).join("\n"); // which tells pages apart
         const go = (/** @type {number} */ position) => this.go(position);
         this.toast = new Toast(byId("toast"));
         this.taps = new Taps(this, byId("menu"));
@@ -278,8 +279,8 @@ export class Workbench {
     /** Opens the page: at what the address says, at the text that was here, or at the first example. */
     async begin() {
         if (await this.fromAddress()) return;
-        const kept = storedText();
-        const beside = this.examples.filter((it) => it.name.startsWith("opened-"));
+        const kept = storedText(this.opens);
+        const beside = this.beside();
         if (kept) {
             this.example = kept.example;
             this.origin = this.examples.find((it) => it.name === kept.example)?.text ?? kept.text;
@@ -293,6 +294,11 @@ export class Workbench {
             if (beside[0]?.at) this.goStop(beside[0].at);
         }
         if (!kept && beside.length > 1) this.compareWith(beside[1]);
+    }
+
+    /** The inputs with which the page opens. */
+    beside() {
+        return this.examples.filter((it) => it.name.startsWith("opened-"));
     }
 
     /**
@@ -357,6 +363,7 @@ export class Workbench {
      * @param {string} text
      */
     open(text) {
+        if (this.history) this.doors.show(false);
         this.origin = text;
         this.compare.other = "";
     }
@@ -385,7 +392,7 @@ export class Workbench {
             const opened = (/** @type {import("./runs.js").Replay} */ it) => void (run === this.runs && this.showOpening(text, it));
             const outcome = await replay(this.runner.run, text, LIMITS, opened);
             if (run !== this.runs) return false;
-            keepText(text, this.example);
+            keepText(text, this.example, this.opens);
             this.forgetAddress(text);
             if (!isReplay(outcome)) return this.showFault(text, outcome);
             this.editor.showFault(outcome.cut, 0);
@@ -679,7 +686,7 @@ export class Workbench {
     /** @param {string} text */
     typed(text) {
         window.clearTimeout(this.timer);
-        keepText(text, this.example);
+        keepText(text, this.example, this.opens);
         this.timer = window.setTimeout(() => void this.runTyped(text), TYPED);
     }
 

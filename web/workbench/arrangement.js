@@ -3,7 +3,7 @@
 /**
  * - `wide`: script and chart beside the map, with the tables below the map.
  * - `mid`: map and one table beside each other.
- * - `narrow`: everything below one another.
+ * - `narrow`: everything below one another, on a telephone or where the page is higher than wide.
  *
  * Where the page is low, `mid` has the sentence above the map, so that the table has the whole height, and `narrow`
  * scrolls below a map and above step buttons that stay.
@@ -27,6 +27,6 @@ const LOW_NARROW = 560; // in height
 export function arrangement(width, height) {
     if (height < LOW) return { layout: width > LOW_MID ? "mid" : "narrow", isLow: true };
     if (width >= WIDE) return { layout: "wide", isLow: false };
-    if (width > MID) return { layout: "mid", isLow: false };
+    if (width > MID && width > height) return { layout: "mid", isLow: false };
     return { layout: "narrow", isLow: height < LOW_NARROW };
 }

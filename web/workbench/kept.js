@@ -3,13 +3,15 @@
 const NAME = "dorydate";
 
 /**
- * The text that was here last.
+ * The text that was here last, in a page that opens alike: files that are opened in one tab share what is kept there.
  *
+ * @param {string} of what the page opens with
  * @returns {{text: string, example: string} | null}
  */
-export function storedText() {
+export function storedText(of) {
     try {
-        return JSON.parse(window.sessionStorage.getItem(NAME) ?? "null");
+        const kept = JSON.parse(window.sessionStorage.getItem(NAME) ?? "null");
+        return kept?.of === of ? kept : null;
     } catch {
         return null;
     }
@@ -20,10 +22,11 @@ export function storedText() {
  *
  * @param {string} text
  * @param {string} example the example that it was made of, "" for none
+ * @param {string} of what the page opens with
  */
-export function keepText(text, example) {
+export function keepText(text, example, of) {
     try {
-        window.sessionStorage.setItem(NAME, JSON.stringify({ text, example }));
+        window.sessionStorage.setItem(NAME, JSON.stringify({ text, example, of }));
     } catch {
         // a browser that keeps nothing
     }

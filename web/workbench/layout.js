@@ -58,6 +58,11 @@ const MOST_BOXES = 12; // IMPs of a map with boxes
 const LETTER = 0.74; // the width of a capital letter, as a share of its height
 const EDGE = 8; // pixels around a map
 const ROOMY = { width: 640, height: 300, most: 1.2 }; // a frame that is larger has larger letters
+/** How much larger all is in the map of a few IMPs, where it has room at the largest text too. Each is below 5/4 of the next. */
+const GROWTHS = [1.9, 1.65, 1.4, 1.2];
+const EACH = { width: 400, height: 170 }; // pixels of a frame for each of these
+const LARGEST = 1.5625; // the largest text, in plain ones
+const LINE = 60; // pixels of a line at least, where there is room for larger boxes
 const DOT = 4; // the radius of an IMP that is a dot
 const LONGEST = 330; // pixels of a line at most, where the frame leaves more
 
@@ -70,8 +75,8 @@ const LONGEST = 330; // pixels of a line at most, where the frame leaves more
  */
 export function placed(network, frame = PLAIN) {
     const shape = shapeOf(network);
-    const grown = Math.min(ROOMY.most, Math.max(1, Math.min(frame.width / ROOMY.width, frame.height / ROOMY.height)));
-    const unit = frame.unit * grown;
+    const roomy = Math.min(ROOMY.most, Math.max(1, Math.min(frame.width / ROOMY.width, frame.height / ROOMY.height)));
+    const unit = frame.unit * grown(network, shape, frame, roomy);
     if (network.sites.length <= MOST_BOXES) {
         for (const detail of DETAILS) {
             const found = withBoxes(network, shape, frame, detail, unit);
@@ -79,6 +84,37 @@ export function placed(network, frame = PLAIN) {
         }
     }
     return withDots(network, shape, frame, unit);
+}
+
+/**
+ * How many times larger than its text the map of a few IMPs is.
+ *
+ * @param {Network} network
+ * @param {Shape} shape
+ * @param {Frame} frame
+ * @param {number} least
+ */
+function grown(network, shape, frame, least) {
+    if (network.sites.length > MOST_BOXES) return least;
+    const most = Math.min(frame.width / EACH.width, frame.height / EACH.height);
+    const hasRoom = (/** @type {number} */ growth) => {
+        const found = withBoxes(network, shape, frame, DETAILS[0], growth * LARGEST);
+        return found !== null && network.lines.every((imps) => seenLength(found, imps) >= LINE * found.unit);
+    };
+    return GROWTHS.find((it) => it > least && it <= most && hasRoom(it)) ?? least;
+}
+
+/**
+ * How much of a line is seen between the boxes of its IMPs.
+ *
+ * @param {Layout} layout
+ * @param {[number, number]} imps
+ */
+function seenLength({ imps: places, boxes }, imps) {
+    const none = { x: 0, y: 0, w: 0, h: 0 };
+    const [a, b] = imps.map((imp) => ({ ...none, ...places.get(imp), ...boxes.get(imp) }));
+    const [from, to] = [leaving(a, b, a), leaving(b, a, b)];
+    return Math.hypot(to.x - from.x, to.y - from.y);
 }
 
 /**

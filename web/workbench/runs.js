@@ -75,7 +75,7 @@ export async function replay(run, text, limits = LIMITS, opened = () => {}) {
     const outcome = await run(["--trace"], octetsOf(text), limits, (octets) => reader.add(octets));
     const cut = whyCut(outcome, limits);
     const trace = reader.read();
-    const brief = outcome.ended === "time" && !trace?.records.length ? shortened(input) : null;
+    const brief = outcome.ended === "time" ? shortened(input, trace?.records.at(-1)) : null;
     if (brief) return { ...await replay(run, brief.text, limits, opened), .../** @type {{}} */ (brief.why) };
     if (!trace) return { ...nothing, cut };
     const { opening, records: moments } = trace;
@@ -86,15 +86,17 @@ export async function replay(run, text, limits = LIMITS, opened = () => {}) {
 const BRIEF = 60; // rounds to which a calm is shortened of which nothing came in the time that a run has
 
 /**
- * An input with its long calms shortened, and why; null where it has none. A calm in which nothing ends can hold back even
- * what was before it.
+ * An input with its long calms shortened, and why; null where it has none that came to nothing. A calm in which nothing ends
+ * can hold back even what was before it.
  *
  * @param {Input} input
+ * @param {Moment} [last] the last moment that came
  * @returns {{text: string, why: {cut: string}} | null}
  */
-function shortened(input) {
-    const isLong = (/** @type {import("./script.js").Input["events"][0]} */ { words: [kind, rounds] }) => kind === "calm" && Number(rounds) > BRIEF;
-    const long = input.events.filter(isLong);
+function shortened(input, last = undefined) {
+    const isLong = (/** @type {import("./script.js").ScriptEvent} */ { words: [kind, rounds] }) => kind === "calm" && Number(rounds) > BRIEF;
+    const isLeft = (/** @type {number} */ event) => !last || event > last.event || (event === last.event && last.round < BRIEF);
+    const long = input.events.filter((it, place) => isLong(it) && isLeft(place));
     if (!long.length) return null;
     const lines = new Set(long.map((it) => it.line));
     const text = withScript(input, input.lines.map((it) => (lines.has(it.line) ? `calm ${BRIEF}` : it.text)));

@@ -86,6 +86,7 @@ export function withScript(input, lines) {
 }
 
 const MOST_ALONE = 200; // comments in a row that have a row each
+const MOST_NOTES = 1000; // comments of a script that have one
 
 /**
  * The comments of a script; `#?` asks a question and `#!` gives its answer.
@@ -100,6 +101,7 @@ export function notesOf(input) {
     const notes = [];
     let events = 0;
     let alone = 0; // comments since the last event
+    let more = 0; // comments that are only counted, after the last one that has a row
     for (const { line, text, kind } of input.lines) {
         if (kind === "event") [events, alone] = [events + 1, 0];
         if (kind !== "comment") continue;
@@ -112,14 +114,15 @@ export function notesOf(input) {
             && last.last === line - 1
             && sort === "comment"
             && (last.kind !== "comment" || (before !== undefined && before.length > 60 && !/[.:!?]$/.test(before)));
-        if (alone > MOST_ALONE && last) {
-            const more = alone - MOST_ALONE;
+        if (last && (alone > MOST_ALONE || notes.length >= MOST_NOTES)) {
+            more += 1;
             last.text = `${last.text.replace(/ … \d+ more$/, "")} … ${more} more`;
             last.last = line;
         } else if (goesOn) {
             last.text = joinedWords([last.text, told]);
             last.last = line;
         } else {
+            more = 0;
             notes.push({ kind: sort, line, last: line, before: events, text: told });
         }
     }

@@ -24,11 +24,11 @@ from dorydate.explain import book, faults, page, promised, sheets
 from dorydate.explain.charts import chart, short_chart
 from dorydate.given import Input
 from dorydate.explain.logs import explained
-from dorydate.explain.runs import CannotTell, Replayed, kept_program, lives, replay
+from dorydate.explain.runs import CannotTell, Replayed, kept_program, lives, ran, replay
 from dorydate.explain.telling import said_beside, telling
 from dorydate.explain.topology import is_raw, names_of, network_by
 from dorydate.model.log import BadLog, Book, read_log
-from dorydate.program import MOST_OCTETS, UNLIMITED, NoProgram, Program
+from dorydate.program import MOST_OCTETS, NoProgram, Program
 from dorydate.where import ROOT, here
 
 MOST_OF_LOG = 268_435_456  # octets of a log that is read here
@@ -46,22 +46,22 @@ def audited(option: str) -> int:
         print(f"explain: more than {MOST_OF_LOG} octets", file=sys.stderr)
         return 1
     program = kept_program() or Program(f"{ROOT}/arpasim")
-    ran = program.run(octets, option, seconds=UNLIMITED)
-    print(ran.said, end="", file=sys.stderr, flush=True)
-    sys.stdout.buffer.write(ran.output.encode("latin-1"))
+    ended = ran(program, octets, option)
+    print(ended.said, end="", file=sys.stderr, flush=True)
+    sys.stdout.buffer.write(ended.output.encode("latin-1"))
     if option == "--audit":
-        print(explained(octets, ran.output.strip() or ran.said.strip().removeprefix("arpasim: ")))
-    return ran.status
+        print(explained(octets, ended.output.strip() or ended.said.strip().removeprefix("arpasim: ")))
+    return ended.status
 
 
 def of_log(octets: bytes, say: Callable[[Book], int]) -> int:
     """Says something of a log, or of an input's log. The status."""
     if b"%" in octets.split(b"\n"):
-        ran = (kept_program() or Program(f"{ROOT}/arpasim")).run(octets, "--log", seconds=UNLIMITED)
-        print(ran.said, end="", file=sys.stderr, flush=True)
-        if ran.status:
-            return ran.status
-        octets = ran.output.encode("latin-1")
+        ended = ran(kept_program() or Program(f"{ROOT}/arpasim"), octets, "--log")
+        print(ended.said, end="", file=sys.stderr, flush=True)
+        if ended.status:
+            return ended.status
+        octets = ended.output.encode("latin-1")
     try:
         return say(read_log(octets))
     except BadLog as line:
@@ -101,11 +101,7 @@ def replayed(form: str) -> int:
     """Prints what the input on standard input comes to, in a form. The status."""
     given = Input(standard_input())
     program = kept_program()
-    try:
-        ended = replay(given, program)
-    except CannotTell as why:
-        print(f"explain: {why}", file=sys.stderr)
-        return 4
+    ended = replay(given, program)
     if ended.status != 0:
         print(f"The program says: {ended.said.strip()} (status {ended.status}).\n{diagnose(given, ended.said)}")
     elif form in ("worksheet", "answers"):
@@ -162,7 +158,7 @@ def main() -> int:
     try:
         named.open_input(settled(chosen))
         return asked(chosen)
-    except NoProgram as why:
+    except (NoProgram, CannotTell) as why:
         print(f"explain: {why}", file=sys.stderr)
         return 4
     except BadLine as line:

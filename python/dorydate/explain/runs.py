@@ -20,10 +20,11 @@ from itertools import chain, islice
 from dorydate.given import Input, is_event
 from dorydate.explain.topology import network_by
 from dorydate.marks import LAST, Marked, Unmarked, each_printed, mark_for
-from dorydate.program import UNLIMITED, NoProgram, Program
+from dorydate.program import SECONDS, UNLIMITED, NoProgram, Program, Ran, TookTooLong
 from dorydate.where import ROOT, found, repository
 
 MOST_TRIED = 64_000_000  # octets of inputs that are run without a kept program
+LONG_CALM = re.compile(rb"^foreign\b.*?^%$.*?^(calm \d{6,})$", re.MULTILINE | re.DOTALL)  # of a network with strangers
 Ended = tuple[int, bytes, str]  # the status of a run, its output, and what it said on standard error
 
 
@@ -59,12 +60,22 @@ def kept_program() -> Program | None:
         raise
 
 
+def ran(program: Program, octets: bytes, *options: str) -> Ran:
+    """A run to its end. In a network with strangers a calm may have billions of rounds that pass, so such a run is stopped in time."""
+    calm = LONG_CALM.search(octets)
+    try:
+        return program.run(octets, *options, seconds=SECONDS if calm else UNLIMITED)
+    except TookTooLong as why:
+        said = f"; all rounds of `{calm[1].decode()}` pass while something waits for a stranger: give it fewer" if calm else ""
+        raise CannotTell(f"{why}{said}") from None
+
+
 def answers(program: Program, inputs: Iterable[bytes], options: Sequence[str] = ()) -> Iterator[Ended]:
     """How the program ends on each of these inputs, in turn."""
 
     def run(octets: bytes) -> Ended:
-        ran = program.run(octets, *options, seconds=UNLIMITED)
-        return ran.status, ran.output.encode("latin-1"), ran.said
+        ended = ran(program, octets, *options)
+        return ended.status, ended.output.encode("latin-1"), ended.said
 
     left = iter(inputs)
     with ThreadPoolExecutor(os.cpu_count()) as pool:
@@ -84,12 +95,12 @@ def answers_without_proofs(inputs: Iterable[bytes]) -> Iterator[Ended]:
             with open(f"{cases}/{number:06}", "wb") as case:
                 case.write(given)
         try:
-            ran = subprocess.run(["rt", "try", "--cases", cases], cwd=f"{ROOT}/crates/arpasim", capture_output=True)
+            tried = subprocess.run(["rt", "try", "--cases", cases], cwd=f"{ROOT}/crates/arpasim", capture_output=True)
         except FileNotFoundError:
             raise CannotTell("the toolchain's command rt is not on the path") from None
-    ended = ends_of_cases(ran.stdout, ran.stderr.decode())
+    ended = ends_of_cases(tried.stdout, tried.stderr.decode())
     if len(ended) != number:
-        raise CannotTell(f"`rt try` did not run the program on this input:\n{ran.stderr.decode()}")
+        raise CannotTell(f"`rt try` did not run the program on this input:\n{tried.stderr.decode()}")
     return iter(ended)
 
 

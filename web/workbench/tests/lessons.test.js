@@ -27,6 +27,19 @@ test("questions and answers are comments before their line", () => {
     ]);
 });
 
+test("thousands of comments have few rows, and are counted", () => {
+    const rows = /** @type {[string, string[], number, string][]} */ ([
+        ["in a row", Array(5000).fill("#x"), 200, "x … 4800 more"],
+        ["with nothing between", Array(5000).fill("#x\n"), 200, "x … 4800 more"],
+        ["between events", Array(5000).fill("#x\ntake 0/2"), 1000, "x … 4000 more"],
+    ]);
+    for (const [what, script, count, text] of rows) {
+        const notes = notesOf(readInput(twoImps(["calm 2", ...script])));
+        assert.equal(notes.length, count, what);
+        assert.equal(notes[count - 1].text, text, what);
+    }
+});
+
 test("each example is in one group, and each that runs has a question", () => {
     const names = exampleNames();
     const lessons = arranged(names.map(given));

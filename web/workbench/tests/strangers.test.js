@@ -100,6 +100,12 @@ test("a calm ends with its rest; while something waits for a stranger it lasts, 
     assert(isReplay(stopped));
     assert(/is shown as `calm 60`\.$/.test(stopped.cut), stopped.cut);
     assert(stopped.moments.length > 0);
+    const later = ["calm 3", "listen 0/1 16 8", "out 1/2 0/1 0 48 00080001000C", "calm 5", "contact 0/1 1/2"];
+    const shown = await replay(run, inputOf([...later, calm]), { ...PATIENT, seconds: 1 });
+    assert(isReplay(shown));
+    const seen = new Set(shown.moments.map(({ event }) => event));
+    assert.deepEqual([...seen], [0, 1, 2, 3, 4], "what was before the calm is shown");
+    assert(/`calm 4294967295` in line 6 is shown as `calm 60`/.test(shown.cut), shown.cut);
 });
 
 test("a stranger is asked what it sends, and hosts with programs aren't", async () => {

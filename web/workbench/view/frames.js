@@ -1,6 +1,7 @@
 /** Frames on the lines of a map, and those that travel for the eye. */
 
 import { partTitle } from "../choices.js";
+import { firstFree } from "../labels.js";
 import { wayOf } from "../topology.js";
 import { s, say, set } from "./dom.js";
 import { label, SIGNS, STROKES } from "./signs.js";
@@ -8,6 +9,9 @@ import { label, SIGNS, STROKES } from "./signs.js";
 /** @typedef {import("./map.js").MapView} MapView */
 /** @typedef {import("../state.js").State} State */
 /** @typedef {import("../trace.js").Frame} Frame */
+
+const SHIFTS = [0, 0.12, -0.12, 0.24, -0.24, 0.36, -0.36]; // shares of a line by which a frame keeps off names
+const SIGN = 11; // pixels of a frame's sign on a map of dots
 
 /**
  * A frame that is drawn.
@@ -37,8 +41,14 @@ export function drawFrame(map, state, element, { line, way, place, frame, count,
     const gap = Math.min(factor * (map.layout.small ? 12 : 17), (0.9 * length) / Math.max(count, 1));
     const along = Math.max(0.06 * length, length / 2 + gap * ((count - 1) / 2 - place));
     const side = factor * (map.layout.small ? 7 : 11);
-    const x = from.x + ((to.x - from.x) * along) / length - (side * (to.y - from.y)) / length;
-    const y = from.y + ((to.y - from.y) * along) / length + (side * (to.x - from.x)) / length;
+    const [wayX, wayY] = [(to.x - from.x) / length, (to.y - from.y) / length];
+    const places = (map.layout.small ? SHIFTS : [0]).map((share) => {
+        const far = Math.min(0.96 * length, Math.max(0.04 * length, along + share * length));
+        return { x: from.x + wayX * far - side * wayY, y: from.y + wayY * far + side * wayX };
+    });
+    const seen = places.map((it) => map.onScreen(it));
+    const free = firstFree(seen, map.layout.unit * SIGN, map.layout.unit * SIGN, map.names);
+    const { x, y } = places[free ? seen.indexOf(free) : 0];
     const angle = (Math.atan2(to.y - from.y, to.x - from.x) * 180) / Math.PI;
     const kind = frame.packet ? frame.packet.kind : frame.routes ? "routes" : "ack";
     const scale = factor * (map.layout.small ? 0.7 : 1);

@@ -90,10 +90,11 @@ export function fillHandout(element, history, { title, intro, kind, until }) {
  *
  * @param {History} history
  * @param {number} position
+ * @param {{width: number, height: number}} [room] for which it is arranged
  */
-export function mapAt(history, position) {
+export function mapAt(history, position, room) {
     const svg = s("svg", { class: "network", role: "img" });
-    const map = new MapView(svg, history.network, null);
+    const map = new MapView(svg, history.network, null, room);
     map.draw({ state: history.at(position), talk: new Talk(history.replay).goTo(position), to: 0 });
     return svg;
 }

@@ -44,9 +44,11 @@ export class MapView {
      * @param {SVGElement} svg
      * @param {Network} network
      * @param {((part: Part, element: Element) => void) | null} tap null for a map to look at only
+     * @param {{width: number, height: number}} [room] of one that has no place in the page
      */
-    constructor(svg, network, tap) {
+    constructor(svg, network, tap, room = { width: 640, height: 360 }) {
         this.svg = svg;
+        this.room = room;
         this.network = network;
         this.tap = tap;
         /** @type {Set<number>} the IMPs of hosts that the script names */
@@ -56,6 +58,8 @@ export class MapView {
         this.factor = 1; // how large a pixel of the layout is in units of the map, so that signs and labels can be read
         this.isNear = false;
         this.put = "";
+        /** @type {import("../labels.js").Rect[]} where the names of a map of dots are, in pixels of the frame */
+        this.names = [];
         /** @type {Map<number, {w: number, h: number}> | undefined} */
         this.tags = undefined;
         this.land = s("path", { class: "land" });
@@ -79,7 +83,7 @@ export class MapView {
     measured() {
         const box = this.svg.getBoundingClientRect();
         const unit = parseFloat(getComputedStyle(document.documentElement).fontSize) / 16;
-        const [width, height] = box.width ? [box.width, box.height] : [640, 360];
+        const { width, height } = box.width ? box : this.room;
         const tools = this.svg.closest("#map")?.querySelector("#map-tools")?.getBoundingClientRect();
         const corner = tools && { x: tools.x - box.x, y: tools.y - box.y, width: tools.width, height: tools.height };
         const isOver = corner && corner.x < width && corner.y < height && corner.x + corner.width > 0 && corner.y + corner.height > 0;
@@ -191,6 +195,7 @@ export class MapView {
         const put = putLabels(labels, { x: 1, y: 1, width: width - 2, height: height - 2 }, taken);
         this.network.sites.forEach(({ number }, place) => this.putTag(this.imps.children[place], number, labels[place].at, put[place]));
         const rects = put.flatMap((it, place) => (it ? [around(it, labels[place].width, labels[place].height)] : []));
+        this.names = rects;
         this.foldLines([...taken, ...rects, ...labels.map((it) => around(it.at, 2 * it.radius, 2 * it.radius))]);
     }
 

@@ -24,6 +24,7 @@ export class Next {
     constructor(bench) {
         this.bench = bench;
         this.shown = "";
+        this.topology = ""; // of what is listed
         this.turn = 0;
         this.timer = 0;
         this.seed = Date.now() % 1_000_000;
@@ -71,6 +72,8 @@ export class Next {
             return say(this.status, "What can happen is hidden with the future.");
         }
         if (key === this.shown) return;
+        if (this.bench.topology !== this.topology) this.list.replaceChildren();
+        this.topology = this.bench.topology;
         this.stale(true);
         this.shown = key;
         window.clearTimeout(this.timer);

@@ -21,6 +21,8 @@ import { keep, s, say, set, h } from "./dom.js";
 const EMPTY = "The script has no event yet. Tap a part of the map, or an event in the table Possible, and it is added here. "
     + "Or type it: press Edit.";
 
+const MOST_HEADS = 3; // lanes with their names in one row
+
 /** The sheet of a replay. */
 export class SheetView {
     /**
@@ -72,12 +74,14 @@ export class SheetView {
         this.isNew = true;
         this.rows.classList.toggle("many", this.list.length > 400);
         const { network } = sheet.history;
+        this.heads.classList.toggle("many", sheet.chart.lanes.length > MOST_HEADS);
         keep(
             this.heads,
             ["", ...sheet.chart.lanes],
             (host) => `head ${host}`,
             (host) => (host ? h("span", { class: "head" }) : h("span", { class: "head script" }, "script")),
             (element, host) => {
+                set(element, { style: `grid-column: ${sheet.chart.lanes.indexOf(host) + 2}` });
                 if (!host) return;
                 const name = hostName(network, host);
                 element.replaceChildren(

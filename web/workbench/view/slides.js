@@ -14,6 +14,8 @@ import { mapAt } from "./handout.js";
 const WORDS = TABLE.paper;
 const HOUR = /** @type {[number, string, string, string][]} */ (TABLE.hour);
 const MOST = 7; // sentences on a slide
+const MOST_TOLD = 230; // letters that introduce a lesson
+const ROOM = { width: 360, height: 170 }; // for a map, so that it can be read from the last row
 const END = "<\/script>"; // as no page may spell it within its own
 
 /** What turns the slides: keys, and a press on the right or the left. */
@@ -40,13 +42,15 @@ const SCRIPT = [
  * @param {Example[]} examples
  */
 export async function slidesOf(runner, examples) {
-    const title = h("section", { class: "slide title" }, h("p", { class: "kicker" }, "Dorydate"), h("h2", {}, WORDS.slides));
-    const slides = [title];
+    const titleOf = (/** @type {string} */ name) => examples.find((it) => it.name === name)?.title ?? "";
+    const plan = HOUR.filter(([, name]) => titleOf(name)).map(([minutes, name]) => h("li", {}, h("b", {}, `${minutes} min`), titleOf(name)));
+    const kicker = h("p", { class: "kicker" }, "Dorydate");
+    const slides = [h("section", { class: "slide title" }, kicker, h("h2", {}, WORDS.slides), h("ul", {}, ...plan))];
     for (const [minutes, name, question, answer] of HOUR) {
         const example = examples.find((it) => it.name === name);
         const outcome = example ? await replay(runner.run, example.text) : null;
         const history = outcome && isReplay(outcome) ? new History(outcome) : null;
-        slides.push(...slidesOfLesson(example?.title ?? "", `${minutes} min`, history, question, answer));
+        slides.push(...slidesOfLesson(titleOf(name), `${minutes} min`, history, question, answer));
     }
     const style = document.querySelector("style")?.textContent ?? "";
     const body = slides.map((it) => it.outerHTML).join("\n");
@@ -65,12 +69,24 @@ function slidesOfLesson(title, time, history, question, answer) {
     const kicker = (/** @type {string} */ what) => h("p", { class: "kicker" }, [title, what].filter(Boolean).join(" · "));
     const slide = (/** @type {(Node | string)[]} */ ...parts) => h("section", { class: "slide" }, ...parts);
     const told = history ? sentencesOf(history) : [];
+    const map = (/** @type {number} */ at) => (history ? [mapAt(history, at, ROOM)] : []);
     return [
-        ...(history ? [slide(kicker(time), h("h2", {}, title), h("p", {}, headComment(history.replay.input)), mapAt(history, 0))] : []),
-        slide(kicker(WORDS.question), h("p", { class: "big" }, question)),
+        ...(history ? [slide(kicker(time), h("h2", {}, title), h("p", {}, brief(headComment(history.replay.input))), ...map(0))] : []),
+        slide(kicker(WORDS.question), h("p", { class: "big" }, question), ...map(0)),
         ...(told.length ? [slide(kicker(WORDS["what happens"]), h("ul", {}, ...told))] : []),
-        slide(kicker(WORDS.answer), h("p", { class: "big" }, question), h("p", {}, answer)),
+        slide(kicker(WORDS.answer), h("p", { class: "big" }, question), h("p", {}, answer), ...map(history?.length ?? 0)),
     ];
+}
+
+/**
+ * The first sentences of a text, as many as a slide has room for.
+ *
+ * @param {string} text
+ */
+function brief(text) {
+    const sentences = text.match(/.*?[.?!](?:\s+|$)/g) ?? [text];
+    const ends = sentences.map((_, place) => sentences.slice(0, place + 1).join("").trim());
+    return ends.filter((it) => it.length <= MOST_TOLD).at(-1) ?? ends[0];
 }
 
 /**
