@@ -43,8 +43,8 @@ class Programs(unittest.TestCase):
     def test_limit_of_octets(self) -> None:
         """A stranger that floods a host with ECO and takes no answer: each line of the trace has all commands that wait."""
         ecos = f"out 2/1 0/1 0 1000 000800780009{'4109' * 59}41\ncalm 1\ntake 2/1\n"
-        head = 'carrier = "plain"\n[[imp]]\nid = 1\nhosts = 3\nforeign = [2]\n%\nout 2/1 0/1 0 48 00080001000C\ncalm 2\ntake 2/1\ntake 2/1\n'
-        flood = (head + 20 * ecos).encode()
+        head = 'carrier = "plain"\n[[imp]]\nid = 1\nhosts = 3\nforeign = [2]\n%\n'
+        flood = f"{head}out 2/1 0/1 0 48 00080001000C\ncalm 2\ntake 2/1\ntake 2/1\n{20 * ecos}".encode()
         printed = len(found().run(flood, "--trace").output)
         self.assertGreater(printed, 300_000)
         for most, is_stopped in ((printed - 1, True), (printed, False)):

@@ -488,7 +488,8 @@ async function whole(browser, address) {
         steps += await browser.evaluate('return Number(document.getElementById("slider").max);');
     }
     const { keys, tapped, holding, distances, compared, printed, hidden, typed, measured, contrast } = trials;
-    const { booked, bundles, followed, happening, judged, large, legible, linked, named, reached, sending, touched, uncovered, unopened } = trials;
+    const { booked, bundles, followed, happening, judged, large, legible, linked, named, reached, sending } = trials;
+    const { touched, uncovered, unopened } = trials;
     for (const size of LARGE) {
         await browser.resize(...size);
         wrong.push(...(await trial(browser, [large, largeNetwork()], [followed], [bundles])));

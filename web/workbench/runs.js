@@ -94,7 +94,8 @@ const BRIEF = 60; // rounds to which a calm is shortened of which nothing came i
  * @returns {{text: string, why: {cut: string}} | null}
  */
 function shortened(input, last = undefined) {
-    const isLong = (/** @type {import("./script.js").ScriptEvent} */ { words: [kind, rounds] }) => kind === "calm" && Number(rounds) > BRIEF;
+    /** @type {(event: import("./script.js").ScriptEvent) => boolean} */
+    const isLong = ({ words: [kind, rounds] }) => kind === "calm" && Number(rounds) > BRIEF;
     const isLeft = (/** @type {number} */ event) => !last || event > last.event || (event === last.event && last.round < BRIEF);
     const long = input.events.filter((it, place) => isLong(it) && isLeft(place));
     if (!long.length) return null;

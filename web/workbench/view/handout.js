@@ -12,6 +12,8 @@ import { MapView } from "./map.js";
 
 /** @typedef {import("../fold.js").History} History */
 
+const PAPER = { width: 640, height: 215 }; // for a map across a sheet
+
 /**
  * @typedef {object} Paper what is printed of a lesson
  * @property {string} title
@@ -82,7 +84,7 @@ export function fillHandout(element, history, { title, intro, kind, until }) {
     const which = kind === "handout" ? "" : `${TABLE.paper[kind]}: `;
     const name = kind === "worksheet" ? h("p", { class: "name" }, `${TABLE.paper.name}: `) : "";
     const heading = h("h1", {}, `${which}${title}`);
-    element.replaceChildren(heading, name, h("p", { class: "intro" }, intro), mapAt(history, 0), h("table", {}, head, rows));
+    element.replaceChildren(heading, name, h("p", { class: "intro" }, intro), mapAt(history, 0, PAPER), h("table", {}, head, rows));
 }
 
 /**

@@ -43,7 +43,9 @@ const SCRIPT = [
  */
 export async function slidesOf(runner, examples) {
     const titleOf = (/** @type {string} */ name) => examples.find((it) => it.name === name)?.title ?? "";
-    const plan = HOUR.filter(([, name]) => titleOf(name)).map(([minutes, name]) => h("li", {}, h("b", {}, `${minutes} min`), titleOf(name)));
+    const plan = HOUR.filter(([, name]) => titleOf(name)).map(
+        ([minutes, name]) => h("li", {}, h("b", {}, `${minutes} min`), titleOf(name)),
+    );
     const kicker = h("p", { class: "kicker" }, "Dorydate");
     const slides = [h("section", { class: "slide title" }, kicker, h("h2", {}, WORDS.slides), h("ul", {}, ...plan))];
     for (const [minutes, name, question, answer] of HOUR) {
