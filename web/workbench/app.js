@@ -12,7 +12,7 @@ import { keepText, storedText } from "./kept.js";
 import { Past } from "./past.js";
 import { isReplay, LIMITS, replay } from "./runs.js";
 import { impsNamed, notesOf, readInput } from "./script.js";
-import { CUT, noLesson, placeIn } from "./share.js";
+import { CUT, LONG, noLesson, placeIn } from "./share.js";
 import { stopAt, stopsOf } from "./stops.js";
 import { Talk } from "./talk.js";
 import { messageName, waitsOf } from "./waits.js";
@@ -319,6 +319,7 @@ export class Workbench {
         const place = await placeIn(window.location.hash);
         if (!place) return false;
         if (place === "cut") return this.unopened(CUT);
+        if (place === "long") return this.unopened(LONG);
         const example = this.examples.find((it) => it.name === place.example);
         const text = place.text ?? example?.text;
         if (text === undefined) return this.unopened(noLesson(place.example ?? "", this.examples.map((it) => it.name)));

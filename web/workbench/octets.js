@@ -2,6 +2,9 @@
 
 /** @typedef {import("../run/runner.js").Outcome} Outcome */
 
+/** The most octets that the page opens: what is longer is for the program itself. */
+export const MOST_READ = 16_777_216;
+
 /** @param {string} text */
 export function octetsOf(text) {
     return new TextEncoder().encode(text);

@@ -1,7 +1,9 @@
 /** The address of what one sees: the script in it, compressed, and the place. */
 
 import { TABLE } from "../../python/dorydate/sentences/table.mjs";
+import { joined } from "../run/runner.js";
 import { nearest } from "./faults.js";
+import { MOST_READ } from "./octets.js";
 import { filled } from "./words.js";
 
 /**
@@ -30,11 +32,11 @@ export async function fragment({ text, example, at, grain, hidden, to }) {
 }
 
 /**
- * What a fragment says; null where it names neither a script nor an example, and "cut" where its script can't be
- * unpacked: mail and chat programs cut long addresses.
+ * What a fragment says; null where it names neither a script nor an example, "cut" where its script can't be unpacked
+ * (mail and chat programs cut long addresses), and "long" where it is longer than the page opens.
  *
  * @param {string} hash
- * @returns {Promise<Place | "cut" | null>}
+ * @returns {Promise<Place | "cut" | "long" | null>}
  */
 export async function placeIn(hash) {
     const parts = new Map(
@@ -56,14 +58,20 @@ export async function placeIn(hash) {
     try {
         if (example) return { ...place, example: decodeURIComponent(example) };
         return { ...place, text: await unpacked(packedText ?? "") };
-    } catch {
-        return "cut";
+    } catch (why) {
+        return why instanceof TooLong ? "long" : "cut";
     }
 }
+
+/** Thrown where what is unpacked is longer than the page opens. */
+class TooLong extends Error {}
 
 /** Why an address whose script can't be unpacked isn't opened. */
 export const CUT = "The address is cut off or changed, so the script in it can't be opened. Ask for it again as a file, or in "
     + "pieces that no mail program cuts.";
+
+/** Why an address with a script that is too long isn't opened. */
+export const LONG = `The script in this address has more than ${MOST_READ} octets, and this page opens no more.`;
 
 /**
  * Why an address with the name of a lesson that there isn't is not opened.
@@ -90,7 +98,7 @@ export async function packed(text) {
 }
 
 /**
- * The text again.
+ * The text again. It is unpacked piece by piece, since a short address may have a very long one.
  *
  * @param {string} letters
  */
@@ -100,5 +108,16 @@ export async function unpacked(letters) {
         (letter) => letter.charCodeAt(0),
     );
     const stream = new Blob([octets]).stream().pipeThrough(new DecompressionStream("deflate-raw"));
-    return new Response(stream).text();
+    const reader = stream.getReader();
+    /** @type {Uint8Array[]} */
+    const pieces = [];
+    let left = MOST_READ;
+    for (let it = await reader.read(); !it.done; it = await reader.read()) {
+        left -= it.value.length;
+        pieces.push(it.value);
+        if (left >= 0) continue;
+        await reader.cancel();
+        throw new TooLong();
+    }
+    return new TextDecoder().decode(joined(pieces));
 }

@@ -5,6 +5,7 @@ import { test } from "node:test";
 
 import { faultOf, wrongLine } from "../faults.js";
 import { stopsOfFlow, stopsWith } from "../follow.js";
+import { MOST_READ } from "../octets.js";
 import { headComment, readInput } from "../script.js";
 import { sentenceOf } from "../sentences.js";
 import { fragment, noLesson, packed, placeIn, unpacked } from "../share.js";
@@ -314,6 +315,9 @@ test("an address brings the same text, step and view elsewhere", { skip: old }, 
     const whole = await fragment({ ...place, text });
     assert.equal(await placeIn(whole.slice(0, whole.indexOf("&") - 9)), "cut");
     assert.equal(await placeIn("#s=not-deflated"), "cut");
+    const [most, more] = await Promise.all([MOST_READ, 2 * MOST_READ].map((count) => packed("a".repeat(count))));
+    assert.equal((await unpacked(most)).length, MOST_READ);
+    assert.equal(await placeIn(`#s=${more}`), "long");
     assert.equal(await placeIn("#e=%E0%A4"), "cut");
     assert(noLesson("late-seventies-x", exampleNames()).includes("Is `arpanet-of-the-late-seventies` meant?"));
     assert(noLesson("lo-of-logn", exampleNames()).includes("Is `lo-of-login` meant?"));

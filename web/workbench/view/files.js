@@ -1,5 +1,6 @@
 /** Files: the script is saved as one, and another one is opened. */
 
+import { MOST_READ } from "../octets.js";
 import { h } from "./dom.js";
 
 /**
@@ -22,6 +23,7 @@ export function saveText(text, name, type = "text/plain") {
  * @returns {Promise<string | {why: string}>}
  */
 export async function textOfFile(file) {
+    if (file.size > MOST_READ) return { why: `has ${file.size} octets, and this page opens at most ${MOST_READ}: arpasim itself reads it.` };
     const octets = await file.arrayBuffer().catch(() => null);
     if (!octets) return { why: "can't be read: it is a folder, or has changed or gone since it was chosen." };
     try {
