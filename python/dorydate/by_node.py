@@ -74,7 +74,8 @@ class Served:
         last = time.monotonic() + seconds
         requests, _ = self.pipes()
         try:
-            requests.write(json.dumps({"words": [*options], "octets": len(octets), "most": MOST_PRINTED}).encode() + b"\n" + octets)
+            asked = {"words": [*options], "octets": len(octets), "most": MOST_PRINTED}
+            requests.write(json.dumps(asked).encode() + b"\n" + octets)
             requests.flush()
         except BrokenPipeError:
             raise self.ended() from None

@@ -41,14 +41,15 @@ class Programs(unittest.TestCase):
             found().run(text.encode(), seconds=0.3)
 
     def test_limit_of_octets(self) -> None:
-        """A stranger that floods a host with ECO and takes no answer: each line of the trace has all commands that wait."""
+        """A stranger that floods a host with ECO and takes no answer: each line of the trace has all that wait."""
         ecos = f"out 2/1 0/1 0 1000 000800780009{'4109' * 59}41\ncalm 1\ntake 2/1\n"
         head = 'carrier = "plain"\n[[imp]]\nid = 1\nhosts = 3\nforeign = [2]\n%\n'
         flood = f"{head}out 2/1 0/1 0 48 00080001000C\ncalm 2\ntake 2/1\ntake 2/1\n{20 * ecos}".encode()
         printed = len(found().run(flood, "--trace").output)
         self.assertGreater(printed, 300_000)
         for run in (lambda: found().run(flood, "--trace"), lambda: found().run_by_pipes(flood, ["--trace"], 60.0)):
-            with mock.patch("dorydate.program.MOST_PRINTED", printed - 1), self.assertRaisesRegex(PrintedTooMuch, f"than {printed - 1} octets"):
+            most, words = printed - 1, f"than {printed - 1} octets"
+            with mock.patch("dorydate.program.MOST_PRINTED", most), self.assertRaisesRegex(PrintedTooMuch, words):
                 run()
             with mock.patch("dorydate.program.MOST_PRINTED", printed):
                 self.assertEqual(len(run().output), printed)

@@ -61,12 +61,13 @@ def kept_program() -> Program | None:
 
 
 def ran(program: Program, octets: bytes, *options: str) -> Ran:
-    """A run to its end. In a network with strangers a calm may have billions of rounds that pass, so such a run is stopped in time."""
+    """A run to its end. Among strangers a calm may have billions of rounds that pass, so such a run is stopped in time."""
     calm = LONG_CALM.search(octets)
     try:
         return program.run(octets, *options, seconds=SECONDS if calm else UNLIMITED)
     except TookTooLong as why:
-        said = f"; all rounds of `{calm[1].decode()}` pass while something waits for a stranger: give it fewer" if calm else ""
+        passing = "pass while something waits for a stranger: give it fewer"
+        said = f"; all rounds of `{calm[1].decode()}` {passing}" if calm else ""
         raise CannotTell(f"{why}{said}") from None
 
 
