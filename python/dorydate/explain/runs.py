@@ -61,7 +61,7 @@ def kept_program() -> Program | None:
 
 
 def ran(program: Program, octets: bytes, *options: str) -> Ran:
-    """A run to its end. Among strangers a calm may have billions of rounds that pass, so such a run is stopped in time."""
+    """A run to its end. Among strangers a calm may have billions of rounds that pass: such a run is stopped."""
     calm = LONG_CALM.search(octets)
     try:
         return program.run(octets, *options, seconds=SECONDS if calm else UNLIMITED)
