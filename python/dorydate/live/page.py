@@ -35,9 +35,9 @@ class Refused(Exception):
 
 def followed(page: str) -> str:
     """The workbench that follows a session."""
-    if page.count(POLICY) != 1 or page.count(HEAD) != 1:
+    if page.count(POLICY) != 1 or HEAD not in page:
         raise Ended("the page can't be made to follow a session")
-    return page.replace(POLICY, FOLLOWS).replace(HEAD, HEAD + LIVE)
+    return page.replace(POLICY, FOLLOWS).replace(HEAD, HEAD + LIVE, 1)  # (slides have a head of their own)
 
 
 def message(kind: str, text: str) -> bytes:
