@@ -6,6 +6,7 @@ import os
 import re
 import unittest
 from collections.abc import Callable
+from functools import partial
 from unittest import mock
 
 from dorydate import BadNetwork, Network, Replay, Stopped
@@ -47,7 +48,7 @@ class Programs(unittest.TestCase):
         flood = f"{head}out 2/1 0/1 0 48 00080001000C\ncalm 2\ntake 2/1\ntake 2/1\n{20 * ecos}".encode()
         printed = len(found().run(flood, "--trace").output)
         self.assertGreater(printed, 300_000)
-        for run in (lambda: found().run(flood, "--trace"), lambda: found().run_by_pipes(flood, ["--trace"], 60.0)):
+        for run in (partial(found().run, flood, "--trace"), partial(found().run_by_pipes, flood, ["--trace"], 60.0)):
             most, words = printed - 1, f"than {printed - 1} octets"
             with mock.patch("dorydate.program.MOST_PRINTED", most), self.assertRaisesRegex(PrintedTooMuch, words):
                 run()
