@@ -80,8 +80,8 @@ class Case:
             raise Wrong(f"{name}: an input that is refused prints nothing")
         return Case(name, octets, octets_of(path + ".args"), printed, words, int(octets_of(path + ".status") or 0))
 
-    def differs(self, program: str) -> str | None:
-        """How what comes of the case differs from what is stored, or None."""
+    def differs(self, program: str, may_help: bool = False) -> str | None:
+        """How what comes of the case differs from what is stored, or None. A form that `may_help` says more after a fault."""
         words = [os.fsencode(program), *(self.args or b"").splitlines()]
         try:
             ran = subprocess.run(words, input=self.octets, capture_output=True, timeout=SECONDS)
@@ -89,7 +89,9 @@ class Case:
             return f"it had not ended after {SECONDS} seconds"
         if ran.returncode != self.status:
             return f"status {ran.returncode}, wanted {self.status}"
-        if ran.stderr.decode(errors="backslashreplace") != self.words:
+        fault, end, help_ = ran.stderr.decode(errors="backslashreplace").partition("\n")
+        helps = may_help and all(it.startswith("arpasim: ") for it in help_.splitlines())
+        if fault + end != self.words or help_ and not helps:
             return f"standard error: {ran.stderr!r}, wanted {self.words!r}"
         if ran.stdout == self.printed:
             return None

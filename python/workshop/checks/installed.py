@@ -22,10 +22,10 @@ from workshop.wasm import pack
 
 
 def check_examples(what: str, program: str) -> int:
-    """Every example has to end as stored. How many there are."""
+    """Every example has to end as stored, but that a form may say after a fault what helps. How many there are."""
     cases = [*cases_below(f"{ROOT}/examples")]
     for case in cases:
-        if how := case.differs(program):
+        if how := case.differs(program, may_help=True):
             raise Wrong(f"{what}: {case.name}: {how}")
     print(f"check release: {what}: {len(cases)} examples, each as stored", flush=True)
     return len(cases)
