@@ -29,91 +29,91 @@ def said(line: int, *changes: tuple[str, str]) -> dict[str, str]:
 
 class OfBooks(unittest.TestCase):
     def test_list(self) -> None:
-        self.assertEqual([it.split(":")[0] for it in said_of(book(), None)], ["line 10", "line 11", "line 7"])
+        self.assertEqual([it.split(":")[0] for it in said_of(book(), None)], ["line 13", "line 14", "line 10"])
 
     def test_receiver(self) -> None:
-        clauses = said(10)
+        clauses = said(13)
         bits = clauses["promise.formed.bits"]
-        self.assertRegex(bits, "^The RTS names link 5. Its 16 bits .* the first 1 message .*: line 8.$")
-        self.assertIn("of the life of line 11, whose partner's is its own", clauses["promise.safe.partners"])
+        self.assertRegex(bits, "^The RTS names link 5. Its 16 bits .* the first 1 message .*: line 11.$")
+        self.assertIn("of the life of line 14, whose partner's is its own", clauses["promise.safe.partners"])
         self.assertEqual(clauses["arrived.all"], "It is open, and counts all 1 message that came in on its link.")
 
     def test_message(self) -> None:
-        clauses = said(7)
-        self.assertIn("Its host got RFNM in line 9", clauses["promise.safe.messages.answered"])
-        self.assertIn("message 1 of the life of line 10", clauses["arrived.answered.arrived"])
-        self.assertEqual(said(8), clauses)
+        clauses = said(10)
+        self.assertIn("Its host got RFNM in line 12", clauses["promise.safe.messages.answered"])
+        self.assertIn("message 1 of the life of line 13", clauses["arrived.answered.arrived"])
+        self.assertEqual(said(11), clauses)
 
     def test_a_receiver_that_has_closed(self) -> None:
         changes = ("receive 1 16 1 100 0 0 open 4849", "receive 0 0 1 100 0 0 open -")
-        self.assertIn("a user of its host has closed it", said(7, changes)["arrived.answered.arrived"])
-        self.assertIn("0 messages of the 1 that came in", said(10, changes)["arrived.all"])
+        self.assertIn("a user of its host has closed it", said(10, changes)["arrived.answered.arrived"])
+        self.assertIn("0 messages of the 1 that came in", said(13, changes)["arrived.all"])
 
     def test_a_loss(self) -> None:
         lost = ("receive 1 16 1 100 0 0 open 4849", "receive 0 0 1 100 0 0 ended -")
         closed = ("send 1 16 0 0 0 0 open", "send 1 16 0 0 0 0 closed")
-        self.assertIn("it lacks some", said(10, lost, closed)["whole"])
+        self.assertIn("it lacks some", said(13, lost, closed)["whole"])
 
     def test_a_partner_that_has_closed(self) -> None:
         cls = "0008000900030000002100000010"
         crossed = f"out 0/2 0/1 0 112 {cls}\nin 0/2 0/1 0 112 {cls}\nanswer rfnm 0/2 0/1 0"
         closing = ("life 0/1 16", f"{crossed}\nlife 0/1 16")
-        self.assertIn("it has the 16 bits that the life of line 14 sent", said(13, closing)["arrived.closed"])
+        self.assertIn("it has the 16 bits that the life of line 17 sent", said(16, closing)["arrived.closed"])
         fewer = ("receive 1 16 1 100 0 0 open 4849", "receive 0 0 1 100 0 0 open -")
-        self.assertIn("so a user of its host has closed it", said(13, closing, fewer)["arrived.closed"])
-        self.assertRegex(said(10)["arrived.closed"], "^Only once its partner's CLS has come")
+        self.assertIn("so a user of its host has closed it", said(16, closing, fewer)["arrived.closed"])
+        self.assertRegex(said(13)["arrived.closed"], "^Only once its partner's CLS has come")
 
     def test_fates(self) -> None:
         reset = ("life 0/1 16", "out 0/1 0/2 0 48 00080001000C\nlife 0/1 16")
-        self.assertIn("leaves it no such fate", said(11, reset)["over"])
-        words = said(11, reset, ("100 0 0 open", "100 0 0 reset"))["over"]
-        self.assertRegex(words, "^It is reset: it began in line 5, and in line 10 an RST crossed, .* of 0/1 with 0/2 were dropped.$")
-        self.assertIn("by a contact with 0/2", said(10, ("100 0 0 open", "100 0 0 reset"))["over"])
+        self.assertIn("leaves it no such fate", said(14, reset)["over"])
+        words = said(14, reset, ("100 0 0 open", "100 0 0 reset"))["over"]
+        self.assertRegex(words, "^It is reset: it began in line 5, and in line 13 an RST crossed, .* of 0/1 with 0/2 were dropped.$")
+        self.assertIn("by a contact with 0/2", said(13, ("100 0 0 open", "100 0 0 reset"))["over"])
         down = ("life 0/1 16", "down 0/1\nlife 0/1 16")
-        self.assertIn("0/1 stopped in line 10", said(11, down, ("100 0 0 open", "100 0 0 stopped"))["over"])
+        self.assertIn("0/1 stopped in line 13", said(14, down, ("100 0 0 open", "100 0 0 stopped"))["over"])
 
     def test_what_a_life_counts(self) -> None:
-        self.assertEqual(said(11)["within"], "Nothing that crossed has ended it.")
+        self.assertEqual(said(14)["within"], "Nothing that crossed has ended it.")
         ended = ("life 0/1 16", "down 0/2\nlife 0/1 16"), ("0 0 0 0 open", "0 0 0 0 stopped")
-        clauses = said(12, *ended)
-        self.assertEqual(clauses["within"], "What ended it crossed in line 10, after all that it counts: 1 message.")
-        self.assertEqual(said(11, *ended)["within"], "Nothing that crossed has ended it.")
+        clauses = said(15, *ended)
+        self.assertEqual(clauses["within"], "What ended it crossed in line 13, after all that it counts: 1 message.")
+        self.assertEqual(said(14, *ended)["within"], "Nothing that crossed has ended it.")
         data = "out 0/2 0/1 5"
         late = (data, f"down 0/2\nup 0/2\n{data}"), ("0 0 0 0 open", "0 0 0 0 stopped")
-        words = "What ended it crossed in line 7, and it counts what crossed later, in line 9."
-        self.assertEqual(said(13, *late)["within"], words)
-        contact = said(10, ("1 100 0 0 open", "1 100 0 0 reset"))
+        words = "What ended it crossed in line 10, and it counts what crossed later, in line 12."
+        self.assertEqual(said(16, *late)["within"], words)
+        contact = said(13, ("1 100 0 0 open", "1 100 0 0 reset"))
         self.assertEqual(contact["within"], "A contact ended it, which doesn't cross: after it nothing is counted.")
 
     def test_message_by_message(self) -> None:
         """What was counted went out as the partner's message of that number, or not."""
-        self.assertEqual(said(10)["sent"], "What it counts went out in line 7: the first 1 message of the life of line 11.")
-        self.assertNotIn("sent", said(11))
+        self.assertEqual(said(13)["sent"], "What it counts went out in line 10: the first 1 message of the life of line 14.")
+        self.assertNotIn("sent", said(14))
         twice = ("in 0/2 0/1 5 56 00080002004849\n", 2 * "in 0/2 0/1 5 56 00080002004849\n"), ("1 16 1 100 0 0 open 4849", "2 32 1 100 0 0 open 48494849")
-        words = "Message 2 of those that it counts, of line 9, isn't message 2 of a life that it matches."
-        self.assertEqual(said(11, *twice)["sent"], words)
+        words = "Message 2 of those that it counts, of line 12, isn't message 2 of a life that it matches."
+        self.assertEqual(said(14, *twice)["sent"], words)
         unsent = ("1 16 0 0 0 0 open 4849", "0 0 0 0 0 0 open -")
-        self.assertRegex(said(10, unsent)["sent"], "^Message 1 .*, of line 8, isn't message 1 of a life that it matches.$")
+        self.assertRegex(said(13, unsent)["sent"], "^Message 1 .*, of line 11, isn't message 1 of a life that it matches.$")
         fewer = ("receive 1 16 1 100 0 0 open 4849", "receive 0 0 1 100 0 0 open -")
-        self.assertEqual(said(10, fewer)["sent"], "It counts no message.")
+        self.assertEqual(said(13, fewer)["sent"], "It counts no message.")
 
     def test_contacts(self) -> None:
-        self.assertRegex(said(7)["contacts"], "^It isn't just an RST, .* with 0/1 since 0/2 last sent there")
+        self.assertRegex(said(10)["contacts"], "^It isn't just an RST, .* with 0/1 since 0/2 last sent there")
         reset = ("life 0/1 16", "out 0/1 0/2 0 48 00080001000C\nlife 0/1 16")
-        self.assertRegex(said(10, reset)["contacts"], "^It is an RST, .* a user of 0/1 may have contacted 0/2 before.$")
+        self.assertRegex(said(13, reset)["contacts"], "^It is an RST, .* a user of 0/1 may have contacted 0/2 before.$")
         two = ("life 0/1 16", "out 0/1 0/2 0 56 00080002000C0C\nlife 0/1 16")
-        self.assertRegex(said(10, two)["contacts"], "^It isn't just an RST, ")
+        self.assertRegex(said(13, two)["contacts"], "^It isn't just an RST, ")
 
     def test_other_bits(self) -> None:
-        clauses = said(10, ("100 0 0 open 4849", "100 0 0 open 4848"))
+        clauses = said(13, ("100 0 0 open 4849", "100 0 0 open 4848"))
         self.assertEqual(clauses["promise.formed"], "It isn't made of messages that crossed.")
 
     def test_no_rfnm(self) -> None:
-        clauses = said(7, ("answer rfnm 0/2 0/1 5", "answer incomplete 0/2 0/1 5"))
+        clauses = said(10, ("answer rfnm 0/2 0/1 5", "answer incomplete 0/2 0/1 5"))
         self.assertEqual(clauses["arrived.answered.arrived"], "Only RFNM means that data have arrived.")
 
     def test_no_such_line(self) -> None:
-        for line in (0, 9, 12, 99):
+        for line in (0, 12, 15, 99):
             self.assertRaises(NoSuchLine, said_of, book(), line)
 
 

@@ -241,8 +241,8 @@ class OfLogs(unittest.TestCase):
 
     def test_other_bits(self) -> None:
         found = self.broken(("100 0 0 open 4849", "100 0 0 open 4848"))
-        self.assertEqual(found["promise.formed"], ("x: line 10", "Some(16 bits 4849) isn't Some(16 bits 4848)"))
-        self.assertEqual(found["promise.safe.streams.source"], ("receiver: line 10",))
+        self.assertEqual(found["promise.formed"], ("x: line 13", "Some(16 bits 4849) isn't Some(16 bits 4848)"))
+        self.assertEqual(found["promise.safe.streams.source"], ("receiver: line 13",))
 
     def test_a_sender_that_is_there_twice(self) -> None:
         life = next(it for it in changed().decode().split("\n") if "send" in it)
@@ -255,7 +255,7 @@ class OfLogs(unittest.TestCase):
     def test_more_than_was_granted(self) -> None:
         self.assertEqual(
             self.broken(("1 100 0 0", "1 15 0 0"))["promise.safe.grants.taken"],
-            ("receiver: line 10", "16 is more than 15"),
+            ("receiver: line 13", "16 is more than 15"),
         )
 
     def test_a_message_of_before_a_reset(self) -> None:
@@ -271,7 +271,7 @@ class OfLogs(unittest.TestCase):
     def test_a_fate_that_nothing_leaves(self) -> None:
         self.assertEqual(
             self.broken(("receive 1 16 1 100 0 0 open", "receive 1 16 1 100 0 0 stopped"))["over"],
-            ("x: line 10", "f: Stopped"),
+            ("x: line 13", "f: Stopped"),
         )
 
     def test_strangers(self) -> None:

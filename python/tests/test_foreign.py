@@ -31,19 +31,20 @@ class Foreign(unittest.TestCase):
 
     def test_what_a_program_leaves_out_is_found(self) -> None:
         wanted = {
-            3: "kept",  # an answer: no later message on this link wants it
-            7: "broken grants lines 10 11",
-            10: "broken streams line 11",
-            12: "broken streams lines 10 11",
-            13: "broken run line 8\nbroken lives line 9\nbroken messages line 8",
+            3: "broken run line 6",  # an answer: the ALL goes out on this link before it
+            9: "broken grants lines 13 14",
+            12: "kept",  # an answer: no later message on this link wants it
+            13: "broken streams line 14",
+            15: "broken streams lines 13 14",
+            16: "broken run line 11\nbroken lives line 12\nbroken messages line 11",
         }
         found = {lacking: says(written(lacking).encode()) for lacking in wanted}
         self.assertEqual(found, wanted)
 
     def test_how_lives_end(self) -> None:
-        fates = "broken fates line 10\nsafe"  # the trace has no CLS and no stop
+        fates = "broken fates line 13\nsafe"  # the trace has no CLS and no stop
         closes, over = [{"host": "0/2", "socket": 33, "closes": True}], [{"host": "0/1", "socket": 16, "over": "cls"}, {"host": "0/2", "socket": 33, "over": "cls"}]
-        self.assertEqual(ended([*closes, *over]), (["ended", "closed"], f"broken closes lines 10 11\n{fates}"))
+        self.assertEqual(ended([*closes, *over]), (["ended", "closed"], f"broken closes lines 13 14\n{fates}"))
         self.assertEqual(ended([{"host": "0/1", "socket": 16, "closes": True}, *over]), (["closed", "ended"], fates))
         self.assertEqual(ended([{**over[0], "over": "stopped"}, {**over[1], "over": "reset"}]), (["stopped", "reset"], fates))
         self.assertEqual(ended(closes), (["open", "open"], "kept"))

@@ -138,8 +138,8 @@ BAD_TOPOLOGIES = [
 # the line of logs/two-octets that is changed (0 for one put before its first), what is there then, and words of the cause
 BAD_LOG_LINES = [
     (3, b"answer RFNM 0/1 0/2 0", "`RFNM` is none of rfnm, dead, incomplete, nottaken. Is `rfnm` meant? The form is `answer rfnm|dead|incomplete|nottaken S D N`."),
-    (7, b"out 0/2 0/1 5 56 0008000200484", "56 bits fill 7 octets, which are 14 hexadecimal digits. This line has 13, for 52 bits. The form is `out S D N BITS OCTETS`."),
-    (7, b"out 0/2 0/1 5 56 00080002004849\r", "carriage return at its end"),
+    (10, b"out 0/2 0/1 5 56 0008000200484", "56 bits fill 7 octets, which are 14 hexadecimal digits. This line has 13, for 52 bits. The form is `out S D N BITS OCTETS`."),
+    (10, b"out 0/2 0/1 5 56 00080002004849\r", "carriage return at its end"),
     (1, b"# my network", "A log has no comments"),
     (1, b"# my network\nraw = true\n%", "This is an input and not a log, since a line is `%`. `./arpasim --log < FILE` prints the log of its replay."),
     (1, b"", "A log has no empty lines"),
@@ -156,12 +156,12 @@ BAD_LOG_LINES = [
     (1, b"in 0/1 0/2 5 8064 " + b"FF" * 1008, "the number of bits is 0 to 8063"),
     (1, b"down 0/64", "the IMP's number is 1 to 63. The form is `down H`."),
     (1, b"up\t0/1", "not printable ASCII"),
-    (10, b"life 0/1 16 0/2 33 0 4 receive 1 16 1 100 0 0 OPEN 4849", "`OPEN` is none of open, closed, ended, reset, stopped. Is `open` meant?"),
-    (10, b"life 0/1 16 0/2 33 0 4 receive 1 016 1 100 0 0 open 4849", "`016` can't be read as a number"),
-    (10, b"life 0/1 16 0/2 33 0 4 send 1 16 1 100 0 0 open 4849", "Socket 16 is even and receives"),
-    (10, b"life 0/1 4294967296 0/2 33 0 4 receive 1 16 1 100 0 0 open 4849", "out of range: the socket is 0 to 4294967295"),
-    (10, b"life 0/1 16 0/2 33 18446744073709551616 4 receive 1 16 1 100 0 0 open 4849", "it is a number of 64 bits"),
-    (10, b"life 0/1 16 0/2 33 0 4 receive 1 16 1 100 0 0 close 4849", "`close` is none of open, closed, ended, reset, stopped. Is `closed` meant?"),
+    (13, b"life 0/1 16 0/2 33 0 4 receive 1 16 1 100 0 0 OPEN 4849", "`OPEN` is none of open, closed, ended, reset, stopped. Is `open` meant?"),
+    (13, b"life 0/1 16 0/2 33 0 4 receive 1 016 1 100 0 0 open 4849", "`016` can't be read as a number"),
+    (13, b"life 0/1 16 0/2 33 0 4 send 1 16 1 100 0 0 open 4849", "Socket 16 is even and receives"),
+    (13, b"life 0/1 4294967296 0/2 33 0 4 receive 1 16 1 100 0 0 open 4849", "out of range: the socket is 0 to 4294967295"),
+    (13, b"life 0/1 16 0/2 33 18446744073709551616 4 receive 1 16 1 100 0 0 open 4849", "it is a number of 64 bits"),
+    (13, b"life 0/1 16 0/2 33 0 4 receive 1 16 1 100 0 0 close 4849", "`close` is none of open, closed, ended, reset, stopped. Is `closed` meant?"),
     (1, b"foreign 0/64", "the IMP's number is 1 to 63. The form is `foreign H`."),
     (1, b"foreign 0/1 0/2", "It has 2 words after `foreign`, and 1 is needed. The form is `foreign H`."),
     (1, b"Foreign 0/1", "Is `foreign` meant?"),
@@ -171,27 +171,27 @@ BAD_LOG_LINES = [
         "It is one of the strangers, and follows crossings. A log has all crossings first, then all lives, then a `handed` "
         "for each life, then `end`. Before all of them",
     ),
-    (11, b"up 0/1", "It is one of the crossings, and follows lives"),
-    (13, b"handed 24 48", "24 bits fill 3 octets"),
-    (13, b"end", "It follows `end`, and nothing may."),
-    (14, b"end of it", "It has 2 words after `end`, and 0 are needed. The form is `end`."),
+    (14, b"up 0/1", "It is one of the crossings, and follows lives"),
+    (16, b"handed 24 48", "24 bits fill 3 octets"),
+    (16, b"end", "It follows `end`, and nothing may."),
+    (17, b"end of it", "It has 2 words after `end`, and 0 are needed. The form is `end`."),
 ]
 # ends of that log, in place of its own, and words of the cause
 BAD_LOG_ENDS = [(b"", "Its last line has to be `end`"), (b"end", "It isn't ended by a line feed"), (b"end\nend\n", "It follows `end`")]
-FATES_10, FATES_11 = "broken fates line 10", "broken fates line 11"
-SAFE_10, SAFE_11 = f"{FATES_10}\nsafe", f"{FATES_11}\nsafe"
+FATES_13, FATES_14 = "broken fates line 13", "broken fates line 14"
+SAFE_13, SAFE_14 = f"{FATES_13}\nsafe", f"{FATES_14}\nsafe"
 RST = b"out 0/1 0/2 0 48 00080001000C"
 DROPPED = [  # crossings that drop connections, and words of the cause
-    (9, b"rfnm", b"incomplete", "0/2 dropped its connections with 0/1 in line 9, where a message of its host failed."),
-    (9, b"1 5", b"1 5\n" + RST, "0/1 dropped its connections with 0/2 in line 10, where RST went out."),
+    (12, b"rfnm", b"incomplete", "0/2 dropped its connections with 0/1 in line 12, where a message of its host failed."),
+    (12, b"1 5", b"1 5\n" + RST, "0/1 dropped its connections with 0/2 in line 13, where RST went out."),
 ]
 
 
 def contacted(one: str, other: str) -> list[tuple[int, bytes, bytes, str, str]]:
     """A second life of the first one's host and peer, the two with these fates, of which one is `reset`."""
     more = f"{one} 4849\nlife 0/1 16 0/2 33 0 4 receive 0 0 1 100 0 0 {other} -".encode()
-    words = f"Line 10 says `{one}`, and this one `{other}`. Both are lives of 0/1 with 0/2"
-    return [(10, b"open 4849", more, f"malformed line 12\n{FATES_11}", words)]
+    words = f"Line 13 says `{one}`, and this one `{other}`. Both are lives of 0/1 with 0/2"
+    return [(13, b"open 4849", more, f"malformed line 15\n{FATES_14}", words)]
 
 
 TOOK = b"life 0/1 16 0/2 33 0 4 receive 1 16 1 100 0 0 open 4849"
@@ -201,54 +201,54 @@ def stopped(one: str, other: str, which: str, rest: str) -> list[tuple[int, byte
     """Their host stops, and of the two lives one is `reset`."""
     second = TOOK.replace(b"1 16 1 100 0 0 open 4849", f"0 0 1 100 0 0 {other} -".encode())
     lives = TOOK.replace(b"open", one.encode()), second
-    words = f"Nothing that crossed has reset {which}, so a contact did before 0/1 stopped in line 10."
-    spared = f"So {rest} is `reset`, too: it wasn't over before line 10."
-    verdict = "malformed line 13\nbroken fates line 12"
-    return [(10, TOOK, b"down 0/1\n" + b"\n".join(lives), verdict, it) for it in (words, spared)]
+    words = f"Nothing that crossed has reset {which}, so a contact did before 0/1 stopped in line 13."
+    spared = f"So {rest} is `reset`, too: it wasn't over before line 13."
+    verdict = "malformed line 16\nbroken fates line 15"
+    return [(13, TOOK, b"down 0/1\n" + b"\n".join(lives), verdict, it) for it in (words, spared)]
 
 
 BrokenLog = tuple[int, bytes, bytes, str, str]
 # what is changed in a line of that log, the verdict, and words of what is said of the two lines
 BROKEN_LOGS: list[BrokenLog] = [
-    (10, b"4849", b"4848", "broken lives line 10\nbroken streams lines 10 11", "Line 10 took what line 11 didn't send: at octet 2 what was taken has 48, and what was sent has 49."),
-    (13, b"24 484950", b"8 48", "broken streams line 11", "what wasn't handed over in line 13: what was sent has 16 bits, and what was handed over has 8."),
-    (11, b"0/1 16 3", b"0/1 18 3", "broken lives line 11\nbroken streams line 10", "It took 16 bits, and no life matches it. That would be one of host 0/2, socket 33"),
-    (10, b"100", b"15", "broken grants lines 10 11", "at most 1 with 15 bits may pass. But line 10 took 1 message with 16 bits and line 11 sent 1 message with 16 bits."),
-    (10, b"0 0 open", b"0 85 open", "broken grants lines 10 11", "had 0 and 85 back: at most 1 with 15 bits may pass"),
-    (10, b"open", b"ended", "broken closes lines 10 11\n" + SAFE_10, "all that was handed over in line 13, but octet 3 of what was handed over, 50, was not taken: what was taken has 16 bits, and what was handed over has 24."),
-    (10, b"1 16 1 100 0 0 open 4849", b"1 8 1 100 0 0 ended 48", "broken lives line 10\nbroken closes lines 10 11\n" + FATES_10, "all that line 11 sent, but octet 2 of what was sent, 49, was not taken: what was taken has 8 bits, and what was sent has 16."),
-    (10, b"0 0 open 4849", b"0 0 ended 4841", "broken lives line 10\nbroken streams lines 10 11\nbroken closes lines 10 11\n" + FATES_10, "So it took all that line 11 sent, but at octet 2 what was taken has 41, and what was sent has 49."),
-    (10, b"receive 1 16 1 100 0 0 open", b"receive 0 16 1 100 0 0 ended", "broken lives line 10\nbroken closes lines 10 11\n" + FATES_10, "all that line 11 sent, but it counts 0 messages, and line 11 1."),
-    (10, b"33 0 4", b"33 0 3", "broken lives line 10\nmalformed line 10", "Its PARTNER is 3, and at place 3 (line 4) is `out 0/2 0/1 0`."),
-    (10, b"33 0 4", b"33 99 4", "broken lives line 10\nmalformed line 10", "Its OWN is 99, and the log has 9 crossings only."),
-    (13, b"handed 24 484950\n", b"", "malformed line 11", "There are 2 lives and 1 list of what was handed over: this life has none."),
-    (8, b"49\n", b"48\n", "broken run line 8\nbroken lives line 10\nbroken messages line 8", "It isn't what went out in line 7: at octet 7 what was taken has 48, and what went out has 49."),
-    (8, b"49\n", b"48\n", "broken run line 8\nbroken lives line 10\nbroken messages line 8", "Another text waits on the flow 0/2 0/1 5, that of line 7: at octet 7 what was taken has 48, and what went out has 49."),
-    (9, b"answer", b"in 0/2 0/1 5 56 00080002004849\nanswer", "broken run line 9\nbroken messages line 9", "The message of line 7 was taken already in line 8."),
-    (8, b"in 0/2 0/1 5 56 00080002004849\n", b"", "broken run line 8\nbroken lives line 9\nbroken messages line 8", "The last message of the flow 0/2 0/1 5 went out in line 7, and no line since then says that it was taken"),
-    (8, b"0/1 5", b"0/1 6", "broken run line 8\nbroken lives line 10\nbroken messages line 8", "No message of the flow 0/2 0/1 6 went out before it."),
-    (9, b"rfnm", b"dead", "broken run line 9\n" + FATES_11, "The message of line 7, of the flow 0/2 0/1 5, was taken already, in line 8."),
-    (9, b"rfnm 0/2 0/1 5", b"dead 0/2 0/1 6", "broken run line 9\n" + FATES_11, "No message of the flow 0/2 0/1 6 is outstanding."),
-    (8, b"in 0/2 0/1 5 56 00080002004849", b"out 0/2 0/1 5 0 -", "broken run line 8\nbroken lives line 10\nbroken messages line 9", "The last message of the flow 0/2 0/1 5, in line 7, has no answer yet, and one may be outstanding."),
-    (9, b"answer rfnm 0/2 0/1 5", b"up 0/1", "broken run line 9", "Host 0/1 is up already."),
-    (7, b"out", b"down 0/2\nout", "broken run line 8\nbroken lives line 12\nbroken fates line 12", "Host 0/2 is down."),
-    (7, b"out", b"down 0/2\nout", "broken run line 8\nbroken lives line 12", "It counts none that crossed after that."),
+    (13, b"4849", b"4848", "broken lives line 13\nbroken streams lines 13 14", "Line 13 took what line 14 didn't send: at octet 2 what was taken has 48, and what was sent has 49."),
+    (16, b"24 484950", b"8 48", "broken streams line 14", "what wasn't handed over in line 16: what was sent has 16 bits, and what was handed over has 8."),
+    (14, b"0/1 16 3", b"0/1 18 3", "broken lives line 14\nbroken streams line 13", "It took 16 bits, and no life matches it. That would be one of host 0/2, socket 33"),
+    (13, b"100", b"15", "broken grants lines 13 14", "at most 1 with 15 bits may pass. But line 13 took 1 message with 16 bits and line 14 sent 1 message with 16 bits."),
+    (13, b"0 0 open", b"0 85 open", "broken grants lines 13 14", "had 0 and 85 back: at most 1 with 15 bits may pass"),
+    (13, b"open", b"ended", "broken closes lines 13 14\n" + SAFE_13, "all that was handed over in line 16, but octet 3 of what was handed over, 50, was not taken: what was taken has 16 bits, and what was handed over has 24."),
+    (13, b"1 16 1 100 0 0 open 4849", b"1 8 1 100 0 0 ended 48", "broken lives line 13\nbroken closes lines 13 14\n" + FATES_13, "all that line 14 sent, but octet 2 of what was sent, 49, was not taken: what was taken has 8 bits, and what was sent has 16."),
+    (13, b"0 0 open 4849", b"0 0 ended 4841", "broken lives line 13\nbroken streams lines 13 14\nbroken closes lines 13 14\n" + FATES_13, "So it took all that line 14 sent, but at octet 2 what was taken has 41, and what was sent has 49."),
+    (13, b"receive 1 16 1 100 0 0 open", b"receive 0 16 1 100 0 0 ended", "broken lives line 13\nbroken closes lines 13 14\n" + FATES_13, "all that line 14 sent, but it counts 0 messages, and line 14 1."),
+    (13, b"33 0 4", b"33 0 3", "broken lives line 13\nmalformed line 13", "Its PARTNER is 3, and at place 3 (line 4) is `out 0/2 0/1 0`."),
+    (13, b"33 0 4", b"33 99 4", "broken lives line 13\nmalformed line 13", "Its OWN is 99, and the log has 12 crossings only."),
+    (16, b"handed 24 484950\n", b"", "malformed line 14", "There are 2 lives and 1 list of what was handed over: this life has none."),
+    (11, b"49\n", b"48\n", "broken run line 11\nbroken lives line 13\nbroken messages line 11", "It isn't what went out in line 10: at octet 7 what was taken has 48, and what went out has 49."),
+    (11, b"49\n", b"48\n", "broken run line 11\nbroken lives line 13\nbroken messages line 11", "Another text waits on the flow 0/2 0/1 5, that of line 10: at octet 7 what was taken has 48, and what went out has 49."),
+    (12, b"answer", b"in 0/2 0/1 5 56 00080002004849\nanswer", "broken run line 12\nbroken messages line 12", "The message of line 10 was taken already in line 11."),
+    (11, b"in 0/2 0/1 5 56 00080002004849\n", b"", "broken run line 11\nbroken lives line 12\nbroken messages line 11", "The last message of the flow 0/2 0/1 5 went out in line 10, and no line since then says that it was taken"),
+    (11, b"0/1 5", b"0/1 6", "broken run line 11\nbroken lives line 13\nbroken messages line 11", "No message of the flow 0/2 0/1 6 went out before it."),
+    (12, b"rfnm", b"dead", "broken run line 12\n" + FATES_14, "The message of line 10, of the flow 0/2 0/1 5, was taken already, in line 11."),
+    (12, b"rfnm 0/2 0/1 5", b"dead 0/2 0/1 6", "broken run line 12\n" + FATES_14, "No message of the flow 0/2 0/1 6 is outstanding."),
+    (11, b"in 0/2 0/1 5 56 00080002004849", b"out 0/2 0/1 5 0 -", "broken run line 11\nbroken lives line 13\nbroken messages line 12", "The last message of the flow 0/2 0/1 5, in line 10, has no answer yet, and one may be outstanding."),
+    (12, b"answer rfnm 0/2 0/1 5", b"up 0/1", "broken run line 12", "Host 0/1 is up already."),
+    (10, b"out", b"down 0/2\nout", "broken run line 11\nbroken lives line 15\nbroken fates line 15", "Host 0/2 is down."),
+    (10, b"out", b"down 0/2\nout", "broken run line 11\nbroken lives line 15", "It counts none that crossed after that."),
     # fates
-    *((line, old, new, SAFE_11, f"It says `open`, but {why} It would be `reset`.") for line, old, new, why in DROPPED),
-    (10, b"open", b"closed", SAFE_10, "no CLS of socket 16 with socket 33 went out and no CLS of socket 33 with"),
-    (11, b"open", b"stopped", SAFE_11, "It says `stopped`, but its host, 0/2, hasn't stopped since it began."),
-    (9, b"answer", b"down 0/2\nanswer", "broken run line 10\nbroken fates line 12", "0/2, stopped in line 9. It would"),
+    *((line, old, new, SAFE_14, f"It says `open`, but {why} It would be `reset`.") for line, old, new, why in DROPPED),
+    (13, b"open", b"closed", SAFE_13, "no CLS of socket 16 with socket 33 went out and no CLS of socket 33 with"),
+    (14, b"open", b"stopped", SAFE_14, "It says `stopped`, but its host, 0/2, hasn't stopped since it began."),
+    (12, b"answer", b"down 0/2\nanswer", "broken run line 13\nbroken fates line 15", "0/2, stopped in line 12. It would"),
     *contacted("open", "reset"),
     *contacted("reset", "open"),
-    *stopped("reset", "stopped", "line 11", "this one"),
-    *stopped("stopped", "reset", "this one", "line 11"),
-    (10, b"open", b"closed", SAFE_10, "2 lives made of them. Only how lives end is otherwise than this program promises."),
-    (11, b"3 1 send", b"3 1 send", "kept", "The book is safe: 9 crossings, a run of the mailboxes, and 2 lives made of them."),
+    *stopped("reset", "stopped", "line 14", "this one"),
+    *stopped("stopped", "reset", "this one", "line 14"),
+    (13, b"open", b"closed", SAFE_13, "2 lives made of them. Only how lives end is otherwise than this program promises."),
+    (14, b"3 1 send", b"3 1 send", "kept", "The book is safe: 12 crossings, a run of the mailboxes, and 2 lives made of them."),
     # lives of the messages that crossed
-    (11, b"send 1", b"send 2", "broken lives line 11\nbroken grants lines 10 11", "It isn't made of the messages that crossed: it counts 2 messages, and after its requests 1 went out on 0/2 0/1 5."),
-    (10, b"4849", b"4848", "broken lives line 10\nbroken streams lines 10 11", "at octet 2 what it says has 48, and what came in on 0/2 0/1 5 has 49. That is in line 8, octet 2 of its data."),
-    (2, b"2105", b"2305", "broken run line 2\nbroken lives line 11\nbroken messages line 2", "no RTS of socket 16 with socket 33 is in the `in 0/1 0/2 0` at its PARTNER."),
-    (10, b"33 0 4", b"33 0 3", "broken lives line 10\nmalformed line 10", "no STR of socket 33 with socket 16 is at its PARTNER: at place 3 (line 4) is `out 0/2 0/1 0`."),
+    (14, b"send 1", b"send 2", "broken lives line 14\nbroken grants lines 13 14", "It isn't made of the messages that crossed: it counts 2 messages, and after its requests 1 went out on 0/2 0/1 5."),
+    (13, b"4849", b"4848", "broken lives line 13\nbroken streams lines 13 14", "at octet 2 what it says has 48, and what came in on 0/2 0/1 5 has 49. That is in line 11, octet 2 of its data."),
+    (2, b"2105", b"2305", "broken run line 2\nbroken lives line 14\nbroken messages line 2", "no RTS of socket 16 with socket 33 is in the `in 0/1 0/2 0` at its PARTNER."),
+    (13, b"33 0 4", b"33 0 3", "broken lives line 13\nmalformed line 13", "no STR of socket 33 with socket 16 is at its PARTNER: at place 3 (line 4) is `out 0/2 0/1 0`."),
 ]
 
 # the same of logs/beside-a-stranger, whose line 1 says that 0/3 is a stranger

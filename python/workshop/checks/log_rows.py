@@ -12,8 +12,10 @@ from collections.abc import Iterator
 from workshop.checks import stranger_rows
 from workshop.parts import ROOT, text_of
 
-with open(f"{ROOT}/logs/two-octets", encoding="utf-8") as log, open(f"{ROOT}/docs/audit.md", encoding="utf-8") as page:
-    SHORT, PAGE = log.read(), page.read()
+PAGE = text_of(f"{ROOT}/docs/audit.md")
+# the log of that page without its ALL, of which the audit reads nothing
+LINES = text_of(f"{ROOT}/logs/two-octets").splitlines(keepends=True)
+SHORT = "".join(LINES[:6] + LINES[9:])
 
 # ---- the short log with a text changed, and the verdict. Its crossings are the lines 1 to 9, its lives 10 and 11, its lists 12 and 13
 

@@ -37,21 +37,21 @@ KEY = (
 
 # the parts of the promise, what each asks of a book, and what that is in the book of two octets
 WORKED = (
-    ("`run`", "each crossing finds its host up and the box as it needs it", "line 7 puts the data into the empty box of the flow 0/2 to 0/1 on link 5, line 8 takes them from it, and line 9, RFNM, is about a message that was taken"),
-    ("`formed`", "a life's requests crossed at its stamps, and its bits are the data of messages on the link that the RTS names", "0/1's RTS went out in line 1 (place 0) and names link 5; 0/2's STR came in in line 5 (place 4). The first message on link 5 after both is that of line 8, with the bits `4849`"),
-    ("`told`", "each notice of data reports the message that crossed just before it", "after line 7 the user at 0/2 is notified of 16 bits sent, after line 8 the one at 0/1 of 16 bits that have arrived"),
-    ("`safe`, messages", "an RFNM's message was taken once, with its text", "line 9 is about the message of line 7, which line 8 took"),
+    ("`run`", "each crossing finds its host up and the box as it needs it", "line 10 puts the data into the empty box of the flow 0/2 to 0/1 on link 5, line 11 takes them from it, and line 12, RFNM, is about a message that was taken"),
+    ("`formed`", "a life's requests crossed at its stamps, and its bits are the data of messages on the link that the RTS names", "0/1's RTS went out in line 1 (place 0) and names link 5; 0/2's STR came in in line 5 (place 4). The first message on link 5 after both is that of line 11, with the bits `4849`"),
+    ("`told`", "each notice of data reports the message that crossed just before it", "after line 10 the user at 0/2 is notified of 16 bits sent, after line 11 the one at 0/1 of 16 bits that have arrived"),
+    ("`safe`, messages", "an RFNM's message was taken once, with its text", "line 12 is about the message of line 10, which line 11 took"),
     ("`safe`, partners", "no two lives have one request, and partners name each other", "the own request of 0/1 went out at place 0, that of 0/2 at place 3; what 0/1 took at place 4 is that of place 3, and what 0/2 took at place 1 is that of place 0"),
     ("`safe`, streams", "what was taken is a prefix of what was sent, and that of what was handed over", "`4849` of `4849`, and that of `484950`"),
     ("`safe`, grants", "what was taken and sent is granted", "1 message of 16 bits, where 1 of 100 bits was granted"),
     ("`joined`", "a finished initial connection pairs the right four sockets", "nothing here: no service reports that one is finished"),
     ("`fated`", "each life has a fate, which says whether it is over", "both fates are `Open`, and neither life is over"),
     ("`whole`", "a receiving life that its partner's CLS ended has all that was sent", "nothing here: no fate is `Ended`"),
-    ("`arrived`", "an open life counts what came in on its link, and RFNM of data means that they are among its bits", "line 9 is RFNM of the message of line 7, the first one of the life of line 11. Line 8 took it, and it is the first one of the life of line 10, which is open"),
+    ("`arrived`", "an open life counts what came in on its link, and RFNM of data means that they are among its bits", "line 12 is RFNM of the message of line 10, the first one of the life of line 14. Line 11 took it, and it is the first one of the life of line 13, which is open"),
     ("`over`", "nothing ends a life between its requests, and it is over as its fate says", "the life of 0/1 begins with line 5 and that of 0/2 with line 4, the second request of each. Since then no CLS, no RST and no answer but RFNM crossed between them, no host stopped, and nobody asked for a contact: both have the stage `Going false false`, which leaves `Open`"),
     ("`contacts`", "what a host sends to another next after a contact is an RST", "nothing here: there is no contact"),
     ("`within`", "a life that is over counts nothing that crossed later", "nothing here: no life is over"),
-    ("`sent`", "the k-th message that a receiving life counts went out as the k-th of the life that it matches", "0/1 took its first message in line 8. The last one of that flow before this went out in line 7, and it is the first one of the life of line 11"),
+    ("`sent`", "the k-th message that a receiving life counts went out as the k-th of the life that it matches", "0/1 took its first message in line 11. The last one of that flow before this went out in line 10, and it is the first one of the life of line 14"),
 )
 
 
@@ -71,6 +71,6 @@ def worked() -> str:
     log = read(f"{ROOT}/logs/two-octets").rstrip("\n")
     rows = "".join(f"| {part} | {asks} | {here} |\n" for part, asks, here in WORKED)
     return (
-        "\n## A book to try it on\n\nThis is [logs/two-octets](../../logs/two-octets), which [the audit's page](../audit.md#a-log-by-hand) explains line by line: nine crossings, two lives, "
+        "\n## A book to try it on\n\nThis is [logs/two-octets](../../logs/two-octets), which [the audit's page](../audit.md#a-log-by-hand) explains line by line: twelve crossings, two lives, "
         f"and what was handed over in each.\n\n```text\n{log}\n```\n\n| Part | Asks | In this book |\n|---|---|---|\n{rows}"
     )

@@ -29,20 +29,20 @@ function printed(log, line, names = itself) {
 }
 
 test("each life and each message of data may be touched, and no other line", () => {
-    assert.deepEqual(entriesOf(new Book(octets), itself).map((it) => it.line), [10, 11, 7]);
+    assert.deepEqual(entriesOf(new Book(octets), itself).map((it) => it.line), [13, 14, 10]);
     assert.equal(printed(octets, 3), null);
-    assert.equal(printed(octets, 12), null);
+    assert.equal(printed(octets, 15), null);
     assert.equal(printed(octets, 0), null);
-    assert.deepEqual(printed(octets, 8), printed(octets, 7));
+    assert.deepEqual(printed(octets, 11), printed(octets, 10));
 });
 
 test("clauses speak of a life, by the names of its sites", () => {
     const names = (/** @type {string} */ host) => (host === "0/1" ? "UCLA" : "SRI");
-    assert.deepEqual(printed(octets, 10, names)?.slice(0, 2), [
-        "line 10: socket 16 of UCLA, which receives from socket 33 of SRI: 1 message, 16 bits, open",
+    assert.deepEqual(printed(octets, 13, names)?.slice(0, 2), [
+        "line 13: socket 16 of UCLA, which receives from socket 33 of SRI: 1 message, 16 bits, open",
         "  promise.formed.own: Its own request went out in line 1: RTS 16 from 33 on link 5.",
     ]);
-    const said = [10, 7].flatMap((line) => printed(octets, line, names)).join("\n");
+    const said = [13, 10].flatMap((line) => printed(octets, line, names)).join("\n");
     assert(/arrived.all: It is open, and counts all 1 message that came in/.test(said));
     assert(/contacts: .* with UCLA since SRI last sent there or stopped/.test(said));
 });
@@ -53,19 +53,19 @@ test("what a life counts is told before and after its end", () => {
     const after = stopped.replace("out 0/2 0/1 5", "down 0/2\nup 0/2\nout 0/2 0/1 5");
     const within = (/** @type {string} */ log, /** @type {number} */ line) =>
         printed(log, line)?.find((it) => it.startsWith("  within:"));
-    assert(/ended it crossed in line 10, after all that it counts: 1 message/.test(within(before, 12) ?? ""));
-    assert(/ended it crossed in line 7, and it counts what crossed later, in line 9/.test(within(after, 13) ?? ""));
+    assert(/ended it crossed in line 13, after all that it counts: 1 message/.test(within(before, 15) ?? ""));
+    assert(/ended it crossed in line 10, and it counts what crossed later, in line 12/.test(within(after, 16) ?? ""));
 });
 
 test("a bit that was changed, and a message that was passed over, are said", () => {
     const other = octets.replace("open 4849\nlife", "open 4848\nlife");
-    assert.deepEqual(printed(other, 10)?.filter((it) => /formed|streams/.test(it)), [
+    assert.deepEqual(printed(other, 13)?.filter((it) => /formed|streams/.test(it)), [
         "  promise.formed: It isn't made of messages that crossed.",
         "  promise.safe.streams.source: What it took is no prefix of what one life that it matches sent.",
     ]);
     const none = octets.replace("receive 1 16", "receive 0 0").replace("open 4849\nlife", "open -\nlife");
-    assert(/It counts 0 messages of the 1 that came in on its link/.test(printed(none, 10)?.join("\n") ?? ""));
-    assert(/The life of line 10, which that matches, doesn't count it/.test(printed(none, 7)?.join("\n") ?? ""));
+    assert(/It counts 0 messages of the 1 that came in on its link/.test(printed(none, 13)?.join("\n") ?? ""));
+    assert(/The life of line 13, which that matches, doesn't count it/.test(printed(none, 10)?.join("\n") ?? ""));
 });
 
 test("./explain --book says the same of each life and message of books, whole and broken", () => {
