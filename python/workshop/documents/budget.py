@@ -92,7 +92,7 @@ def kept() -> Budget:
 
 def faults() -> list[str]:
     may = kept()
-    return [*may.over(counted(), wide()), *walks.over(walks.counted(), may.walks)]
+    return [*may.over(counted(), wide()), *walks.over(walks.counted(), may.walks), *walks.faults_of_page()]
 
 
 def summary() -> str:

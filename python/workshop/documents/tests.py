@@ -349,6 +349,13 @@ class Walks(unittest.TestCase):
         )
         self.assertEqual(walks.lowered({"Event": {"walks": 3, "A": 4, "B": 1}}, may), {"Event": {"walks": 2, "A": 4, "B": 1}})
 
+    def test_a_crate_that_its_row_does_not_name_is_named(self) -> None:
+        row = "| To add | In crates |\n|---|---|\n| an event (`Event`) | `one` and `two` |\n"
+        self.assertEqual([*walks.unnamed("Event", {"one", "two"}, row)], [])
+        self.assertEqual([*walks.unnamed("Event", {"one", "three"}, row)], ["CONTRIBUTING.md: the row of `Event` doesn't name three, which has a walk over its cases"])
+        self.assertEqual([*walks.unnamed("Request", {"one"}, row)], ["CONTRIBUTING.md has no row of `Request`"])
+        self.assertEqual(walks.walked_crates([f"{walks.ROOT}/crates/one/src/a.rt", f"{walks.ROOT}/crates/one/specs/b.antt"]), {"one"})
+
 
 class Dead(unittest.TestCase):
     def test_what_is_deleted_leaves_no_part_of_it(self) -> None:

@@ -3,7 +3,8 @@
 A walk is a definition or a lemma of .antt whose clauses name at least six of the cases left of their `=`, or a function of
 .rt that names as many: who adds a case writes in each of them. Files are counted of cases whose name means nothing else.
 docs/measured/budget.json has how many walks and files there may be, which can only become fewer; `./check docs --lower`
-takes off what isn't needed any more.
+takes off what isn't needed any more. The table in CONTRIBUTING.md of what to write for one more case has a row for each
+enum, and names there each crate that has a walk over it.
 """
 
 from __future__ import annotations
@@ -11,7 +12,7 @@ from __future__ import annotations
 import glob
 import re
 from collections import defaultdict
-from collections.abc import Iterator, Mapping
+from collections.abc import Iterable, Iterator, Mapping
 from dataclasses import dataclass
 from functools import cache
 
@@ -119,6 +120,28 @@ def over(found: Mapping[str, Counts], may: Mapping[str, Counts]) -> Iterator[str
             if many > (most := may.get(enum, {}).get(what, 0)):
                 said = f"{many} walks over its cases" if what == "walks" else f"{what} is in {many} sources of crates"
                 yield f"{enum}: {said}, and there may be {most} (docs/measured/budget.json)"
+
+
+def walked_crates(paths: Iterable[str]) -> set[str]:
+    """The crates of these sources."""
+    return {it.removeprefix(f"{ROOT}/crates/").split("/")[0] for it in paths}
+
+
+def unnamed(enum: str, crates: Iterable[str], page: str) -> Iterator[str]:
+    """The crates that a page's row of an enum doesn't name in its second column."""
+    row = re.search(rf"^\|[^|]*\(`{enum}`\) \|([^|]*)\|", page, re.MULTILINE)
+    if not row:
+        yield f"CONTRIBUTING.md has no row of `{enum}`"
+        return
+    named = set(re.findall(r"`(\w+)`", row[1]))
+    yield from (f"CONTRIBUTING.md: the row of `{enum}` doesn't name {it}, which has a walk over its cases" for it in sorted({*crates} - named))
+
+
+def faults_of_page() -> Iterator[str]:
+    """What the table of CONTRIBUTING.md doesn't name."""
+    page = text_of(f"{ROOT}/CONTRIBUTING.md")
+    for enum in enums():
+        yield from unnamed(enum.name, walked_crates(path for path, _ in walks(enum)), page)
 
 
 def lowered(found: Mapping[str, Counts], may: Mapping[str, Counts]) -> dict[str, dict[str, int]]:
