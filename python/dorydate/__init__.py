@@ -3,7 +3,7 @@
     >>> from dorydate import Network, Replay
     >>> net = Replay(Network.joined("UCLA-SRI", raw=True))
 
-docs/python.md has a tutorial, docs/measured/reference.md each name with an example.
+docs/python.md has a tutorial, docs/reference.md each name.
 """
 
 from dorydate.network import BadNetwork, Host, Imp, Line, Network

@@ -269,7 +269,7 @@ def write() -> int:
     notebook.write()
     figures.write()
     reference.write()
-    pages = "docs/measured/crates.md, planted.md, promise.md, reference.md, docs/experiment.ipynb"
+    pages = "docs/measured/crates.md, planted.md, promise.md, docs/reference.md, docs/experiment.ipynb"
     print(f"check docs: {pages} and {pictures.write()} drawings are written")
     return 0
 

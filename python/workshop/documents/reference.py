@@ -1,4 +1,4 @@
-"""docs/measured/reference.md: each public name of the package, with its parts, made of their docstrings with examples.
+"""docs/reference.md: each public name of the package with an example, and a list of its calls, made of their docstrings.
 
 The tests in python/tests/test_reference.py run every example. `./check docs` compares the page with what is made.
 """
@@ -15,7 +15,7 @@ import dorydate
 from workshop.documents import pages
 from workshop.parts import ROOT
 
-PAGE = f"{ROOT}/docs/measured/reference.md"
+PAGE = f"{ROOT}/docs/reference.md"
 BEGINNING = """two = Network.joined("UCLA-SRI", raw=True)  # its hosts have no programs
 net = Replay(two)
 net.calm(2)  # each IMP knows the way to the other
@@ -27,7 +27,7 @@ mixed = Network.joined("UCLA-MINE", foreign=["MINE"])  # MINE runs another progr
 HEAD = f"""<!-- made by python/workshop/documents/reference.py: ./check docs --write -->
 # The package in Python: reference
 
-[Experiments in Python](python.md) has a tutorial. Here are the public names, and what each can do. The examples begin with these lines:
+[Experiments in Python](python.md) has a tutorial. Here are the public names, and what each can do; `help(Replay.cut)` has an example of a call. The examples begin with these lines:
 
 ```python
 from dorydate import *
@@ -83,16 +83,20 @@ def documented(heading: str, doc: str) -> str:
     return "\n\n".join([heading, *sections(doc)]).replace("\n```\n\n```python\n", "\n") + "\n"
 
 
+def row(call: str, doc: str) -> str:
+    """A call with what it does; its examples are in its docstring."""
+    return f"- `{call}`: {' '.join(it for it in sections(doc) if not it.startswith('```'))}"
+
+
 def made() -> str:
     """The page."""
     parts = [HEAD]
     for name in NAMES:
         kind = getattr(dorydate, name)
         parts.append(documented(f"## {name}", kind.__doc__ or ""))
-        parts += [
-            documented(f"### `{spelled(name, part, it)}`", it.__doc__ or "") for part, it in members(kind).items()
-        ]
-    return re.sub(r"\]\((?=[\w-]+\.md)", "](../", "\n".join(parts))
+        if rows := [row(spelled(name, part, it), it.__doc__ or "") for part, it in members(kind).items()]:
+            parts.append("\n".join([*rows, ""]))
+    return "\n".join(parts)
 
 
 def write() -> None:
