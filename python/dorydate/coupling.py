@@ -139,7 +139,7 @@ class Coupled:
         try:
             event = read_event(line)
         except BadLine as why:
-            raise Mute(f"it says `{shown(line)}`, which is no line of a script: {why}") from None
+            raise Mute(f"it says `{shown(line)}`, which is no line of a script: {shown(str(why))}") from None
         if not isinstance(event, Out) or event.flow.source != self.stranger.host:
             raise Mute(f"it says `{shown(line)}`, and its host is {self.stranger.host}")
         return self.stranger.net.do(event)

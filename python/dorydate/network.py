@@ -153,6 +153,8 @@ class Network:
         names: list[str] = []
         pairs: list[tuple[str, str]] = []
         for chain in chains:
+            if not isinstance(chain, str):
+                raise BadNetwork(f"{chain!r} is no chain of sites, as `UCLA-SRI` is")
             sites = [it.strip() for it in chain.split("-")]
             if not all(sites):
                 raise BadNetwork(f"the chain {chain!r} has a site without a name")

@@ -151,6 +151,9 @@ class Programs(unittest.TestCase):
     def test_what_it_says_obeys_no_terminal(self) -> None:
         self.assertEqual(shown("out \x1b[31mRED\x07"), "out \\x1b[31mRED\\x07")
         self.assertEqual(len(shown("x" * 999)), 203)
+        found = str(tried(Only("out \x1b[31mRED\x07 0/1 0 8 41", ("in ",)), NAMED["reset"]))
+        self.assertIn("RED", found)
+        self.assertEqual([it for it in found if not it.isprintable()], [])
 
     def test_what_no_right_program_says(self) -> None:
         rows = [

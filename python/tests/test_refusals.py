@@ -19,6 +19,7 @@ TABLES = [
     ("search\nresets-in-step,1,2\n", "it has more cells than there are columns"),
     ("search,seeds\nresets-in-step,1-1000000 1-1000000\n", "are more than 1,000,000 seeds"),
     ("network,carrier,pattern\nA-B,tin,end\n", "`tin` is no carrier"),
+    ("search,carrier\nresets-in-step,tin\n", "`tin` is no carrier"),
     ("search,boom\nresets-in-step,1\n", "`boom` is no column of a campaign"),
     ("search\nnone\n", "'none' is no search with a name"),
     ("", "the table has no rows"),
@@ -44,6 +45,11 @@ class Refusals(unittest.TestCase):
         for wrong in (NOTHING, "A"):
             with self.subTest(wrong=wrong), self.assertRaisesRegex(BadNetwork, "no list of the hosts"):
                 Network.joined("A-B", foreign=wrong)
+
+    def test_chains(self) -> None:
+        for wrong in (NOTHING, 3, ["A", "B"]):
+            with self.subTest(wrong=wrong), self.assertRaisesRegex(BadNetwork, "is no chain of sites"):
+                Network.joined(wrong)
 
 
 if __name__ == "__main__":

@@ -174,6 +174,7 @@ def tasks_of(number: int, row: dict[str, str]) -> Iterator[Task]:
     try:
         named = SEARCHES[row["search"]] if row.get("search") else None
         is_yes(row.get("raw", ""))
+        carrier_of(row)
         network = network_of(row) if row.get("network") else named.network if named else None
         pattern = row.get("pattern") or (named.pattern if named else "")
         if network is None:
@@ -192,11 +193,15 @@ def tasks_of(number: int, row: dict[str, str]) -> Iterator[Task]:
 
 
 def network_of(row: dict[str, str]) -> Network:
+    foreign = row.get("foreign", "").split()
+    return Network.joined(*row["network"].split(), raw=is_yes(row.get("raw", "")), carrier=carrier_of(row), foreign=foreign)
+
+
+def carrier_of(row: dict[str, str]) -> str:
     carrier = row.get("carrier") or "subnet"
     if carrier not in ("plain", "subnet"):
         raise BadTable(f"`{carrier}` is no carrier: `plain` or `subnet`")
-    foreign = row.get("foreign", "").split()
-    return Network.joined(*row["network"].split(), raw=is_yes(row.get("raw", "")), carrier=carrier, foreign=foreign)
+    return carrier
 
 
 def is_yes(word: str) -> bool:
