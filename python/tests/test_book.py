@@ -87,7 +87,8 @@ class OfBooks(unittest.TestCase):
 
     def test_message_by_message(self) -> None:
         """What was counted went out as the partner's message of that number, or not."""
-        self.assertEqual(said(13)["sent"], "What it counts went out in line 10: the first 1 message of the life of line 14.")
+        counted = "What it counts went out in line 10: the first 1 message of the life of line 14."
+        self.assertEqual(said(13)["sent"], counted)
         self.assertNotIn("sent", said(14))
         twice = ("in 0/2 0/1 5 56 00080002004849\n", 2 * "in 0/2 0/1 5 56 00080002004849\n"), ("1 16 1 100 0 0 open 4849", "2 32 1 100 0 0 open 48494849")
         words = "Message 2 of those that it counts, of line 12, isn't message 2 of a life that it matches."

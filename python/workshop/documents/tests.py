@@ -352,9 +352,13 @@ class Walks(unittest.TestCase):
     def test_a_crate_that_its_row_does_not_name_is_named(self) -> None:
         row = "| To add | In crates |\n|---|---|\n| an event (`Event`) | `one` and `two` |\n"
         self.assertEqual([*walks.unnamed("Event", {"one", "two"}, row)], [])
-        self.assertEqual([*walks.unnamed("Event", {"one", "three"}, row)], ["CONTRIBUTING.md: the row of `Event` doesn't name three, which has a walk over its cases"])
+        self.assertEqual(
+            [*walks.unnamed("Event", {"one", "three"}, row)],
+            ["CONTRIBUTING.md: the row of `Event` doesn't name three, which has a walk over its cases"],
+        )
         self.assertEqual([*walks.unnamed("Request", {"one"}, row)], ["CONTRIBUTING.md has no row of `Request`"])
-        self.assertEqual(walks.walked_crates([f"{walks.ROOT}/crates/one/src/a.rt", f"{walks.ROOT}/crates/one/specs/b.antt"]), {"one"})
+        paths = f"{walks.ROOT}/crates/one/src/a.rt", f"{walks.ROOT}/crates/one/specs/b.antt"
+        self.assertEqual(walks.walked_crates(paths), {"one"})
 
 
 class Dead(unittest.TestCase):

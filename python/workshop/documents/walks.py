@@ -133,8 +133,8 @@ def unnamed(enum: str, crates: Iterable[str], page: str) -> Iterator[str]:
     if not row:
         yield f"CONTRIBUTING.md has no row of `{enum}`"
         return
-    named = set(re.findall(r"`(\w+)`", row[1]))
-    yield from (f"CONTRIBUTING.md: the row of `{enum}` doesn't name {it}, which has a walk over its cases" for it in sorted({*crates} - named))
+    for crate in sorted({*crates}.difference(re.findall(r"`(\w+)`", row[1]))):
+        yield f"CONTRIBUTING.md: the row of `{enum}` doesn't name {crate}, which has a walk over its cases"
 
 
 def faults_of_page() -> Iterator[str]:
