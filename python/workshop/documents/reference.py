@@ -1,4 +1,4 @@
-"""docs/reference.md: each public name of the package with an example, and a list of its calls, made of their docstrings.
+"""docs/reference.md: each public name of the package with a list of its calls, made of their docstrings, whose examples stay there.
 
 The tests in python/tests/test_reference.py run every example. `./check docs` compares the page with what is made.
 """
@@ -24,15 +24,10 @@ world = Replay(pair)
 world.session("UCLA", "SRI")
 mixed = Network.joined("UCLA-MINE", foreign=["MINE"])  # MINE runs another program
 """
-HEAD = f"""<!-- made by python/workshop/documents/reference.py: ./check docs --write -->
+HEAD = """<!-- made by python/workshop/documents/reference.py: ./check docs --write -->
 # The package in Python: reference
 
-[Experiments in Python](python.md) has a tutorial. Here are the public names, and what each can do; `help(Replay.cut)` has an example of a call. The examples begin with these lines:
-
-```python
-from dorydate import *
-
-{BEGINNING}```
+[Experiments in Python](python.md) has a tutorial. Here are the public names, and what each can do; `help(Replay.cut)` has an example, and so has each other name.
 """
 NAMES = [  # in the page's order
     *("Network", "Host", "Imp", "Line", "Replay", "Stranger", "Deed", "Step", "State", "Script", "Event", "Flow", "Text"),
@@ -78,14 +73,9 @@ def sections(doc: str) -> Iterator[str]:
         yield f"```python\n{shown}\n```"
 
 
-def documented(heading: str, doc: str) -> str:
-    """A name with its docstring; examples that follow one another are one block."""
-    return "\n\n".join([heading, *sections(doc)]).replace("\n```\n\n```python\n", "\n") + "\n"
-
-
-def row(call: str, doc: str) -> str:
-    """A call with what it does; its examples are in its docstring."""
-    return f"- `{call}`: {' '.join(it for it in sections(doc) if not it.startswith('```'))}"
+def said(doc: str) -> str:
+    """What a docstring says beside its examples."""
+    return " ".join(it for it in sections(doc) if not it.startswith("```"))
 
 
 def made() -> str:
@@ -93,8 +83,8 @@ def made() -> str:
     parts = [HEAD]
     for name in NAMES:
         kind = getattr(dorydate, name)
-        parts.append(documented(f"## {name}", kind.__doc__ or ""))
-        if rows := [row(spelled(name, part, it), it.__doc__ or "") for part, it in members(kind).items()]:
+        parts.append(f"## {name}\n\n{said(kind.__doc__ or '')}\n")
+        if rows := [f"- `{spelled(name, part, it)}`: {said(it.__doc__ or '')}" for part, it in members(kind).items()]:
             parts.append("\n".join([*rows, ""]))
     return "\n".join(parts)
 
