@@ -1,4 +1,4 @@
-"""The page of lessons says what the workbench says: the words of a class, and the hour."""
+"""The page of lessons says what the workbench says of the hour."""
 
 from __future__ import annotations
 
@@ -19,12 +19,6 @@ def rows_after(head: str) -> list[list[str]]:
 
 
 class Lessons(unittest.TestCase):
-    def test_words_mean_the_same_on_the_page_and_in_the_workbench(self) -> None:
-        rows = rows_after("| Word | Meaning |")
-        self.assertGreater(len(rows), 15)
-        for word, meaning in rows:
-            self.assertEqual(meaning, TABLE["glossary"][word])
-
     def test_the_hour_is_the_same_on_the_page_and_in_the_workbench(self) -> None:
         rows = rows_after("| Minutes | Lesson | Question | Answer |")
         self.assertEqual(len(rows), len(TABLE["hour"]))

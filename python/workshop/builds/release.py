@@ -90,9 +90,8 @@ def gate(kept: str, clone: str) -> str:
 
 
 def tag() -> str:
-    """The text of the tag, which docs/releasing.md has."""
-    text = text_of(f"{ROOT}/docs/releasing.md").split("## The tag's text\n\n")[1]
-    return "".join(f"{it.removeprefix('    ')}\n" for it in text.rstrip().splitlines()).replace("VERSION", version())
+    """The text of the tag."""
+    return text_of(f"{ROOT}/python/workshop/builds/tag.txt").replace("VERSION", version())
 
 
 def sha256(octets: bytes) -> str:

@@ -7,7 +7,7 @@ import re
 from dorydate.explain.charts import chart, short_chart
 from dorydate.explain.command import drawn
 from dorydate.given import Input
-from dorydate.explain.runs import lives, replay
+from dorydate.explain.runs import replay
 from dorydate.program import Program
 from workshop.checks.explain_given import events_of, example, same
 from workshop.checks.explain_rows import CHANGES, DIALOGUE
@@ -23,7 +23,7 @@ def table(document: str, head: str) -> list[Row]:
 
 
 def check_pages(program: Program) -> None:
-    """The tour's table of the first message and the changes that it proposes, and the charts and the table in docs/."""
+    """The tour's table of the first message and the changes that it proposes, and the charts in docs/."""
     tour = text_of(f"{ROOT}/docs/tour.md")
     given = example("first-message")
     found = replay(given, program)
@@ -35,26 +35,18 @@ def check_pages(program: Program) -> None:
         picture = drawn(example(name), replay(example(name), program), short_chart)
         text = text_of(f"{ROOT}/{page}")
         same((f"```mermaid\n{picture}\n```" in text, f"`./explain --chart --short < examples/{name}`" in text), (True, True), f"the chart in {page} is not\n{picture}")
-    check_dialogue(program, table(text_of(f"{ROOT}/docs/lessons.md"), "Script line | Printed, among other lines | What happened"))
+    check_dialogue(program)
     same(re.findall(r"^- \[(.*)\]\(\.\./examples/", tour, re.MULTILINE), [*(name for name, *_ in CHANGES), DIALOGUE], "the tour's changes to the examples")
     for name, change, number, printed in CHANGES:
         events = events_of(Input(b"\n".join(change(example(name).lines[:-1]))), program)
         same([it.printed for it in events if it.number == number], [printed], f"{name}, changed as the tour says, line {number}")
     same(replay(given, None), found, "the first message without a kept program")
-    print("check explain: the tour's table and changes, and the chart and the dialogue in docs/, are what it prints, with a kept program and without")
+    print("check explain: the tour's table and changes, and the charts in docs/, are what it prints, with a kept program and without")
 
 
-def check_dialogue(program: Program, rows: list[Row]) -> None:
-    """The script of the dialogue is the lines of these rows, after a calm, and prints what each row names, in its order. The tour's changes to it do as they say."""
+def check_dialogue(program: Program) -> None:
+    """The tour's changes to the dialogue do as they say."""
     given = example(DIALOGUE)
-    events = events_of(given, program)[1:]
-    *rows, (_, ends) = rows
-    same([line for lines, _ in rows for line in lines], [" ".join(it.words) for it in events], "the script of a dialogue in docs/lessons.md")
-    same([line for line in lives(given, program, False) if line in ends], ends, "the life in the book of a dialogue")
-    left = iter(events)
-    for lines, printed in rows:
-        output = [line for _, it in zip(lines, left) for line in it.printed]
-        same([line for line in output if line in printed], printed, f"the dialogue, at {lines[0]}")
     script = given.lines[:-1]
     events = events_of(Input(b"\n".join([*script, b"type 0/1 ", b"calm 40"])), program)
     same("line 0/1 " in events[-1].printed, True, "the tour's empty line at the terminal")
