@@ -31,10 +31,8 @@ def check_pages(program: Program) -> None:
     same(rows, [(" ".join(it.words), it.printed) for it in found.events], "the tour's table of the first message")
     picture = drawn(given, found, chart)
     same(f"```mermaid\n{picture}\n```" in text_of(f"{ROOT}/docs/program.md"), True, f"the chart in docs/program.md is not\n{picture}")
-    for page, name in (("docs/tour.md", DIALOGUE), ("docs/lessons.md", "lo-of-login")):
-        picture = drawn(example(name), replay(example(name), program), short_chart)
-        text = text_of(f"{ROOT}/{page}")
-        same((f"```mermaid\n{picture}\n```" in text, f"`./explain --chart --short < examples/{name}`" in text), (True, True), f"the chart in {page} is not\n{picture}")
+    picture = drawn(example(DIALOGUE), replay(example(DIALOGUE), program), short_chart)
+    same((f"```mermaid\n{picture}\n```" in tour, f"`./explain --chart --short < examples/{DIALOGUE}`" in tour), (True, True), f"the chart in docs/tour.md is not\n{picture}")
     check_dialogue(program)
     same(re.findall(r"^- \[(.*)\]\(\.\./examples/", tour, re.MULTILINE), [*(name for name, *_ in CHANGES), DIALOGUE], "the tour's changes to the examples")
     for name, change, number, printed in CHANGES:
