@@ -60,7 +60,7 @@ class OfBooks(unittest.TestCase):
         closing = ("life 0/1 16", f"{crossed}\nlife 0/1 16")
         self.assertIn("it has the 16 bits that the life of line 17 sent", said(16, closing)["arrived.closed"])
         fewer = ("receive 1 16 1 100 0 0 open 4849", "receive 0 0 1 100 0 0 open -")
-        self.assertIn("so a user of its host has closed it", said(16, closing, fewer)["arrived.closed"])
+        self.assertIn("only if a user of its host has closed it", said(16, closing, fewer)["arrived.closed"])
         self.assertRegex(said(13)["arrived.closed"], "^Only once its partner's CLS has come")
 
     def test_fates(self) -> None:
