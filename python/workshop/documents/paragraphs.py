@@ -15,7 +15,7 @@ from workshop.parts import ROOT
 MOST_WORDS = 900  # of README, which is read first
 MOST_OF_CLAIMS = 300  # of each CLAIMS.md: what a crate promises, what it doesn't, and how that was attacked
 # all pages that people read: what makes one longer makes another one shorter
-MOST_OF_ALL = 66_000
+MOST_OF_ALL = 62_000
 PAGES = ("README.md", "CONTRIBUTING.md", "docs/*.md")
 CLAIMS = ("crates/*/CLAIMS.md",)
 # a line that begins something of its own: a heading, an item, a row, a quotation, a picture, a comment, code
