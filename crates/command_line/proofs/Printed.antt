@@ -15,7 +15,6 @@ use Rattle.promise.specs.Book.{Book}
 use Rattle.promise.specs.Notices.{FormedNotices}
 use Rattle.promise.specs.Safe.{Match, SafeBook}
 use Rattle.net_sim.specs.declared.event.WorldFault.TheVariants.{Carrier}
-use Rattle.net_sim.specs.declared.mixed.MixedFault.TheVariants as mixed
 use Rattle.icp.specs.declared.outcome.Outcome.TheVariants as outcome
 use Rattle.host_services.specs.declared.report.Report.TheVariants as report
 use Rattle.replay.specs.Output.{Shown}
@@ -34,7 +33,7 @@ use Rattle.command_line.proofs.Once.{world_once}
 pub as_world : List Shown → List lines.Shown
 as_world [] = []
 as_world (raw.Crossed c ∷ shown) = lines.Crossed c ∷ as_world shown
-as_world (raw.Refused f ∷ shown) = lines.Refused (mixed.World (Carrier f)) ∷ as_world shown
+as_world (raw.Refused f ∷ shown) = lines.Refused (Carrier f) ∷ as_world shown
 
 pub same_output : (detail : Detail) (shown : List Shown) → output detail shown ≡ lines.output detail (as_world shown)
 unfolding as_world

@@ -21,11 +21,10 @@ use Rattle.net_sim.specs.Timeline.{contacts_of, crossings_of}
 use Rattle.net_sim.specs.Told.{without_reports}
 use Rattle.net_sim.specs.Whole.{AreServed, seat_in}
 use Rattle.net_sim.specs.World.{Event, Net, Quiet, Offer, Take, Ask, Server, User, Typed}
+pub use Rattle.net_sim.specs.World.{HasProgram, NoProgram}
 use Rattle.net_sim.specs.World.{WorldState, WorldFault, Carrier, changed, with_carrier, CalmGives, Does, Halts, Passes, StepGives, opening_seats, opening_services, stops, Seat}
 pub use Rattle.net_sim.specs.declared.mixed.MixedEvent.{MixedEvent}
 pub use Rattle.net_sim.specs.declared.mixed.MixedEvent.TheVariants.{Any, Out}
-pub use Rattle.net_sim.specs.declared.mixed.MixedFault.{MixedFault}
-pub use Rattle.net_sim.specs.declared.mixed.MixedFault.TheVariants.{World, NoProgram, HasProgram}
 pub use Rattle.net_sim.specs.declared.mixed.StrangersFault.{StrangersFault}
 use Rattle.net_sim.specs.declared.mixed.StrangersFault.TheVariants as absent
 
@@ -94,15 +93,11 @@ OpensMixed calls c named (Err (absent.NoSuch h)) = absent_in (calls.seen c).host
 OpensMixed calls c named (Err absent.OutOfMemory) = absent_in (calls.seen c).hosts named ≡ None
 
 -- the world answers, and its strangers are the same
-abbrev pub mixed_answer : Result (Unit {0}) WorldFault → Result (Unit {0}) MixedFault
-mixed_answer (Ok done) = Ok done
-mixed_answer (Err f) = Err (World f)
-
-abbrev pub OfWorld : {C : Type 0} → (Result (Unit {0}) WorldFault → WorldState C → Type 0) → MixedState C → Result (Unit {0}) MixedFault → MixedState C → Type 0
-OfWorld Gives old r new = (answer : Result (Unit {0}) WorldFault) × Gives answer new.world × (r ≡ mixed_answer answer) × (new.strangers ≡ old.strangers)
+abbrev pub OfWorld : {C : Type 0} → (Result (Unit {0}) WorldFault → WorldState C → Type 0) → MixedState C → Result (Unit {0}) WorldFault → MixedState C → Type 0
+OfWorld Gives old r new = Gives r new.world × (new.strangers ≡ old.strangers)
 
 -- it is refused, and nothing changes
-abbrev pub RefusesMixed : {C : Type 0} → MixedFault → MixedState C → Result (Unit {0}) MixedFault → MixedState C → Type 0
+abbrev pub RefusesMixed : {C : Type 0} → WorldFault → MixedState C → Result (Unit {0}) WorldFault → MixedState C → Type 0
 RefusesMixed f old r new = (r ≡ Err f) × (new ≡ old)
 
 -- the host at which something is asked for
@@ -121,11 +116,11 @@ is_strange strange None = false
 is_strange strange (Some h) = strange h
 
 -- a stranger is asked for nothing, and all else is as in any world
-abbrev pub AskedGives : {C : Type 0} → Calls C → MixedState C → Event → Result (Unit {0}) MixedFault → MixedState C → Type 0
+abbrev pub AskedGives : {C : Type 0} → Calls C → MixedState C → Event → Result (Unit {0}) WorldFault → MixedState C → Type 0
 AskedGives calls old e r new = MatchBool (is_strange (strange_in old) (asked_at e)) (RefusesMixed NoProgram old r new) (OfWorld (StepGives calls old.world e) old r new)
 
 -- but it takes what came for it
-abbrev pub AnyGives : {C : Type 0} → Calls C → MixedState C → Event → Result (Unit {0}) MixedFault → MixedState C → Type 0
+abbrev pub AnyGives : {C : Type 0} → Calls C → MixedState C → Event → Result (Unit {0}) WorldFault → MixedState C → Type 0
 AnyGives calls old (Take h) r new = MatchBool (strange_in old h) (OfWorld (FetchGives calls h old.world) old r new) (OfWorld (StepGives calls old.world (Take h)) old r new)
 AnyGives calls old e r new = AskedGives calls old e r new
 
@@ -133,38 +128,32 @@ abbrev pub has_seat : Host → List Seat → Bool
 has_seat h seats = list_any (λ s. same_host h s.host) seats
 
 -- only strangers send what no program says
-abbrev pub SaysGives : {C : Type 0} → Calls C → MixedState C → HostMessage → Result (Unit {0}) MixedFault → MixedState C → Type 0
+abbrev pub SaysGives : {C : Type 0} → Calls C → MixedState C → HostMessage → Result (Unit {0}) WorldFault → MixedState C → Type 0
 SaysGives calls old m r new =
     MatchBool (strange_in old m.flow.source) (OfWorld (OutGives calls m old.world) old r new)
-    (RefusesMixed (if has_seat m.flow.source old.world.seats then HasProgram else World (Carrier fault.NoSuch)) old r new)
+    (RefusesMixed (if has_seat m.flow.source old.world.seats then HasProgram else Carrier fault.NoSuch) old r new)
 
-abbrev pub MixedEventGives : {C : Type 0} → Calls C → MixedState C → MixedEvent → Result (Unit {0}) MixedFault → MixedState C → Type 0
+abbrev pub MixedEventGives : {C : Type 0} → Calls C → MixedState C → MixedEvent → Result (Unit {0}) WorldFault → MixedState C → Type 0
 MixedEventGives calls old (Any e) r new = AnyGives calls old e r new
 MixedEventGives calls old (Out m) r new = SaysGives calls old m r new
 
 -- after memory has run out every event is refused as `Stopped`
-abbrev pub MixedStepGives : {C : Type 0} → Calls C → MixedState C → MixedEvent → Result (Unit {0}) MixedFault → MixedState C → Type 0
-MixedStepGives calls old e r new = MatchBool old.world.stopped (RefusesMixed (World (Carrier fault.Stopped)) old r new) (MixedEventGives calls old e r new)
+abbrev pub MixedStepGives : {C : Type 0} → Calls C → MixedState C → MixedEvent → Result (Unit {0}) WorldFault → MixedState C → Type 0
+MixedStepGives calls old e r new = MatchBool old.world.stopped (RefusesMixed (Carrier fault.Stopped) old r new) (MixedEventGives calls old e r new)
 
 -- ---- several events
 
-abbrev pub mixed_stops : Result (Unit {0}) MixedFault → Bool
-mixed_stops (Ok done) = false
-mixed_stops (Err (World f)) = stops (Err f)
-mixed_stops (Err NoProgram) = false
-mixed_stops (Err HasProgram) = false
-
 -- one event after the other: it continues after a refusal, and ends when memory runs out
-abbrev pub MixedRuns : {C : Type 0} → Calls C → MixedState C → List MixedEvent → Result (Unit {0}) MixedFault → MixedState C → Type 0
+abbrev pub MixedRuns : {C : Type 0} → Calls C → MixedState C → List MixedEvent → Result (Unit {0}) WorldFault → MixedState C → Type 0
 MixedRuns calls old [] r new = (r ≡ Ok tt) × (new ≡ old)
 MixedRuns {C} calls old (e ∷ events) r new =
-    (answer : Result (Unit {0}) MixedFault) × (mid : MixedState C) × MixedStepGives calls old e answer mid × MatchBool (mixed_stops answer) ((r ≡ answer) × (new ≡ mid)) (MixedRuns calls mid events r new)
+    (answer : Result (Unit {0}) WorldFault) × (mid : MixedState C) × MixedStepGives calls old e answer mid × MatchBool (stops answer) ((r ≡ answer) × (new ≡ mid)) (MixedRuns calls mid events r new)
 
-abbrev pub MixedRunGives : {C : Type 0} → Calls C → MixedState C → List MixedEvent → Result (Unit {0}) MixedFault → MixedState C → Type 0
-MixedRunGives calls old events r new = MatchBool old.world.stopped (RefusesMixed (World (Carrier fault.Stopped)) old r new) (MixedRuns calls old events r new)
+abbrev pub MixedRunGives : {C : Type 0} → Calls C → MixedState C → List MixedEvent → Result (Unit {0}) WorldFault → MixedState C → Type 0
+MixedRunGives calls old events r new = MatchBool old.world.stopped (RefusesMixed (Carrier fault.Stopped) old r new) (MixedRuns calls old events r new)
 
 -- this many times: a quiet round, and then each host with a program that is up takes and offers. A stranger has no turn
-abbrev pub MixedCalmGives : {C : Type 0} → Calls C → ℕ → MixedState C → Result (Unit {0}) MixedFault → MixedState C → Type 0
+abbrev pub MixedCalmGives : {C : Type 0} → Calls C → ℕ → MixedState C → Result (Unit {0}) WorldFault → MixedState C → Type 0
 MixedCalmGives calls times old r new = OfWorld (CalmGives calls times old.world) old r new
 
 -- ---- all that was done

@@ -13,7 +13,7 @@ use Rattle.interface.specs.declared.message.HostMessage.{HostMessage}
 pub use Rattle.net_sim.specs.declared.event.Event.{Event}
 pub use Rattle.net_sim.specs.declared.event.Event.TheVariants.{Net, Quiet, Offer, Take, Ask, Server, User, Typed}
 pub use Rattle.net_sim.specs.declared.event.WorldFault.{WorldFault}
-pub use Rattle.net_sim.specs.declared.event.WorldFault.TheVariants.{Carrier, Program}
+pub use Rattle.net_sim.specs.declared.event.WorldFault.TheVariants.{Carrier, Program, NoProgram, HasProgram}
 pub use Rattle.net_sim.specs.declared.seat.Seat.{Seat}
 pub use Rattle.net_sim.specs.declared.seat.ServiceSeat.{ServiceSeat}
 use Rattle.host_services.specs.Services.{ServicesState, ServiceDeskState, no_services, opening_desk}
@@ -168,6 +168,16 @@ abbrev pub wants_memory : WorldFault → Bool
 wants_memory (Carrier f) = is_memory f
 wants_memory (Program problem.OutOfMemory) = true
 wants_memory (Program f) = false
+wants_memory NoProgram = false
+wants_memory HasProgram = false
+
+-- an answer that only a world with strangers gives
+abbrev pub is_of_strangers : Result (Unit {0}) WorldFault → Bool
+is_of_strangers (Ok done) = false
+is_of_strangers (Err (Carrier f)) = false
+is_of_strangers (Err (Program f)) = false
+is_of_strangers (Err NoProgram) = true
+is_of_strangers (Err HasProgram) = true
 
 -- it is refused, and nothing changes
 abbrev pub Refuses : {C : Type 0} → WorldFault → WorldState C → Result (Unit {0}) WorldFault → WorldState C → Type 0
@@ -263,7 +273,7 @@ StepGives calls old e r new = MatchBool old.stopped (Refuses (Carrier fault.Stop
 abbrev pub stops : Result (Unit {0}) WorldFault → Bool
 stops (Ok done) = false
 stops (Err (Carrier f)) = is_memory f || is_halt f
-stops (Err (Program f)) = wants_memory (Program f)
+stops (Err f) = wants_memory f
 
 -- one event after the other: it continues after a refusal, and ends when memory runs out
 abbrev pub Runs : {C : Type 0} → Calls C → WorldState C → List Event → Result (Unit {0}) WorldFault → WorldState C → Type 0

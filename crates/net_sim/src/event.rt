@@ -59,4 +59,10 @@ pub enum WorldFault {
     /// By the host's program.
     #[error("{0}")]
     Program(NcpFault),
+    /// The host is a stranger, and runs no program that could be asked for it.
+    #[error("no program")]
+    NoProgram,
+    /// The host runs the program, which says itself what goes out.
+    #[error("has program")]
+    HasProgram,
 }

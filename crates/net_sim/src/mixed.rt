@@ -1,6 +1,6 @@
 //! What may happen in a world with strangers, and why it is refused.
 
-use crate::event::{Event, WorldFault};
+use crate::event::Event;
 use interface::{HostAddr, HostMessage};
 use thiserror::Error;
 
@@ -11,20 +11,6 @@ pub enum MixedEvent {
     Any(Event),
     /// A stranger's message goes to the network as it is. Its source is the stranger.
     Out(HostMessage),
-}
-
-/// Why an event is refused in a world with strangers.
-#[derive(Clone, Copy, Debug, Drop, PartialEq, Eq, Error)]
-pub enum MixedFault {
-    /// As in any world.
-    #[error("{0}")]
-    World(WorldFault),
-    /// The host is a stranger, and runs no program that could be asked for it.
-    #[error("no program")]
-    NoProgram,
-    /// The host runs the program, which says itself what goes out.
-    #[error("has program")]
-    HasProgram,
 }
 
 /// Why there is no world with these strangers.

@@ -11,12 +11,12 @@ ghost use Rattle.net_sim.specs.World.{StepGives};
 ghost use Rattle.promise.specs.Fates.{AreFated};
 
 use crate::book::Book;
-use crate::mixed::{MixedEvent, MixedFault, StrangersFault};
+use crate::mixed::{MixedEvent, StrangersFault};
 use crate::parts::Hosts;
 use crate::seat::{Seat, ServiceSeat};
-use crate::strangers::{absent_in, answer_of, programs_of, stops_mixed, strangers_of};
+use crate::strangers::{absent_in, programs_of, strangers_of};
 use crate::world::are_addresses;
-use crate::world_core::WorldCore;
+use crate::world_core::{WorldCore, stops};
 use crate::{Event, WorldFault};
 use interface::{Carrier, CarrierFault, HostAddr};
 use promise::{BitLog, Fate};
@@ -143,7 +143,7 @@ impl<C: Carrier> MixedWorld<C> {
     ///
     /// Errors: those of [`World::step`](crate::World::step), and before them `NoProgram` for what a stranger's user or program would be
     /// asked for, and `HasProgram` where another than a stranger is to send a message that its program doesn't say.
-    pub fn step(&mut self, event: MixedEvent) -> Result<(), MixedFault>
+    pub fn step(&mut self, event: MixedEvent) -> Result<(), WorldFault>
         ensures { MixedStepGives (shown C.calls) self.old event result self.new }
     {
         self.core.step_among(&self.strangers, event)
@@ -163,15 +163,15 @@ impl<C: Carrier> MixedWorld<C> {
     }
 
     /// Lets one event happen after the other. It continues after a refusal, and ends when memory runs out.
-    pub fn run(&mut self, events: Vec<MixedEvent>) -> Result<(), MixedFault>
+    pub fn run(&mut self, events: Vec<MixedEvent>) -> Result<(), WorldFault>
         ensures { MixedRunGives (shown C.calls) self.old events.items result self.new }
     {
         if self.core.is_stopped() {
-            return Err(MixedFault::World(WorldFault::Carrier(CarrierFault::Stopped)));
+            return Err(WorldFault::Carrier(CarrierFault::Stopped));
         }
         for event in events {
             let done = self.step(event);
-            if stops_mixed(&done) {
+            if stops(&done) {
                 return done;
             }
         }
@@ -183,12 +183,12 @@ impl<C: Carrier> MixedWorld<C> {
     /// nothing.
     ///
     /// Errors: memory runs out, which ends the calm, and `Stopped` after that.
-    pub fn calm(&mut self, rounds: u32) -> Result<(), MixedFault>
+    pub fn calm(&mut self, rounds: u32) -> Result<(), WorldFault>
         ensures { MixedCalmGives (shown C.calls) rounds self.old result self.new }
     {
         let done = self.core.calm(rounds);
         self.core.is_run();
-        answer_of(done)
+        done
     }
 
     /// Returns whether more rounds of a calm are known to change nothing: the network is known to rest, so nothing

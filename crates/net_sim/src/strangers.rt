@@ -3,22 +3,20 @@
 ghost use Rattle.std.specs.Prelude.{◌≡◌, filter, IfOk};
 ghost use Rattle.interface.specs.Host.{is_host};
 ghost use Rattle.net_sim.specs.Carriers.{shown};
-ghost use Rattle.net_sim.specs.Inside.Mixed as inside;
 ghost use Rattle.net_sim.specs.Inside.Mixed.{mixed_after, mixed_of};
 ghost use Rattle.net_sim.specs.Inside.Parts.{AreLive, world_after, world_of};
 ghost use Rattle.net_sim.specs.Laws.Worlds.{IsNamedMixed};
 ghost use Rattle.net_sim.specs.MixedWorlds as mixed;
 ghost use Rattle.net_sim.specs.World.{Take};
-ghost use Rattle.net_sim.specs.MixedWorlds.{AnyGives, AskedGives, FetchGives, MixedEventGives, OutGives, SaysGives, mixed_answer, with_programs};
+ghost use Rattle.net_sim.specs.MixedWorlds.{AnyGives, AskedGives, FetchGives, MixedEventGives, OutGives, SaysGives, with_programs};
 
 use crate::events::{self, follow, is_named};
 use crate::hosting::likely_place;
-use crate::mixed::{MixedEvent, MixedFault};
+use crate::mixed::MixedEvent;
 use crate::parts::Hosts;
 use crate::seat::Seat;
 use crate::{Event, WorldFault};
 use interface::{Carrier, CarrierFault, HostAddr, HostMessage};
-use sockets::NcpFault;
 use std::alloc::{AllocError, Global};
 
 /// Returns whether a host is one of these.
@@ -107,16 +105,6 @@ fn asks_stranger(strangers: &[HostAddr], event: &Event) -> bool
     }
 }
 
-/// Returns the answer of a world with strangers, by that of its world.
-pub(crate) fn answer_of(done: Result<(), WorldFault>) -> Result<(), MixedFault>
-    ensures { result ≡ mixed_answer done }
-{
-    match done {
-        Ok(()) => Ok(()),
-        Err(fault) => Err(MixedFault::World(fault)),
-    }
-}
-
 /// Offers a stranger's message to the network as it is.
 fn go_out<C: Carrier>(
     carrier: &mut C,
@@ -150,20 +138,19 @@ fn say<C: Carrier>(
     hosts: &mut Hosts,
     strangers: &[HostAddr],
     message: HostMessage,
-) -> Result<(), MixedFault>
+) -> Result<(), WorldFault>
     ensures { SaysGives (shown C.calls) (mixed_of carrier.old hosts.old strangers.now) message result (mixed_after carrier.new hosts.new strangers.now result) }
 {
     let source = source_of(&message);
     if is_among(strangers, source) {
-        let done = go_out(carrier, hosts, message);
-        return answer_of(done);
+        return go_out(carrier, hosts, message);
     }
     // for the proof only: the carrier is asked nothing else here, and `log` says what it shows, which stays the same
     let _ = carrier.log();
     if has_seat(hosts.seats(), source) {
-        return Err(MixedFault::HasProgram);
+        return Err(WorldFault::HasProgram);
     }
-    Err(MixedFault::World(WorldFault::Carrier(CarrierFault::NoSuch)))
+    Err(WorldFault::Carrier(CarrierFault::NoSuch))
 }
 
 /// Lets a host take what came for it. A stranger's taking is only written down.
@@ -172,17 +159,15 @@ fn take<C: Carrier>(
     hosts: &mut Hosts,
     strangers: &[HostAddr],
     host: HostAddr,
-) -> Result<(), MixedFault>
+) -> Result<(), WorldFault>
     requires live { AreLive hosts.old.seats }
     ensures { AnyGives (shown C.calls) (mixed_of carrier.old hosts.old strangers.now) (Take host) result (mixed_after carrier.new hosts.new strangers.now result) }
 {
     if is_among(strangers, host) {
-        let done = fetch(carrier, hosts, host);
-        return answer_of(done);
+        return fetch(carrier, hosts, host);
     }
     let likely = likely_place(hosts.seats(), host);
-    let done = events::take(carrier, hosts, likely, host);
-    answer_of(done)
+    events::take(carrier, hosts, likely, host)
 }
 
 /// Lets happen what may happen in any world, unless a stranger is asked for it.
@@ -191,17 +176,16 @@ fn ask<C: Carrier>(
     hosts: &mut Hosts,
     strangers: &[HostAddr],
     event: &Event,
-) -> Result<(), MixedFault>
+) -> Result<(), WorldFault>
     requires live { AreLive hosts.old.seats }
     ensures { AskedGives (shown C.calls) (mixed_of carrier.old hosts.old strangers.now) event.now result (mixed_after carrier.new hosts.new strangers.now result) }
 {
     if asks_stranger(strangers, event) {
         // for the proof only, as in `say`
         let _ = carrier.log();
-        return Err(MixedFault::NoProgram);
+        return Err(WorldFault::NoProgram);
     }
-    let done = follow(carrier, hosts, event);
-    answer_of(done)
+    follow(carrier, hosts, event)
 }
 
 /// Lets happen what may happen in any world. A stranger takes what came for it, and is asked for nothing.
@@ -210,7 +194,7 @@ fn happen<C: Carrier>(
     hosts: &mut Hosts,
     strangers: &[HostAddr],
     event: &Event,
-) -> Result<(), MixedFault>
+) -> Result<(), WorldFault>
     requires live { AreLive hosts.old.seats }
     ensures { AnyGives (shown C.calls) (mixed_of carrier.old hosts.old strangers.now) event.now result (mixed_after carrier.new hosts.new strangers.now result) }
 {
@@ -232,7 +216,7 @@ pub(crate) fn follow_mixed<C: Carrier>(
     hosts: &mut Hosts,
     strangers: &[HostAddr],
     event: MixedEvent,
-) -> Result<(), MixedFault>
+) -> Result<(), WorldFault>
     requires live { AreLive hosts.old.seats }
     ensures { MixedEventGives (shown C.calls) (mixed_of carrier.old hosts.old strangers.now) event result (mixed_after carrier.new hosts.new strangers.now result) }
 {
@@ -251,30 +235,4 @@ pub(crate) fn is_named_mixed(event: &MixedEvent)
     if let MixedEvent::Any(event) = event {
         is_named(event);
     }
-}
-
-/// Returns whether a list of events ends after this answer.
-pub(crate) fn stops_mixed(done: &Result<(), MixedFault>) -> bool
-    ensures { result ≡ mixed.mixed_stops done.now }
-{
-    matches!(
-        done,
-        Err(MixedFault::World(
-            WorldFault::Carrier(CarrierFault::OutOfMemory | CarrierFault::Stopped)
-                | WorldFault::Program(NcpFault::OutOfMemory)
-        ))
-    )
-}
-
-/// Returns whether memory ran out.
-pub(crate) fn runs_out_mixed(done: &Result<(), MixedFault>) -> bool
-    ensures { result ≡ inside.mixed_runs_out done.now }
-{
-    matches!(
-        done,
-        Err(MixedFault::World(
-            WorldFault::Carrier(CarrierFault::OutOfMemory)
-                | WorldFault::Program(NcpFault::OutOfMemory)
-        ))
-    )
 }

@@ -2,7 +2,7 @@
 
 ghost use Rattle.std.specs.Prelude.{◌≡◌, ℕ, [], ◌∷◌, None, Some, Ok, map};
 ghost use Rattle.interface.specs.declared.carrier.CarrierFault.TheVariants as fault;
-ghost use Rattle.net_sim.specs.MixedWorlds.{Any, MixedCalmGives, Out, World, NoProgram, HasProgram};
+ghost use Rattle.net_sim.specs.MixedWorlds.{Any, MixedCalmGives, Out, NoProgram, HasProgram};
 ghost use Rattle.net_sim.specs.MixedWorlds.{absent_in, opening_mixed};
 ghost use Rattle.net_sim.specs.Rest.{IsAtRest};
 ghost use Rattle.net_sim.specs.Worked.{any_carrier, message};
@@ -30,15 +30,15 @@ pub fn worked_strangers()
     // a stranger's user and program are asked for nothing, and a host that isn't there isn't a stranger
     ensures asked { IsRefusedThere beside_third (Any (Ask third (request.Echo second 65))) NoProgram }
     ensures offered { IsRefusedThere beside_third (Any (Offer third)) NoProgram }
-    ensures absent { IsRefusedThere beside_third (Any (Offer fourth)) (World (Carrier fault.NoSuch)) }
+    ensures absent { IsRefusedThere beside_third (Any (Offer fourth)) (Carrier fault.NoSuch) }
 
     // no host speaks for another that runs the program, and none for one that isn't there
     ensures program { IsRefusedThere beside_third (Out (message first second 2)) HasProgram }
-    ensures nobody { IsRefusedThere beside_third (Out (message fourth second 2)) (World (Carrier fault.NoSuch)) }
+    ensures nobody { IsRefusedThere beside_third (Out (message fourth second 2)) (Carrier fault.NoSuch) }
 
     // after memory has run out nothing comes before Stopped
-    ensures stopped { IsRefusedThere spent (Out (message first second 2)) (World (Carrier fault.Stopped)) }
-    ensures stopped_asking { IsRefusedThere spent (Any (Offer third)) (World (Carrier fault.Stopped)) }
+    ensures stopped { IsRefusedThere spent (Out (message first second 2)) (Carrier fault.Stopped) }
+    ensures stopped_asking { IsRefusedThere spent (Any (Offer third)) (Carrier fault.Stopped) }
 
     ensures written { IsWritten }
 {}
@@ -54,5 +54,5 @@ pub fn worked_calm()
     ensures comes { IsAtRest waiting_carrier beside_nobody.world → ⊥ }
 
     // after memory has run out
-    ensures stopped { IsCalmRefused spent 1 (World (Carrier fault.Stopped)) }
+    ensures stopped { IsCalmRefused spent 1 (Carrier fault.Stopped) }
 {}

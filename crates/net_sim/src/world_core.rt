@@ -15,10 +15,10 @@ ghost use Rattle.net_sim.specs.World.{StepGives, Offer, Take};
 
 use crate::book::Book;
 use crate::events::{follow, is_named, offer, take};
-use crate::mixed::{MixedEvent, MixedFault};
+use crate::mixed::MixedEvent;
 use crate::parts::Hosts;
 use crate::seat::{Seat, ServiceSeat};
-use crate::strangers::{follow_mixed, is_named_mixed, runs_out_mixed};
+use crate::strangers::{follow_mixed, is_named_mixed};
 use crate::{Event, WorldFault};
 use interface::{Carrier, CarrierFault, HostAddr};
 use sockets::NcpFault;
@@ -162,19 +162,19 @@ impl<C: Carrier> WorldCore<C> {
         &mut self,
         strangers: &[HostAddr],
         event: MixedEvent,
-    ) -> Result<(), MixedFault>
+    ) -> Result<(), WorldFault>
         requires { IsHeldAmong C.calls.seen (mixed_with self.old strangers.now) }
         ensures gives { MixedStepGives (shown C.calls) (mixed_with self.old strangers.now) event result (mixed_with self.new strangers.now) }
         ensures held { IsHeldAmong C.calls.seen (mixed_with self.new strangers.now) }
     {
         if self.stopped {
-            return Err(MixedFault::World(WorldFault::Carrier(CarrierFault::Stopped)));
+            return Err(WorldFault::Carrier(CarrierFault::Stopped));
         }
         is_named_mixed(&event);
         let done = follow_mixed(&mut self.carrier, &mut self.hosts, strangers, event);
         // for the proof only, as in `step`
         let _ = self.carrier.log();
-        self.stopped = runs_out_mixed(&done);
+        self.stopped = runs_out(&done);
         done
     }
 }

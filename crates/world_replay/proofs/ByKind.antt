@@ -2,7 +2,7 @@
 use Rattle.world_replay.proofs.Common.{◌≡◌, ℕ, ◌+◌, ◌-◌, ◌<◌, ◌≤◌, zero, suc, Bool, true, false, List, [], ◌∷◌, ◌++◌, length}
 use Rattle.world_replay.proofs.Common.{Option, None, Some, Result, Ok, Err, refl, ap, ap₂, sym, subst, ◌∙◌, arith}
 use Rattle.world_replay.proofs.Common.{append-nil, Appends, Appends-nil, Appends-trans, Detail, Gains, Writes, output}
-use Rattle.world_replay.proofs.Common.{EventEnds, mixed_stops, MixedFault, gained, HappensBy, StopsBy, mixed_refusal}
+use Rattle.world_replay.proofs.Common.{EventEnds, WorldFault, gained, HappensBy, StopsBy, shown_refusal, stops}
 use Rattle.world_replay.proofs.Common.{IsReplayable}
 use Rattle.std.proofs.Common.{OnOk, add-one}
 use Rattle.replay.proofs.lemmas.{one_written}
@@ -13,7 +13,6 @@ use Rattle.replay.specs.declared.events.ReplayFault.TheVariants as fault
 use Rattle.world_replay.specs.Kinds.{BeginsAs, Kind}
 use Rattle.world_replay.specs.Seen.{AreSeenBy, CalmHandsOn, IsSeenBy, RoundPrints, RoundsPass}
 use Rattle.world_replay.specs.Output.{Shown}
-use Rattle.world_replay.specs.Steps.{Tells}
 use Rattle.world_replay.proofs.News.{output-append}
 use Rattle.world_replay.proofs.Grown.{gains_none}
 use Rattle.world_replay.proofs.Replays.{News, news_is}
@@ -69,41 +68,37 @@ module _ {S E : Type 0} (kind : Kind S E) (is : IsReplayable kind) where
 
   -- an event ends as its printing ends
   pub event_ends : {W : Type 0} (contents : W → Option (List ℕ)) (detail : Detail) (old : S) (e : E)
-      (answer : Result (Unit {0}) MixedFault) (new : S) (printed : Result (Unit {0}) ReplayFault)
+      (answer : Result (Unit {0}) WorldFault) (new : S) (printed : Result (Unit {0}) ReplayFault)
       (crossed noticed said : ℕ) (a : Option (List ℕ)) (mid last : W)
-      → Tells kind old e answer new → crossed ≡ length (kind.kept old).book.crossings → noticed ≡ length (kind.kept old).book.notices → said ≡ length (kind.kept old).book.reports
+      → kind.gives old e answer new → crossed ≡ length (kind.kept old).book.crossings → noticed ≡ length (kind.kept old).book.notices → said ≡ length (kind.kept old).book.reports
       → News contents detail crossed noticed said a mid (kind.kept new)
-      → OnOk printed (Appends (contents mid) (contents last) (output detail (mixed_refusal answer))) → OnOk printed (mixed_stops answer ≡ false)
-      → (printed ≡ Err fault.OutOfMemory → (mixed_stops answer ≡ true) × (last ≡ mid)) → OneEnds kind detail old e printed new a (contents last)
-  event_ends contents detail old e answer new (Ok done) crossed noticed said a mid last (outcome, gives, stops, shows) at same alike lines refusal goes memory =
-      let gains : Gains (kind.kept old) (kind.kept new) = is.gains e old outcome new gives in
+      → OnOk printed (Appends (contents mid) (contents last) (output detail (shown_refusal answer))) → OnOk printed (stops answer ≡ false)
+      → (printed ≡ Err fault.OutOfMemory → (stops answer ≡ true) × (last ≡ mid)) → OneEnds kind detail old e printed new a (contents last)
+  event_ends contents detail old e answer new (Ok done) crossed noticed said a mid last gives at same alike lines refusal goes memory =
+      let gains : Gains (kind.kept old) (kind.kept new) = is.gains e old answer new gives in
       record {
-        shown = gained gains ++ kind.refusal outcome;
-        is_shown = record { outcome = outcome; gives = gives; goes_on = sym stops ∙ goes; gains = gains; lines = refl };
-        written = subst (Appends a (contents last)) (sym (ap (λ (xs : List Shown). output detail (gained gains ++ xs)) shows ∙ output-append detail (gained gains) (mixed_refusal answer)))
-            (Appends-trans a (contents mid) (contents last) (output detail (gained gains)) (output detail (mixed_refusal answer))
+        shown = gained gains ++ shown_refusal answer;
+        is_shown = record { outcome = answer; gives = gives; goes_on = goes; gains = gains; lines = refl };
+        written = subst (Appends a (contents last)) (sym (output-append detail (gained gains) (shown_refusal answer)))
+            (Appends-trans a (contents mid) (contents last) (output detail (gained gains)) (output detail (shown_refusal answer))
             (subst (λ xs. Appends a (contents mid) (output detail xs)) (news_is (kind.kept old) (kind.kept new) gains crossed noticed said at same alike) lines) refusal);
       }
-  event_ends contents detail old e answer new (Err fault.OutOfMemory) crossed noticed said a mid last (outcome, gives, stops, shows) at same alike lines refusal goes memory =
-      let gains : Gains (kind.kept old) (kind.kept new) = is.gains e old outcome new gives in
-      let out : (mixed_stops answer ≡ true) × (last ≡ mid) = memory refl in
+  event_ends contents detail old e answer new (Err fault.OutOfMemory) crossed noticed said a mid last gives at same alike lines refusal goes memory =
+      let gains : Gains (kind.kept old) (kind.kept new) = is.gains e old answer new gives in
+      let out : (stops answer ≡ true) × (last ≡ mid) = memory refl in
       record {
         shown = gained gains;
-        is_shown = record { outcome = outcome; gives = gives; stops = sym stops ∙ out.0; gains = gains; lines = refl };
+        is_shown = record { outcome = answer; gives = gives; stops = out.0; gains = gains; lines = refl };
         written = subst (λ w. Appends a (contents w) (output detail (gained gains))) (sym out.1)
             (subst (λ xs. Appends a (contents mid) (output detail xs)) (news_is (kind.kept old) (kind.kept new) gains crossed noticed said at same alike) lines);
       }
-  event_ends contents detail old e answer new (Err fault.CannotWrite) crossed noticed said a mid last (outcome, gives, stops, shows) at same alike lines refusal goes memory = (outcome, gives)
+  event_ends contents detail old e answer new (Err fault.CannotWrite) crossed noticed said a mid last gives at same alike lines refusal goes memory = (answer, gives)
 
   -- ---- rounds, and then further ones
 
-  unshown : (n : ℕ) (old : S) (r : kind.Answer) (new : S) → kind.gives old (kind.calm n) r new → kind.stops r ≡ false
-      → kind.refusal r ≡ []
-  unshown n old r new gives on = ap kind.refusal (is.well n old r new gives on) ∙ is.unrefused
-
   shown_well : (n : ℕ) (old mid : S) (first : List Shown) (h : HappensBy kind old (kind.calm n) mid first)
       → first ≡ gained h.gains
-  shown_well n old mid first h = h.lines ∙ ap (λ (xs : List Shown). gained h.gains ++ xs) (unshown n old h.outcome mid h.gives h.goes_on) ∙ append-nil (gained h.gains)
+  shown_well n old mid first h = h.lines ∙ ap (λ (xs : List Shown). gained h.gains ++ xs) (ap shown_refusal (is.well n old h.outcome mid h.gives h.goes_on)) ∙ append-nil (gained h.gains)
 
   pub happens_more : (n k : ℕ) (old mid new : S) (first rest : List Shown)
       → HappensBy kind old (kind.calm (suc n)) mid first → HappensBy kind mid (kind.calm (suc k)) new rest
@@ -116,8 +111,8 @@ module _ {S E : Type 0} (kind : Kind S E) (is : IsReplayable kind) where
         gives = gives;
         goes_on = j.goes_on;
         gains = all;
-        lines = ap₂ (λ (xs ys : List Shown). xs ++ ys) (shown_well (suc n) old mid first h) j.lines ∙ sym (append_assoc (gained h.gains) (gained j.gains) (kind.refusal j.outcome))
-            ∙ ap (λ (xs : List Shown). xs ++ kind.refusal j.outcome) (sym (is.shows (suc n) (suc k) old mid new h.outcome j.outcome h.gives j.gives h.gains j.gains all));
+        lines = ap₂ (λ (xs ys : List Shown). xs ++ ys) (shown_well (suc n) old mid first h) j.lines ∙ sym (append_assoc (gained h.gains) (gained j.gains) (shown_refusal j.outcome))
+            ∙ ap (λ (xs : List Shown). xs ++ shown_refusal j.outcome) (sym (is.shows (suc n) (suc k) old mid new h.outcome j.outcome h.gives j.gives h.gains j.gains all));
       }
 
   stops_more : (n k : ℕ) (old mid new : S) (first rest : List Shown)
@@ -136,14 +131,14 @@ module _ {S E : Type 0} (kind : Kind S E) (is : IsReplayable kind) where
       }
 
   -- a world that rests shows nothing in a calm
-  rest_happens : (k : ℕ) (now : S) → kind.gives now (kind.calm k) kind.done now
+  rest_happens : (k : ℕ) (now : S) → kind.gives now (kind.calm k) (Ok tt) now
       → HappensBy kind now (kind.calm k) now []
   rest_happens k now gives = record {
-    outcome = kind.done;
+    outcome = Ok tt;
     gives = gives;
-    goes_on = is.lasts;
+    goes_on = refl;
     gains = gains_none (kind.kept now);
-    lines = sym is.unrefused;
+    lines = refl;
   }
 
   -- ---- this many rounds
@@ -177,7 +172,7 @@ module _ {S E : Type 0} (kind : Kind S E) (is : IsReplayable kind) where
     written = subst (Appends a c) (sym (output-append detail h.shown w.shown)) (Appends-trans a b c (output detail h.shown) (output detail w.shown) h.written w.written);
   }
 
-  after_gives : (detail : Detail) (count k : ℕ) (old now new : S) (q : kind.Answer) (a b : Option (List ℕ))
+  after_gives : (detail : Detail) (count k : ℕ) (old now new : S) (q : Result (Unit {0}) WorldFault) (a b : Option (List ℕ))
       → HaveRounds kind detail count old now a b → kind.gives now (kind.calm (suc k)) q new
       → kind.gives old (kind.calm (count + suc k)) q new
   after_gives detail zero k old now new q a b (same, none) gives =
@@ -222,7 +217,7 @@ module _ {S E : Type 0} (kind : Kind S E) (is : IsReplayable kind) where
   -- the end of a calm, of which the rounds that are left change nothing
   pub rounds_end : (detail : Detail) (count left total : ℕ) (old now : S) (a b : Option (List ℕ))
       → HaveRounds kind detail count old now a b → 0 < count → count + left ≡ total
-      → ((n : ℕ) → kind.gives now (kind.calm n) kind.done now)
+      → ((n : ℕ) → kind.gives now (kind.calm n) (Ok tt) now)
       → EventEnds kind detail old (kind.calm total) (Ok tt) now a b
   rounds_end detail zero left total old now a b h some sum rest = absurd (omega (arith, some))
   rounds_end detail (suc n) zero total old now a b h some sum rest =

@@ -9,16 +9,14 @@ pub use Rattle.interface.specs.declared.crossing.Crossing.{Crossing}
 pub use Rattle.net_sim.proofs.lemmas.{calm_keeps}
 pub use Rattle.net_sim.specs.Book.{Kept, all_asked, all_crossed, all_told, asked, book_told, crossed}
 pub use Rattle.net_sim.specs.Carriers.{shown}
-pub use Rattle.net_sim.specs.MixedWorlds.{FetchEnds, MixedState, OutEnds, RefusesMixed, mixed_answer, mixed_stops}
+pub use Rattle.net_sim.specs.MixedWorlds.{FetchEnds, MixedState, OutEnds, RefusesMixed}
 pub use Rattle.net_sim.specs.Worked.{any_carrier, fresh, message}
 pub use Rattle.net_sim.specs.World.{AskGives, AtProgram, AtSeat, CalmGives, Calms, Does, DoesOrHalts, Halts, NetEnds, OfferEnds, OfferGives, Passes, QuietEnds, Refuses, Repeats, StepGives, TakeEnds, TakeGives, TurnsOf, TypeGives, WorldState, changed, done_by, noticed, seat_of, served_at, services_of, stops, up_in, with_carrier, with_server, with_user, world_moved}
 pub use Rattle.net_sim.specs.declared.event.Event.{Event}
 pub use Rattle.net_sim.specs.declared.event.Event.TheVariants.{Ask, Net, Offer, Quiet, Server, Take, Typed, User}
 pub use Rattle.net_sim.specs.declared.event.WorldFault.{WorldFault}
-pub use Rattle.net_sim.specs.declared.event.WorldFault.TheVariants.{Carrier, Program}
+pub use Rattle.net_sim.specs.declared.event.WorldFault.TheVariants.{Carrier, HasProgram, NoProgram, Program}
 pub use Rattle.net_sim.specs.declared.mixed.MixedEvent.TheVariants.{Any, Out}
-pub use Rattle.net_sim.specs.declared.mixed.MixedFault.{MixedFault}
-pub use Rattle.net_sim.specs.declared.mixed.MixedFault.TheVariants.{HasProgram, NoProgram, World}
 pub use Rattle.net_sim.specs.declared.seat.Seat.{Seat}
 pub use Rattle.net_sim.specs.declared.seat.ServiceSeat.{ServiceSeat}
 pub use Rattle.promise.specs.declared.book.Told.{Told}
@@ -48,7 +46,7 @@ pub use Rattle.std.specs.List.{All}
 pub use Rattle.world_replay.specs.Driven.{Brings, Drive, Drives, Goes, IsCall, IsDriven, IsDrivenIn, IsShown, Raw, Round}
 pub use Rattle.world_replay.specs.Gains.{Gains, gained}
 pub use Rattle.world_replay.specs.Kinds.{HappensBy, StopsBy, mixed_kind}
-pub use Rattle.world_replay.specs.Output.{Noticed, Writes, mixed_refusal, notices_of, output, reports_of, shown_in_turn, shown_notices, shown_text, told_in_turn}
+pub use Rattle.world_replay.specs.Output.{Noticed, Writes, notices_of, output, reports_of, shown_in_turn, shown_notices, shown_refusal, shown_text, told_in_turn}
 pub use Rattle.world_replay.specs.Replay.{HappensInCalm, IsOfCalm, Replays, world_kind}
 pub use Rattle.world_replay.specs.Rounds.{Again, EndsAgain, EndsRepeated, Repeated, RoundOf, crosses, turns_in}
 pub use Rattle.world_replay.specs.Steps.{EventEnds, Fronts, IsReplayable}

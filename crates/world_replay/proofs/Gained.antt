@@ -1,10 +1,10 @@
 -- What is shown has all that a book gained, in any kind of world.
 use Rattle.world_replay.proofs.Common.{◌≡◌, ℕ, List, [], ◌∷◌, ◌++◌, length, reverse, Result, Ok, Err, refl, ap, sym}
-use Rattle.world_replay.proofs.Common.{subst, ◌∙◌, append-nil, Kept, grown_more, WorldFault, MixedFault, Gains, gained}
-use Rattle.world_replay.proofs.Common.{HappensBy, StopsBy, mixed_refusal, notices_of, reports_of}
+use Rattle.world_replay.proofs.Common.{subst, ◌∙◌, append-nil, Kept, grown_more, WorldFault, Gains, gained}
+use Rattle.world_replay.proofs.Common.{HappensBy, StopsBy, notices_of, reports_of, shown_refusal}
 use Rattle.std.proofs.lemmas.List.{append_assoc}
 use Rattle.world_replay.specs.Kinds.{Kind, ReplaysBy, RunsOutBy}
-use Rattle.world_replay.specs.Output.{Shown, crossings_of, shown_refusal}
+use Rattle.world_replay.specs.Output.{Shown, crossings_of}
 use Rattle.world_replay.proofs.News.{crossings_in_turn, crossings_of-append, notices_in_turn, notices_of-append}
 use Rattle.world_replay.proofs.News.{reports_in_turn, reports_of-append}
 
@@ -48,42 +48,36 @@ both_gained old mid new first rest h k = record {
 
 -- ---- refusals, by which nothing is gained
 
-pub refusal_gained : (k : Kept) (r : Result (Unit {0}) WorldFault) → HaveGains k k (shown_refusal r)
+refusal_gained : (k : Kept) (r : Result (Unit {0}) WorldFault) → HaveGains k k (shown_refusal r)
 refusal_gained k (Ok done) = nothing_gained k
 refusal_gained k (Err f) =
     record { crossed = refl; told = sym (append-nil k.book.notices); said = sym (append-nil k.book.reports) }
 
-pub mixed_refusal_gained : (k : Kept) (r : Result (Unit {0}) MixedFault) → HaveGains k k (mixed_refusal r)
-mixed_refusal_gained k (Ok done) = nothing_gained k
-mixed_refusal_gained k (Err f) =
-    record { crossed = refl; told = sym (append-nil k.book.notices); said = sym (append-nil k.book.reports) }
-
 -- ---- replays
 
-module _ {S E : Type 0} (kind : Kind S E) (refused : (k : Kept) (r : kind.Answer) → HaveGains k k (kind.refusal r))
-  where
-    happens_show : (old : S) (e : E) (new : S) (shown : List Shown) → HappensBy kind old e new shown
-        → HaveGains (kind.kept old) (kind.kept new) shown
-    happens_show old e new shown h =
-        subst (HaveGains (kind.kept old) (kind.kept new)) (sym h.lines)
-        (both_gained (kind.kept old) (kind.kept new) (kind.kept new) (gained h.gains) (kind.refusal h.outcome)
-        (news_gained (kind.kept old) (kind.kept new) h.gains) (refused (kind.kept new) h.outcome))
+module _ {S E : Type 0} (kind : Kind S E) where
+  happens_show : (old : S) (e : E) (new : S) (shown : List Shown) → HappensBy kind old e new shown
+      → HaveGains (kind.kept old) (kind.kept new) shown
+  happens_show old e new shown h =
+      subst (HaveGains (kind.kept old) (kind.kept new)) (sym h.lines)
+      (both_gained (kind.kept old) (kind.kept new) (kind.kept new) (gained h.gains) (shown_refusal h.outcome)
+      (news_gained (kind.kept old) (kind.kept new) h.gains) (refusal_gained (kind.kept new) h.outcome))
 
-    pub replays_show : (old : S) (events : List E) (new : S) (shown : List Shown) → ReplaysBy kind old events new shown
-        → HaveGains (kind.kept old) (kind.kept new) shown
-    replays_show old [] new shown h =
-        subst (λ (w : S). HaveGains (kind.kept old) (kind.kept w) shown) (sym h.0)
-        (subst (HaveGains (kind.kept old) (kind.kept old)) (sym h.1) (nothing_gained (kind.kept old)))
-    replays_show old (e ∷ events) new shown (mid, first, rest, happens, more, whole) =
-        subst (HaveGains (kind.kept old) (kind.kept new)) (sym whole)
-        (both_gained (kind.kept old) (kind.kept mid) (kind.kept new) first rest (happens_show old e mid first happens)
-        (replays_show mid events new rest more))
+  pub replays_show : (old : S) (events : List E) (new : S) (shown : List Shown) → ReplaysBy kind old events new shown
+      → HaveGains (kind.kept old) (kind.kept new) shown
+  replays_show old [] new shown h =
+      subst (λ (w : S). HaveGains (kind.kept old) (kind.kept w) shown) (sym h.0)
+      (subst (HaveGains (kind.kept old) (kind.kept old)) (sym h.1) (nothing_gained (kind.kept old)))
+  replays_show old (e ∷ events) new shown (mid, first, rest, happens, more, whole) =
+      subst (HaveGains (kind.kept old) (kind.kept new)) (sym whole)
+      (both_gained (kind.kept old) (kind.kept mid) (kind.kept new) first rest (happens_show old e mid first happens)
+      (replays_show mid events new rest more))
 
-    pub stops_show : (old : S) (events : List E) (new : S) (shown : List Shown) → RunsOutBy kind old events new shown
-        → HaveGains (kind.kept old) (kind.kept new) shown
-    stops_show old events new shown h =
-        subst (HaveGains (kind.kept old) (kind.kept new)) (sym h.lines)
-        (both_gained (kind.kept old) (kind.kept h.mid) (kind.kept new) h.front h.own
-        (replays_show old h.done h.mid h.front h.before)
-        (subst (HaveGains (kind.kept h.mid) (kind.kept new)) (sym h.goes.lines)
-        (news_gained (kind.kept h.mid) (kind.kept new) h.goes.gains)))
+  pub stops_show : (old : S) (events : List E) (new : S) (shown : List Shown) → RunsOutBy kind old events new shown
+      → HaveGains (kind.kept old) (kind.kept new) shown
+  stops_show old events new shown h =
+      subst (HaveGains (kind.kept old) (kind.kept new)) (sym h.lines)
+      (both_gained (kind.kept old) (kind.kept h.mid) (kind.kept new) h.front h.own
+      (replays_show old h.done h.mid h.front h.before)
+      (subst (HaveGains (kind.kept h.mid) (kind.kept new)) (sym h.goes.lines)
+      (news_gained (kind.kept h.mid) (kind.kept new) h.goes.gains)))

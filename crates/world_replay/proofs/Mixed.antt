@@ -1,5 +1,5 @@
 -- What a book gains where strangers speak and take.
-use Rattle.world_replay.proofs.Common.{inl, inr, [], ◌∷◌, Option, None, Some, Result, Ok, Err, ap, Calls, crossing_of, CalmGives, StepGives, WorldState, changed, with_carrier, Event, Take, WorldFault, Gains, FetchEnds, MixedState, OutEnds, RefusesMixed, Any, Out, MixedFault, HasProgram, NoProgram, World, Carrier, if◌then◌else◌, MixedWorldEvent}
+use Rattle.world_replay.proofs.Common.{inl, inr, [], ◌∷◌, Option, None, Some, Result, Ok, Err, ap, Calls, crossing_of, CalmGives, StepGives, WorldState, changed, with_carrier, Event, Take, WorldFault, Gains, FetchEnds, MixedState, OutEnds, RefusesMixed, Any, Out, HasProgram, NoProgram, Carrier, if◌then◌else◌, MixedWorldEvent}
 use Rattle.interface.specs.declared.carrier.CarrierFault.{CarrierFault}
 use Rattle.interface.specs.declared.carrier.CarrierFault.TheVariants as fault
 use Rattle.interface.specs.declared.crossing.Crossing.TheVariants as crossing
@@ -33,43 +33,43 @@ module _ {C : Type 0} (calls : Calls C) where
   -- ---- one event
 
   of_world : (Gives : Result (Unit {0}) WorldFault → WorldState C → Type 0) (old : MixedState C)
-      (r : Result (Unit {0}) MixedFault) (new : MixedState C)
+      (r : Result (Unit {0}) WorldFault) (new : MixedState C)
       → ((q : Result (Unit {0}) WorldFault) (w : WorldState C) → Gives q w → Gains old.world.kept w.kept)
       → OfWorld Gives old r new → Gains old.world.kept new.world.kept
-  of_world Gives old r new k (answer, gives, told, same) = k answer new.world gives
+  of_world Gives old r new k (gives, same) = k r new.world gives
 
-  refused : (f : MixedFault) (old : MixedState C) (r : Result (Unit {0}) MixedFault) (new : MixedState C)
+  refused : (f : WorldFault) (old : MixedState C) (r : Result (Unit {0}) WorldFault) (new : MixedState C)
       → RefusesMixed f old r new → Gains old.world.kept new.world.kept
   refused f old r new h = gains_same old.world.kept new.world.kept (ap (λ (s : MixedState C). s.world.kept) h.1)
 
-  as_any : (e : Event) (old : MixedState C) (r : Result (Unit {0}) MixedFault) (new : MixedState C)
+  as_any : (e : Event) (old : MixedState C) (r : Result (Unit {0}) WorldFault) (new : MixedState C)
       → OfWorld (StepGives calls old.world e) old r new → Gains old.world.kept new.world.kept
   as_any e old r new g = of_world (StepGives calls old.world e) old r new (λ q w t. step_gains calls e old.world q w t) g
 
-  asked_gains : (e : Event) (old : MixedState C) (r : Result (Unit {0}) MixedFault) (new : MixedState C)
+  asked_gains : (e : Event) (old : MixedState C) (r : Result (Unit {0}) WorldFault) (new : MixedState C)
       → AskedGives calls old e r new → Gains old.world.kept new.world.kept
   asked_gains e old r new h = on_either (is_strange (strange_in old) (asked_at e)) (λ s g. refused NoProgram old r new g) (λ s g. as_any e old r new g) h
 
-  any_gains : (e : Event) (old : MixedState C) (r : Result (Unit {0}) MixedFault) (new : MixedState C)
+  any_gains : (e : Event) (old : MixedState C) (r : Result (Unit {0}) WorldFault) (new : MixedState C)
       → AnyGives calls old e r new → Gains old.world.kept new.world.kept
   any_gains (Take h) old r new g =
       on_either (strange_in old h) (λ s f. of_world (FetchGives calls h old.world) old r new (λ q w t. (fetch_end t.0 t.1 old.world q w t.3).gains) f) (λ s f. as_any (Take h) old r new f) g
   any_gains e old r new g = asked_gains e old r new g
 
-  says_gains : (m : HostMessage) (old : MixedState C) (r : Result (Unit {0}) MixedFault) (new : MixedState C)
+  says_gains : (m : HostMessage) (old : MixedState C) (r : Result (Unit {0}) WorldFault) (new : MixedState C)
       → SaysGives calls old m r new → Gains old.world.kept new.world.kept
   says_gains m old r new h =
       on_either (strange_in old m.flow.source) (λ s g. of_world (OutGives calls m old.world) old r new (λ q w t. (out_end m t.0 t.1 old.world q w t.3).gains) g)
-      (λ s g. refused (if has_seat m.flow.source old.world.seats then HasProgram else World (Carrier fault.NoSuch)) old r new g) h
+      (λ s g. refused (if has_seat m.flow.source old.world.seats then HasProgram else Carrier fault.NoSuch) old r new g) h
 
-  mixed_gains : (e : MixedEvent) (old : MixedState C) (r : Result (Unit {0}) MixedFault) (new : MixedState C)
+  mixed_gains : (e : MixedEvent) (old : MixedState C) (r : Result (Unit {0}) WorldFault) (new : MixedState C)
       → mixed.MixedEventGives calls old e r new → Gains old.world.kept new.world.kept
   mixed_gains (Any e) old r new h = any_gains e old r new h
   mixed_gains (Out m) old r new h = says_gains m old r new h
 
   -- of a script
-  pub mixed_event_gains : (e : MixedWorldEvent) (old : MixedState C) (r : Result (Unit {0}) MixedFault)
+  pub mixed_event_gains : (e : MixedWorldEvent) (old : MixedState C) (r : Result (Unit {0}) WorldFault)
       (new : MixedState C)
       → MixedEventGives calls old e r new → Gains old.world.kept new.world.kept
-  mixed_event_gains (script.Happen e) old r new h = on_either old.world.stopped (λ s g. refused (World (Carrier fault.Stopped)) old r new g) (λ s g. mixed_gains e old r new g) h
+  mixed_event_gains (script.Happen e) old r new h = on_either old.world.stopped (λ s g. refused (Carrier fault.Stopped) old r new g) (λ s g. mixed_gains e old r new g) h
   mixed_event_gains (script.Calm rounds) old r new h = of_world (CalmGives calls rounds old.world) old r new (λ q w t. (calm_grows calls rounds old.world q w t).gains) h

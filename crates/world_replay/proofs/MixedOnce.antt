@@ -2,9 +2,9 @@
 use Rattle.world_replay.proofs.Common.{◌≡◌, inl, inr, Bool, true, false, List, ◌++◌, Option, Some, None, Result, Ok, Err}
 use Rattle.world_replay.proofs.Common.{ap, ap₂, sym, ◌∙◌, refl, MatchBool, Calls, Host, Kept, WorldState, stops}
 use Rattle.world_replay.proofs.Common.{StepGives, CalmGives, Event, Take, WorldFault, Carrier, AreSettled, shown}
-use Rattle.world_replay.proofs.Common.{FetchEnds, MixedState, OutEnds, RefusesMixed, mixed_answer, mixed_stops, Any, Out}
-use Rattle.world_replay.proofs.Common.{MixedFault, HasProgram, NoProgram, World, if◌then◌else◌, MixedWorldEvent}
-use Rattle.world_replay.proofs.Common.{HappensBy, StopsBy, mixed_kind, mixed_refusal, Gains, gained, HappensOnce}
+use Rattle.world_replay.proofs.Common.{FetchEnds, MixedState, OutEnds, RefusesMixed, Any, Out}
+use Rattle.world_replay.proofs.Common.{HasProgram, NoProgram, if◌then◌else◌, MixedWorldEvent}
+use Rattle.world_replay.proofs.Common.{HappensBy, StopsBy, mixed_kind, shown_refusal, Gains, gained, HappensOnce}
 use Rattle.world_replay.proofs.Common.{ShowsFront, in_turn_once}
 use Rattle.interface.specs.declared.carrier.CarrierFault.{CarrierFault}
 use Rattle.interface.specs.declared.carrier.CarrierFault.TheVariants as fault
@@ -20,24 +20,26 @@ use Rattle.world_script.specs.declared.event.MixedWorldEvent.TheVariants as scri
 use Rattle.world_replay.specs.Kinds.{MixedEventGives, ReplaysBy, RunsOutBy}
 use Rattle.world_replay.specs.Output.{Shown}
 use Rattle.world_replay.proofs.Grown.{Grew, gains_none, grew_more, step_kept}
-use Rattle.world_replay.proofs.Replayable.{lasts_there, stops_there}
 use Rattle.world_replay.proofs.Replays.{SameGains, gained_more, gains_once, same_news, shown_settled}
 use Rattle.world_replay.proofs.Steady.{Steady, fetch_once, no_stop, out_once, steady_calm, step_once}
 
 -- ---- what goes one way, running out of memory aside, and keeps the book where memory runs out
 
-record Settles {S A : Type 0} (halts : A → Bool) (kept : S → Kept) (old : S) (P : A → S → Type 0) : Type 0 where
-  once : (r q : A) (new other : S) → P r new → halts r ≡ false → P q other → halts q ≡ false
-      → (r ≡ q) × (new ≡ other)
-  stays : (r : A) (new : S) → P r new → halts r ≡ true → kept new ≡ kept old
+abbrev Answer : Type 0
+Answer = Result (Unit {0}) WorldFault
 
-settles_either : {S A : Type 0} (halts : A → Bool) (kept : S → Kept) (old : S) (b : Bool) (P Q : A → S → Type 0)
-    → Settles halts kept old P → Settles halts kept old Q → Settles halts kept old (λ r new. MatchBool b (P r new) (Q r new))
-settles_either halts kept old true P Q p q = record {
+record Settles {S : Type 0} (kept : S → Kept) (old : S) (P : Answer → S → Type 0) : Type 0 where
+  once : (r q : Answer) (new other : S) → P r new → stops r ≡ false → P q other → stops q ≡ false
+      → (r ≡ q) × (new ≡ other)
+  stays : (r : Answer) (new : S) → P r new → stops r ≡ true → kept new ≡ kept old
+
+settles_either : {S : Type 0} (kept : S → Kept) (old : S) (b : Bool) (P Q : Answer → S → Type 0)
+    → Settles kept old P → Settles kept old Q → Settles kept old (λ r new. MatchBool b (P r new) (Q r new))
+settles_either kept old true P Q p q = record {
   once = λ r s new other h hg k kg. p.once r s new other h hg k kg;
   stays = λ r new h stop. p.stays r new h stop;
 }
-settles_either halts kept old false P Q p q = record {
+settles_either kept old false P Q p q = record {
   once = λ r s new other h hg k kg. q.once r s new other h hg k kg;
   stays = λ r new h stop. q.stays r new h stop;
 }
@@ -45,21 +47,21 @@ settles_either halts kept old false P Q p q = record {
 -- ---- one event
 
 module _ {C : Type 0} (calls : Calls C) (settled : AreSettled calls) where
-  abbrev InWorld : WorldState C → (Result (Unit {0}) WorldFault → WorldState C → Type 0) → Type 0
-  InWorld old P = Settles stops (λ (w : WorldState C). w.kept) old P
+  abbrev InWorld : WorldState C → (Answer → WorldState C → Type 0) → Type 0
+  InWorld old P = Settles (λ (w : WorldState C). w.kept) old P
 
-  abbrev Among : MixedState C → (Result (Unit {0}) MixedFault → MixedState C → Type 0) → Type 0
-  Among old P = Settles mixed_stops (λ (s : MixedState C). s.world.kept) old P
+  abbrev Among : MixedState C → (Answer → MixedState C → Type 0) → Type 0
+  Among old P = Settles (λ (s : MixedState C). s.world.kept) old P
 
   out_stays : (m : HostMessage) (old : WorldState C) (a : Result (Unit {0}) CarrierFault) (c : C)
-      (r : Result (Unit {0}) WorldFault) (new : WorldState C)
+      (r : Answer) (new : WorldState C)
       → OutEnds m a c old r new → stops r ≡ true → new.kept ≡ old.kept
   out_stays m old (Ok done) c r new (inl d) stop = absurd (no_stop r stop (ap stops d.0))
   out_stays m old (Ok done) c r new (inr h) stop = h.kept
   out_stays m old (Err f) c r new h stop = ap (λ (w : WorldState C). w.kept) h.1
 
   fetch_stays : (old : WorldState C) (a : Result (Option Inbound) CarrierFault) (c : C)
-      (r : Result (Unit {0}) WorldFault) (new : WorldState C)
+      (r : Answer) (new : WorldState C)
       → FetchEnds a c old r new → stops r ≡ true → new.kept ≡ old.kept
   fetch_stays old (Ok None) c r new h stop = absurd (no_stop r stop (ap stops h.0))
   fetch_stays old (Ok (Some i)) c r new (inl d) stop = absurd (no_stop r stop (ap stops d.0))
@@ -89,25 +91,24 @@ module _ {C : Type 0} (calls : Calls C) (settled : AreSettled calls) where
       ap₂ (λ (w : WorldState C) (hs : List Host). let m : MixedState C = record { world = w; strangers = hs } in m)
       world strangers
 
-  of_world_once : (old : MixedState C) (Gives : Result (Unit {0}) WorldFault → WorldState C → Type 0)
-      → ((r q : Result (Unit {0}) WorldFault) (new other : WorldState C) → Gives r new → stops r ≡ false
+  of_world_once : (old : MixedState C) (Gives : Answer → WorldState C → Type 0)
+      → ((r q : Answer) (new other : WorldState C) → Gives r new → stops r ≡ false
       → Gives q other → stops q ≡ false → (r ≡ q) × (new ≡ other))
-      → (r q : Result (Unit {0}) MixedFault) (new other : MixedState C) → OfWorld Gives old r new
-      → mixed_stops r ≡ false → OfWorld Gives old q other → mixed_stops q ≡ false → (r ≡ q) × (new ≡ other)
-  of_world_once old Gives once r q new other (a, h, is, same) hg (b, k, so, alike) kg =
-      let one : (a ≡ b) × (new.world ≡ other.world) =
-      once a b new.world other.world h (lasts_there r a is hg) k (lasts_there q b so kg) in
-      (is ∙ ap mixed_answer one.0 ∙ sym so, same_state new other one.1 (same ∙ sym alike))
+      → (r q : Answer) (new other : MixedState C) → OfWorld Gives old r new
+      → stops r ≡ false → OfWorld Gives old q other → stops q ≡ false → (r ≡ q) × (new ≡ other)
+  of_world_once old Gives once r q new other (h, same) hg (k, alike) kg =
+      let one : (r ≡ q) × (new.world ≡ other.world) = once r q new.world other.world h hg k kg in
+      (one.0, same_state new other one.1 (same ∙ sym alike))
 
-  of_world : (old : MixedState C) (Gives : Result (Unit {0}) WorldFault → WorldState C → Type 0)
+  of_world : (old : MixedState C) (Gives : Answer → WorldState C → Type 0)
       → InWorld old.world Gives → Among old (OfWorld Gives old)
   of_world old Gives p = record {
     once = λ r q new other h hg k kg. of_world_once old Gives
         (λ a b w v ha ga kb gb. p.once a b w v ha ga kb gb) r q new other h hg k kg;
-    stays = λ r new h stop. p.stays h.0 new.world h.1 (stops_there r h.0 h.2 stop);
+    stays = λ r new h stop. p.stays r new.world h.0 stop;
   }
 
-  refused : (f : MixedFault) (old : MixedState C) → Among old (RefusesMixed f old)
+  refused : (f : WorldFault) (old : MixedState C) → Among old (RefusesMixed f old)
   refused f old = record {
     once = λ r q new other h hg k kg. (h.0 ∙ sym k.0, h.1 ∙ sym k.1);
     stays = λ r new h stop. ap (λ (s : MixedState C). s.world.kept) h.1;
@@ -115,13 +116,13 @@ module _ {C : Type 0} (calls : Calls C) (settled : AreSettled calls) where
 
   asked : (e : Event) (old : MixedState C) → Among old (AskedGives calls old e)
   asked e old =
-      settles_either mixed_stops (λ (s : MixedState C). s.world.kept) old (is_strange (strange_in old) (asked_at e))
+      settles_either (λ (s : MixedState C). s.world.kept) old (is_strange (strange_in old) (asked_at e))
       (RefusesMixed NoProgram old) (OfWorld (StepGives calls old.world e) old) (refused NoProgram old)
       (of_world old (StepGives calls old.world e) (step_settles e old.world))
 
   any : (e : Event) (old : MixedState C) → Among old (AnyGives calls old e)
   any (Take g) old =
-      settles_either mixed_stops (λ (s : MixedState C). s.world.kept) old (strange_in old g)
+      settles_either (λ (s : MixedState C). s.world.kept) old (strange_in old g)
       (OfWorld (FetchGives calls g old.world) old) (OfWorld (StepGives calls old.world (Take g)) old)
       (of_world old (FetchGives calls g old.world) (fetch_settles g old.world))
       (of_world old (StepGives calls old.world (Take g)) (step_settles (Take g) old.world))
@@ -129,9 +130,9 @@ module _ {C : Type 0} (calls : Calls C) (settled : AreSettled calls) where
 
   says : (m : HostMessage) (old : MixedState C) → Among old (SaysGives calls old m)
   says m old =
-      let f : MixedFault =
-      if has_seat m.flow.source old.world.seats then HasProgram else World (Carrier fault.NoSuch) in
-      settles_either mixed_stops (λ (s : MixedState C). s.world.kept) old (strange_in old m.flow.source)
+      let f : WorldFault =
+      if has_seat m.flow.source old.world.seats then HasProgram else Carrier fault.NoSuch in
+      settles_either (λ (s : MixedState C). s.world.kept) old (strange_in old m.flow.source)
       (OfWorld (OutGives calls m old.world) old) (RefusesMixed f old)
       (of_world old (OutGives calls m old.world) (out_settles m old.world)) (refused f old)
 
@@ -141,13 +142,13 @@ module _ {C : Type 0} (calls : Calls C) (settled : AreSettled calls) where
 
   single : (e : MixedEvent) (old : MixedState C) → Among old (MixedStepGives calls old e)
   single e old =
-      settles_either mixed_stops (λ (s : MixedState C). s.world.kept) old old.world.stopped
-      (RefusesMixed (World (Carrier fault.Stopped)) old) (mixed.MixedEventGives calls old e)
-      (refused (World (Carrier fault.Stopped)) old) (one_of e old)
+      settles_either (λ (s : MixedState C). s.world.kept) old old.world.stopped
+      (RefusesMixed (Carrier fault.Stopped) old) (mixed.MixedEventGives calls old e)
+      (refused (Carrier fault.Stopped) old) (one_of e old)
 
-  event_once : (e : MixedWorldEvent) (old : MixedState C) (r q : Result (Unit {0}) MixedFault) (new other : MixedState C)
-      → MixedEventGives calls old e r new → mixed_stops r ≡ false → MixedEventGives calls old e q other
-      → mixed_stops q ≡ false → (r ≡ q) × (new ≡ other)
+  event_once : (e : MixedWorldEvent) (old : MixedState C) (r q : Answer) (new other : MixedState C)
+      → MixedEventGives calls old e r new → stops r ≡ false → MixedEventGives calls old e q other
+      → stops q ≡ false → (r ≡ q) × (new ≡ other)
   event_once (script.Happen e) old r q new other h hg k kg = (single e old).once r q new other h hg k kg
   event_once (script.Calm rounds) old r q new other h hg k kg =
       of_world_once old (CalmGives calls rounds old.world)
@@ -166,8 +167,8 @@ module _ {C : Type 0} (calls : Calls C) (settled : AreSettled calls) where
       let news : gained h.gains ≡ gained k.gains =
       same_news old.world.kept new.world.kept other.world.kept h.gains k.gains same in (
         one.1,
-        h.lines ∙ ap (λ (xs : List Shown). xs ++ mixed_refusal h.outcome) news
-            ∙ ap (λ (r : Result (Unit {0}) MixedFault). gained k.gains ++ mixed_refusal r) one.0 ∙ sym k.lines,
+        h.lines ∙ ap (λ (xs : List Shown). xs ++ shown_refusal h.outcome) news
+            ∙ ap (λ (r : Answer). gained k.gains ++ shown_refusal r) one.0 ∙ sym k.lines,
       )
 
   -- where memory ran out, what is shown is the first part of what is shown where it doesn't
@@ -183,12 +184,9 @@ module _ {C : Type 0} (calls : Calls C) (settled : AreSettled calls) where
       )
   stops_front old (script.Calm rounds) new other part whole h k =
       let way : Steady old.world.kept (CalmGives calls rounds old.world) = steady_calm calls settled rounds old.world in
-      let (a, g, is, same) = h.gives in
-      let (b, f, so, alike) = k.gives in
-      let mine : Grew old.world.kept new.world.kept = way.grows a new.world g in
+      let mine : Grew old.world.kept new.world.kept = way.grows h.outcome new.world h.gives.0 in
       let later : Grew new.world.kept other.world.kept =
-      way.first a b new.world other.world g (stops_there h.outcome a is h.stops) f
-      (lasts_there k.outcome b so k.goes_on) in
+      way.first h.outcome k.outcome new.world other.world h.gives.0 h.stops k.gives.0 k.goes_on in
       let all : Grew old.world.kept other.world.kept =
       grew_more old.world.kept new.world.kept other.world.kept mine later in
       let part_is : part ≡ gained mine.gains =
@@ -197,12 +195,12 @@ module _ {C : Type 0} (calls : Calls C) (settled : AreSettled calls) where
       let all_is : gained k.gains ≡ gained all.gains =
       same_news old.world.kept other.world.kept other.world.kept k.gains all.gains
       (gains_once old.world.kept other.world.kept other.world.kept k.gains all.gains refl) in (
-        gained later.gains ++ mixed_refusal k.outcome,
-        k.lines ∙ ap (λ (xs : List Shown). xs ++ mixed_refusal k.outcome) all_is
-            ∙ ap (λ (xs : List Shown). xs ++ mixed_refusal k.outcome)
+        gained later.gains ++ shown_refusal k.outcome,
+        k.lines ∙ ap (λ (xs : List Shown). xs ++ shown_refusal k.outcome) all_is
+            ∙ ap (λ (xs : List Shown). xs ++ shown_refusal k.outcome)
             (gained_more old.world.kept new.world.kept other.world.kept mine later)
-            ∙ append_assoc (gained mine.gains) (gained later.gains) (mixed_refusal k.outcome)
-            ∙ ap (λ (xs : List Shown). xs ++ (gained later.gains ++ mixed_refusal k.outcome)) (sym part_is),
+            ∙ append_assoc (gained mine.gains) (gained later.gains) (shown_refusal k.outcome)
+            ∙ ap (λ (xs : List Shown). xs ++ (gained later.gains ++ shown_refusal k.outcome)) (sym part_is),
       )
 
 -- ---- events in turn

@@ -1,6 +1,5 @@
 -- What a replay needs of worlds, of those with strangers as well.
-use Rattle.world_replay.proofs.Common.{◌≡◌, ℕ, ◌+◌, zero, suc, Bool, true, false, List, ◌++◌, None, Some, Result, Ok, Err, refl, ap, ap₂, sym, subst, ◌∙◌, arith, Calls, CalmGives, Calms, WorldState, stops, WorldFault, WorldEvent, Gains, MixedState, mixed_answer, mixed_stops, MixedFault, gained, mixed_kind, world_kind, IsReplayable, MixedWorldEvent}
-use Rattle.net_sim.specs.MixedWorlds.{MixedCalmGives}
+use Rattle.world_replay.proofs.Common.{◌≡◌, ℕ, ◌+◌, zero, suc, Bool, true, false, List, ◌++◌, None, Some, Result, Ok, Err, refl, ap, ap₂, subst, ◌∙◌, arith, Calls, CalmGives, Calms, WorldState, stops, WorldFault, WorldEvent, Gains, MixedState, gained, mixed_kind, world_kind, IsReplayable, MixedWorldEvent}
 use Rattle.world_replay.specs.Kinds.{mixed_rounds}
 use Rattle.world_replay.specs.Output.{Shown}
 use Rattle.world_replay.specs.Replay.{rounds_in}
@@ -22,19 +21,6 @@ world_calm (event.Calm m) n has = ap event.Calm (let same : Some m ≡ Some n = 
 mixed_calm : (e : MixedWorldEvent) (n : ℕ) → mixed_rounds e ≡ Some n → e ≡ mixed.Calm n
 mixed_calm (mixed.Happen e) n has = absurd (let no : None ≡ Some n = has in cc)
 mixed_calm (mixed.Calm m) n has = ap mixed.Calm (let same : Some m ≡ Some n = has in cc)
-
--- a world with strangers answers as well as its world whether memory has run out
-same_stops : (a : Answer) → mixed_stops (mixed_answer a) ≡ stops a
-same_stops (Ok done) = refl
-same_stops (Err f) = refl
-
-pub lasts_there : (r : Result (Unit {0}) MixedFault) (a : Answer) → r ≡ mixed_answer a → mixed_stops r ≡ false
-    → stops a ≡ false
-lasts_there r a is on = sym (same_stops a) ∙ ap mixed_stops (sym is) ∙ on
-
-pub stops_there : (r : Result (Unit {0}) MixedFault) (a : Answer) → r ≡ mixed_answer a → mixed_stops r ≡ true
-    → stops a ≡ true
-stops_there r a is halts = sym (same_stops a) ∙ ap mixed_stops (sym is) ∙ halts
 
 module _ {C : Type 0} (calls : Calls C) where
   -- rounds in which memory lasts, and then further ones
@@ -86,8 +72,6 @@ module _ {C : Type 0} (calls : Calls C) where
   world_replayable = record {
     has_rounds = λ n. refl;
     is_calm = world_calm;
-    lasts = refl;
-    unrefused = refl;
     well = λ n old r new g on. well n old r new g on;
     gains = λ e old r new h. event_gains calls e old r new h;
     more = λ n k old mid new r q g on h. more n k old mid new r q g on h;
@@ -97,33 +81,13 @@ module _ {C : Type 0} (calls : Calls C) where
 
   -- ---- with strangers, a calm is that of the world
 
-  mixed_well : (n : ℕ) (old : MixedState C) (r : Result (Unit {0}) MixedFault) (new : MixedState C)
-      → MixedCalmGives calls n old r new → mixed_stops r ≡ false → r ≡ Ok tt
-  mixed_well n old r new (a, g, is, same) on = is ∙ ap mixed_answer (well n old.world a new.world g (lasts_there r a is on))
-
-  mixed_more : (n k : ℕ) (old mid new : MixedState C) (r q : Result (Unit {0}) MixedFault)
-      → MixedCalmGives calls (suc n) old r mid → mixed_stops r ≡ false → MixedCalmGives calls (suc k) mid q new
-      → MixedCalmGives calls (suc n + suc k) old q new
-  mixed_more n k old mid new r q (a, g, is, same) on (b, h, so, alike) = (b, more n k old.world mid.world new.world a b g (lasts_there r a is on) h, so, alike ∙ same)
-
-  mixed_shows : (n k : ℕ) (old mid new : MixedState C) (r q : Result (Unit {0}) MixedFault)
-      → MixedCalmGives calls n old r mid → MixedCalmGives calls k mid q new
-      → (g : Gains old.world.kept mid.world.kept) (h : Gains mid.world.kept new.world.kept) (all : Gains old.world.kept new.world.kept) → gained all ≡ gained g ++ gained h
-  mixed_shows n k old mid new r q (a, first, is, same) (b, next, so, alike) g h all = shows n k old.world mid.world new.world a b first next g h all
-
-  mixed_ends : (k : ℕ) (old new : MixedState C) (r : Result (Unit {0}) MixedFault) → MixedCalmGives calls 1 old r new
-      → mixed_stops r ≡ true → MixedCalmGives calls (suc k) old r new
-  mixed_ends k old new r (a, g, is, same) halts = (a, ends k old.world new.world a g (stops_there r a is halts) old.world.stopped refl, is, same)
-
   pub mixed_replayable : IsReplayable (mixed_kind calls)
   mixed_replayable = record {
     has_rounds = λ n. refl;
     is_calm = mixed_calm;
-    lasts = refl;
-    unrefused = refl;
-    well = λ n old r new g on. mixed_well n old r new g on;
+    well = λ n old r new g on. well n old.world r new.world g.0 on;
     gains = λ e old r new h. mixed_event_gains calls e old r new h;
-    more = λ n k old mid new r q g on h. mixed_more n k old mid new r q g on h;
-    shows = λ n k old mid new r q first next g h all. mixed_shows n k old mid new r q first next g h all;
-    ends = λ k old new r g halts. mixed_ends k old new r g halts;
+    more = λ n k old mid new r q g on h. (more n k old.world mid.world new.world r q g.0 on h.0, h.1 ∙ g.1);
+    shows = λ n k old mid new r q first next g h all. shows n k old.world mid.world new.world r q first.0 next.0 g h all;
+    ends = λ k old new r g halts. (ends k old.world new.world r g.0 halts old.world.stopped refl, g.1);
   }

@@ -1,5 +1,5 @@
 -- A settled carrier leaves a world no choice.
-use Rattle.world_replay.proofs.Common.{FetchEnds, OutEnds, ◌≡◌, inl, inr, ℕ, zero, suc, Bool, true, false, List, [], ◌∷◌, length, nat_lt, Option, Some, None, Result, Ok, Err, refl, sym, ap, subst, ◌∙◌, false≢true, MatchBool, Calls, crossing_of, step_crossings, is_memory, Host, Kept, WorldState, seat_of, services_of, up_in, with_carrier, world_moved, changed, with_server, with_user, TypeGives, DoesOrHalts, stops, Refuses, Does, Halts, Passes, OfferEnds, OfferGives, TakeEnds, TakeGives, NetEnds, QuietEnds, AskGives, AtProgram, AtSeat, StepGives, Repeats, TurnsOf, Calms, CalmGives, Event, Net, Quiet, Offer, Take, Ask, Server, User, Typed, WorldFault, Carrier, Program, Seat, GoesOn, AreSettled, accepted, NcpState, refusal, next_out, offered, NcpFault, Request, line_bits}
+use Rattle.world_replay.proofs.Common.{FetchEnds, OutEnds, ◌≡◌, inl, inr, ℕ, zero, suc, Bool, true, false, List, [], ◌∷◌, length, nat_lt, Option, Some, None, Result, Ok, Err, refl, sym, ap, subst, ◌∙◌, false≢true, MatchBool, Calls, crossing_of, step_crossings, is_memory, Host, Kept, WorldState, seat_of, services_of, up_in, with_carrier, world_moved, changed, with_server, with_user, TypeGives, DoesOrHalts, stops, Refuses, Does, Halts, Passes, OfferEnds, OfferGives, TakeEnds, TakeGives, NetEnds, QuietEnds, AskGives, AtProgram, AtSeat, StepGives, Repeats, TurnsOf, Calms, CalmGives, Event, Net, Quiet, Offer, Take, Ask, Server, User, Typed, WorldFault, Carrier, Seat, GoesOn, AreSettled, accepted, NcpState, refusal, next_out, offered, NcpFault, Request, line_bits}
 use Rattle.replay.specs.Replay.{outcome_of}
 use Rattle.std.proofs.Common.{◌||◌}
 use Rattle.interface.specs.Calls.{is_halt}
@@ -10,7 +10,8 @@ use Rattle.interface.specs.declared.crossing.Inbound.{Inbound}
 use Rattle.interface.specs.declared.event.NetEvent.{NetEvent}
 use Rattle.interface.specs.declared.message.HostMessage.{HostMessage}
 use Rattle.net_sim.specs.MixedWorlds.{FetchGives, OutGives}
-use Rattle.net_sim.specs.World.{wants_memory, EventGives}
+use Rattle.net_sim.proofs.lemmas.{memory_stops}
+use Rattle.net_sim.specs.World.{EventGives}
 use Rattle.replay.specs.Settled.{SameEnd}
 use Rattle.sockets.specs.declared.request.Request.TheVariants as request
 use Rattle.world_replay.proofs.Grown.{Grew, begins, grew_more, grew_same, step_grows, step_kept}
@@ -127,10 +128,6 @@ or_falls false false e = refl
 
 pub passes_goes : {C : Type 0} (f : CarrierFault) (c : C) (old : WorldState C) (r : Result (Unit {0}) WorldFault) (new : WorldState C) → Passes f c old r new → stops r ≡ false → (is_halt f || is_memory f) ≡ false
 passes_goes f c old r new h goes = or_falls (is_memory f) (is_halt f) (ap stops (sym h.0) ∙ goes)
-
-memory_stops : (f : WorldFault) → wants_memory f ≡ true → stops (Err f) ≡ true
-memory_stops (Carrier f) h = rw h refl
-memory_stops (Program f) h = h
 
 pub halts_stop : {C : Type 0} (c : C) (old : WorldState C) (r : Result (Unit {0}) WorldFault) (new : WorldState C) → Halts c old r new → stops r ≡ false → ⊥
 halts_stop c old r new h goes = no_stop r (ap stops h.answer ∙ memory_stops h.fault h.memory) goes

@@ -1,5 +1,5 @@
 -- What is shown of a stranger in a small world.
-use Rattle.world_replay.proofs.Common.{◌≡◌, inl, inr, ℕ, Bool, true, false, List, [], ◌∷◌, ◌++◌, Option, None, Some, Result, Ok, Err, refl, ap, sym, subst, ◌∙◌, append-nil, Calls, Seen, crossing_of, Host, Crossing, StepGives, WorldState, AtProgram, AtSeat, OfferGives, QuietEnds, TakeEnds, TakeGives, changed, stops, seat_of, world_moved, Event, Ask, Net, Offer, Quiet, Server, Take, Typed, User, WorldFault, Kept, crossed, Gains, NcpState, first, second, message, Seat, IsOfCalm, if◌then◌else◌, same_host, calm_keeps, FetchEnds, MixedState, OutEnds, RefusesMixed, mixed_answer, Any, Out, MixedFault, any_carrier, Told, opening_state, third, gained, HappensBy, mixed_kind, Noticed, mixed_refusal, MixedWorldEvent}
+use Rattle.world_replay.proofs.Common.{◌≡◌, inl, inr, ℕ, Bool, true, false, List, [], ◌∷◌, ◌++◌, Option, None, Some, Result, Ok, Err, refl, ap, sym, subst, ◌∙◌, append-nil, Calls, Seen, crossing_of, Host, Crossing, StepGives, WorldState, AtProgram, AtSeat, OfferGives, QuietEnds, TakeEnds, TakeGives, changed, stops, seat_of, world_moved, Event, Ask, Net, Offer, Quiet, Server, Take, Typed, User, WorldFault, Kept, crossed, Gains, NcpState, first, second, message, Seat, IsOfCalm, if◌then◌else◌, same_host, calm_keeps, FetchEnds, MixedState, OutEnds, RefusesMixed, Any, Out, any_carrier, Told, opening_state, third, gained, HappensBy, mixed_kind, Noticed, shown_refusal, MixedWorldEvent}
 use Rattle.bit_messages.specs.Octets.{octets_of}
 use Rattle.host_pairs.specs.Control.{orders_of}
 use Rattle.host_pairs.specs.declared.notice.Notice.TheVariants as notice
@@ -20,7 +20,7 @@ use Rattle.net_sim.specs.World.{EventGives, opening_seats}
 use Rattle.sockets.specs.Accepting.{accepted}
 use Rattle.sockets.specs.Sending.{next_out}
 use Rattle.world_replay.proofs.Grown.{at_seat, gains_none, if_stopped}
-use Rattle.world_replay.proofs.Replayable.{lasts_there, mixed_replayable}
+use Rattle.world_replay.proofs.Replayable.{mixed_replayable}
 use Rattle.world_replay.proofs.Replays.{gains_once, same_news}
 use Rattle.world_replay.proofs.Rounds.{is_false}
 use Rattle.world_replay.proofs.Steady.{halts_stop}
@@ -42,21 +42,21 @@ world = beside_third.world
 
 -- ---- refusals
 
-pub refused_only : (calls : Calls Seen) (e : MixedWorldEvent) (f : MixedFault) (new : MixedState Seen)
+pub refused_only : (calls : Calls Seen) (e : MixedWorldEvent) (f : WorldFault) (new : MixedState Seen)
     (shown : List Shown) (h : HappensBy (mixed_kind calls) beside_third e new shown)
     → RefusesMixed f beside_third h.outcome new → shown ≡ Refused f ∷ []
 refused_only calls e f new shown h refuses =
-    h.lines ∙ ap (λ (xs : List Shown). xs ++ mixed_refusal h.outcome) (unmoved beside_third.world.kept new.world.kept h.gains (ap (λ (s : MixedState Seen). s.world.kept) refuses.1))
-    ∙ ap mixed_refusal refuses.0
+    h.lines ∙ ap (λ (xs : List Shown). xs ++ shown_refusal h.outcome) (unmoved beside_third.world.kept new.world.kept h.gains (ap (λ (s : MixedState Seen). s.world.kept) refuses.1))
+    ∙ ap shown_refusal refuses.0
 
 -- ---- what it says and takes
 
 went_well : (c : Crossing) (e : MixedWorldEvent) (calls : Calls Seen) (new : MixedState Seen) (shown : List Shown)
-    (h : HappensBy (mixed_kind calls) beside_third e new shown) (q : Result (Unit {0}) WorldFault)
-    → h.outcome ≡ mixed_answer q → (new.world.kept ≡ crossed c beside_third.world.kept) × (q ≡ Ok tt) → shown ≡ Crossed c ∷ []
-went_well c e calls new shown h q is (kept, well) =
-    h.lines ∙ ap (λ (xs : List Shown). xs ++ mixed_refusal h.outcome) (moved c beside_third.world.kept new.world.kept h.gains kept)
-    ∙ ap (λ (r : Result (Unit {0}) MixedFault). Crossed c ∷ mixed_refusal r) (is ∙ ap mixed_answer well)
+    (h : HappensBy (mixed_kind calls) beside_third e new shown)
+    → (new.world.kept ≡ crossed c beside_third.world.kept) × (h.outcome ≡ Ok tt) → shown ≡ Crossed c ∷ []
+went_well c e calls new shown h (kept, well) =
+    h.lines ∙ ap (λ (xs : List Shown). xs ++ shown_refusal h.outcome) (moved c beside_third.world.kept new.world.kept h.gains kept)
+    ∙ ap (λ (r : Result (Unit {0}) WorldFault). Crossed c ∷ shown_refusal r) well
 
 said : (m : HostMessage) (a : Result (Unit {0}) CarrierFault) (c : Seen) (q : Result (Unit {0}) WorldFault)
     (w : WorldState Seen)
@@ -79,17 +79,17 @@ pub says_only : (new : MixedState Seen) (shown : List Shown)
     → HappensBy (mixed_kind accepting_carrier) beside_third (script.Happen (Out (message third first 2))) new shown
     → shown ≡ Crossed (crossing.Out (message third first 2)) ∷ []
 says_only new shown h =
-    let (q, (a, c, call, ends), told, same) = h.gives in
-    went_well (crossing.Out (message third first 2)) (script.Happen (Out (message third first 2))) accepting_carrier new shown h q told
-    (said (message third first 2) a c q new.world call.0 ends (lasts_there h.outcome q told h.goes_on))
+    let ((a, c, call, ends), same) = h.gives in
+    went_well (crossing.Out (message third first 2)) (script.Happen (Out (message third first 2))) accepting_carrier new shown h
+    (said (message third first 2) a c h.outcome new.world call.0 ends h.goes_on)
 
 pub takes_only : (new : MixedState Seen) (shown : List Shown)
     → HappensBy (mixed_kind waiting_carrier) beside_third (script.Happen (Any (Take third))) new shown
     → (i : Inbound) × (shown ≡ Crossed (crossing_of i) ∷ [])
 takes_only new shown h =
-    let (q, (a, c, ((i, given), seen), ends), told, same) = h.gives in
-    let (j, kept, well) = took i a c q new.world given ends (lasts_there h.outcome q told h.goes_on) in
-    (j, went_well (crossing_of j) (script.Happen (Any (Take third))) waiting_carrier new shown h q told (kept, well))
+    let ((a, c, ((i, given), seen), ends), same) = h.gives in
+    let (j, kept, well) = took i a c h.outcome new.world given ends h.goes_on in
+    (j, went_well (crossing_of j) (script.Happen (Any (Take third))) waiting_carrier new shown h (kept, well))
 
 -- ---- a calm
 
@@ -172,10 +172,9 @@ step_stays e old r new n p h = if_stopped waiting_carrier (EventGives waiting_ca
 pub waits : (rounds : ℕ) (new : MixedState Seen) (shown : List Shown)
     → HappensBy (mixed_kind waiting_carrier) beside_third (script.Calm rounds) new shown → shown ≡ []
 waits rounds new shown h =
-    let (q, gives, told, same) = h.gives in
-    let stays : Stays new.world = calm_keeps waiting_carrier Stays IsOfCalm tt (λ x. tt) (λ x. tt) (λ e old r w n p s. step_stays e old r w n p s) rounds world q new.world (refl, refl) gives in
+    let stays : Stays new.world = calm_keeps waiting_carrier Stays IsOfCalm tt (λ x. tt) (λ x. tt) (λ e old r w n p s. step_stays e old r w n p s) rounds world h.outcome new.world (refl, refl) h.gives.0 in
     let well : h.outcome ≡ Ok tt = (mixed_replayable waiting_carrier).well rounds beside_third h.outcome new h.gives h.goes_on in
-    h.lines ∙ ap (λ (xs : List Shown). xs ++ mixed_refusal h.outcome) (unmoved beside_third.world.kept new.world.kept h.gains stays.0) ∙ ap mixed_refusal well
+    h.lines ∙ ap (λ (xs : List Shown). xs ++ shown_refusal h.outcome) (unmoved beside_third.world.kept new.world.kept h.gains stays.0) ∙ ap shown_refusal well
 
 -- ---- it hails a host, which answers
 
@@ -195,7 +194,7 @@ answered = record heard { world = changed (grown heard.world.carrier (crossing.A
 goes_out : HappensBy (mixed_kind there) beside_third (script.Happen (Out hail)) sent (Crossed (crossing.Out hail) ∷ [])
 goes_out = record {
   outcome = Ok tt;
-  gives = (Ok tt, (Ok tt, grown three_seen (crossing.Out hail ∷ []), record { running = refl; shown = refl }, inl (refl, refl)), refl, refl);
+  gives = ((Ok tt, grown three_seen (crossing.Out hail ∷ []), record { running = refl; shown = refl }, inl (refl, refl)), refl);
   goes_on = refl;
   gains = record { crossings = crossing.Out hail ∷ []; notices = []; reports = []; crossed = refl; told = refl; said = refl };
   lines = refl;
@@ -208,7 +207,7 @@ comes_in : HappensBy (mixed_kind there) sent (script.Happen (Any (Take first))) 
 unfolding accepted services.services_told octets_of packed_count command_of read_of orders_of
 comes_in = record {
   outcome = Ok tt;
-  gives = (Ok tt, (Ok (Some (inbound.Message hail)), grown sent.world.carrier (crossing.In hail ∷ []), (record { running = refl; shown = refl }, refl), inl (refl, refl)), refl, refl);
+  gives = ((Ok (Some (inbound.Message hail)), grown sent.world.carrier (crossing.In hail ∷ []), (record { running = refl; shown = refl }, refl), inl (refl, refl)), refl);
   goes_on = refl;
   gains = record { crossings = crossing.In hail ∷ []; notices = told ∷ []; reports = []; crossed = refl; told = refl; said = refl };
   lines = refl;
@@ -217,7 +216,7 @@ comes_in = record {
 is_answered : HappensBy (mixed_kind there) heard (script.Happen (Any (Take third))) answered (Crossed (crossing.Answer answer.Rfnm hail.flow) ∷ [])
 is_answered = record {
   outcome = Ok tt;
-  gives = (Ok tt, (Ok (Some (inbound.Answer answer.Rfnm hail.flow)), grown heard.world.carrier (crossing.Answer answer.Rfnm hail.flow ∷ []), (record { running = refl; shown = refl }, refl), inl (refl, refl)), refl, refl);
+  gives = ((Ok (Some (inbound.Answer answer.Rfnm hail.flow)), grown heard.world.carrier (crossing.Answer answer.Rfnm hail.flow ∷ []), (record { running = refl; shown = refl }, refl), inl (refl, refl)), refl);
   goes_on = refl;
   gains = record { crossings = crossing.Answer answer.Rfnm hail.flow ∷ []; notices = []; reports = []; crossed = refl; told = sym (append-nil heard.world.kept.book.notices); said = sym (append-nil heard.world.kept.book.reports) };
   lines = refl;

@@ -1,13 +1,14 @@
 -- The events of a script over any kind of world, and what they show. `Replay` says the same of worlds whose hosts all run the program.
-use Rattle.std.specs.Prelude.{◌≡◌, ℕ, ◌≤◌, Bool, true, false, List, [], ◌++◌, Option, Some, None, Result, Ok}
+use Rattle.std.specs.Prelude.{◌≡◌, ℕ, ◌≤◌, true, false, List, [], ◌++◌, Option, Some, None, Result}
 use Rattle.interface.specs.Calls.{Calls}
 use Rattle.net_sim.specs.Book.{Kept}
 use Rattle.net_sim.specs.Rest.{IsAtRest}
-use Rattle.net_sim.specs.MixedWorlds.{MixedCalmGives, MixedState, MixedStepGives, mixed_stops}
-use Rattle.net_sim.specs.declared.mixed.MixedFault.{MixedFault}
+use Rattle.net_sim.specs.MixedWorlds.{MixedCalmGives, MixedState, MixedStepGives}
+use Rattle.net_sim.specs.World.{stops}
+use Rattle.net_sim.specs.declared.event.WorldFault.{WorldFault}
 use Rattle.replay.specs.InTurn.{EndsInTurn, Happening, InTurn}
 use Rattle.world_replay.specs.Gains.{Gains, gained}
-use Rattle.world_replay.specs.Output.{Shown, mixed_refusal}
+use Rattle.world_replay.specs.Output.{Shown, shown_refusal}
 use Rattle.world_script.specs.declared.event.MixedWorldEvent.{MixedWorldEvent}
 use Rattle.world_script.specs.declared.event.MixedWorldEvent.TheVariants as mixed
 
@@ -15,14 +16,8 @@ use Rattle.world_script.specs.declared.event.MixedWorldEvent.TheVariants as mixe
 pub record Kind (S E : Type 0) : Type 1 where
   -- what is kept of a world
   pub kept : S → Kept
-  -- what an event is answered, and the answer where all is done
-  pub Answer : Type 0
-  pub done : Answer
-  -- how one event may go: the world before, the event, the answer, and the world after
-  pub gives : S → E → Answer → S → Type 0
-  -- whether memory has run out, and the refusal that is shown, if there is one
-  pub stops : Answer → Bool
-  pub refusal : Answer → List Shown
+  -- how one event may go: the world before, the event, whether it was refused, and the world after
+  pub gives : S → E → Result (Unit {0}) WorldFault → S → Type 0
   -- the calm of this many rounds, and how many rounds an event has that is a calm
   pub calm : ℕ → E
   pub rounds : E → Option ℕ
@@ -35,11 +30,11 @@ pub record Kind (S E : Type 0) : Type 1 where
 -- it and each report after its notice, and then its refusal. Of a single event these are its crossings and then its notices with
 -- their reports, and of a calm those of each of its events in turn, without the refusals
 pub record HappensBy {S E : Type 0} (kind : Kind S E) (old : S) (e : E) (new : S) (shown : List Shown) : Type 0 where
-  pub outcome : kind.Answer
+  pub outcome : Result (Unit {0}) WorldFault
   pub gives : kind.gives old e outcome new
-  pub goes_on : kind.stops outcome ≡ false
+  pub goes_on : stops outcome ≡ false
   pub gains : Gains (kind.kept old) (kind.kept new)
-  pub lines : shown ≡ gained gains ++ kind.refusal outcome
+  pub lines : shown ≡ gained gains ++ shown_refusal outcome
 
 -- the events happen one after the other, and show these lines together
 abbrev pub ReplaysBy : {S E : Type 0} → Kind S E → S → List E → S → List Shown → Type 0
@@ -49,9 +44,9 @@ ReplaysBy kind old events new shown = InTurn (HappensBy kind) old events new sho
 
 -- memory ran out at this event: a calm shows what its world's book gained before that, and a single event nothing
 pub record StopsBy {S E : Type 0} (kind : Kind S E) (old : S) (e : E) (new : S) (shown : List Shown) : Type 0 where
-  pub outcome : kind.Answer
+  pub outcome : Result (Unit {0}) WorldFault
   pub gives : kind.gives old e outcome new
-  pub stops : kind.stops outcome ≡ true
+  pub stops : stops outcome ≡ true
   pub gains : Gains (kind.kept old) (kind.kept new)
   pub lines : shown ≡ gained gains
 
@@ -68,7 +63,7 @@ BeginsBy kind e first = BeginsAs kind (kind.rounds e) e first
 pub record MayDoBy {S E : Type 0} (kind : Kind S E) (old : S) (e : E) (new : S) (shown : List Shown) : Type 0 where
   pub processed : E
   pub begins : BeginsBy kind e processed
-  pub outcome : kind.Answer
+  pub outcome : Result (Unit {0}) WorldFault
   pub gives : kind.gives old processed outcome new
   pub unknown : shown ≡ []
 
@@ -85,7 +80,7 @@ BreaksOffBy kind old events new shown = EndsBy kind (MayDoBy kind) old events ne
 
 -- ---- worlds with strangers
 
-abbrev pub MixedEventGives : {C : Type 0} → Calls C → MixedState C → MixedWorldEvent → Result (Unit {0}) MixedFault
+abbrev pub MixedEventGives : {C : Type 0} → Calls C → MixedState C → MixedWorldEvent → Result (Unit {0}) WorldFault
     → MixedState C → Type 0
 MixedEventGives calls old (mixed.Happen e) r new = MixedStepGives calls old e r new
 MixedEventGives calls old (mixed.Calm rounds) r new = MixedCalmGives calls rounds old r new
@@ -97,11 +92,7 @@ mixed_rounds (mixed.Calm rounds) = Some rounds
 abbrev pub mixed_kind : {C : Type 0} → Calls C → Kind (MixedState C) MixedWorldEvent
 mixed_kind {C} calls = record {
   kept = λ (s : MixedState C). s.world.kept;
-  Answer = Result (Unit {0}) MixedFault;
-  done = Ok tt;
   gives = MixedEventGives calls;
-  stops = mixed_stops;
-  refusal = mixed_refusal;
   calm = mixed.Calm;
   rounds = mixed_rounds;
   rests = λ (s : MixedState C). IsAtRest calls s.world;

@@ -10,7 +10,6 @@ use Rattle.net_sim.specs.World.{StepGives, WorldState, stops}
 use Rattle.net_sim.specs.declared.event.Event.{Event}
 use Rattle.net_sim.specs.declared.event.WorldFault.TheVariants.{Carrier}
 use Rattle.net_sim.specs.declared.event.WorldFault.{WorldFault}
-use Rattle.net_sim.specs.declared.mixed.MixedFault.TheVariants.{World}
 use Rattle.replay.specs.InTurn.{InTurn}
 use Rattle.replay.specs.Output as raw
 use Rattle.replay.specs.Replay.{GoesOn}
@@ -130,7 +129,7 @@ pub record WorkedNews : Type 0 where
   pub begun : shown_in_turn 5 [] (told_in_turn 3 [] (said_at 3 ∷ [])) ≡ Said (said_at 3) ∷ []
   -- the notices to users and what services reported, among the other lines
   pub notices :
-      notices_of (Crossed went ∷ Noticed (told_at 1) ∷ Said (said_at 4) ∷ Refused (World (Carrier fault.NoSuch)) ∷
+      notices_of (Crossed went ∷ Noticed (told_at 1) ∷ Said (said_at 4) ∷ Refused (Carrier fault.NoSuch) ∷
       Noticed (told_at 2) ∷ [])
       ≡ told_at 1 ∷ told_at 2 ∷ []
   pub reports :

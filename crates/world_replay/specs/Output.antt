@@ -5,27 +5,24 @@ use Rattle.interface.specs.declared.crossing.Crossing.{Crossing}
 use Rattle.promise.specs.declared.book.Told.{Told}
 use Rattle.promise.specs.declared.life.Life.{Life}
 use Rattle.net_sim.specs.declared.event.WorldFault.{WorldFault}
-use Rattle.net_sim.specs.declared.mixed.MixedFault.{MixedFault}
-use Rattle.net_sim.specs.declared.mixed.MixedFault.TheVariants.{World}
 use Rattle.replay.specs.InTurn.{WritesLines, text_of}
 use Rattle.replay.specs.Output.{crossing_line}
 use Rattle.replay.specs.declared.print.Detail.{Detail}
-use Rattle.world_replay.specs.Printed.{life_text, mixed_refusal_text, reported_text, told_text}
+use Rattle.world_replay.specs.Printed.{life_text, refusal_text, reported_text, told_text}
 
--- one line that a replay prints: a crossing, something that a user was notified, something that a service reported, or a refusal, as in a world
--- with strangers
+-- one line that a replay prints: a crossing, something that a user was notified, something that a service reported, or a refusal
 pub data Shown : Type 0 where
   Crossed : Crossing → Shown
   Noticed : Told → Shown
   Said : Reported → Shown
-  Refused : MixedFault → Shown
+  Refused : WorldFault → Shown
 
 -- one line, without its end
 abbrev pub shown_text : Detail → Shown → List ℕ
 shown_text detail (Crossed c) = crossing_line detail c
 shown_text detail (Noticed t) = told_text t
 shown_text detail (Said r) = reported_text r
-shown_text detail (Refused f) = mixed_refusal_text f
+shown_text detail (Refused f) = refusal_text f
 
 -- all lines, each with its end
 abbrev pub output : Detail → List Shown → List ℕ
@@ -62,12 +59,7 @@ Writes detail IsShown before after = WritesLines (shown_text detail) IsShown bef
 -- an event that was refused shows its refusal
 abbrev pub shown_refusal : Result (Unit {0}) WorldFault → List Shown
 shown_refusal (Ok done) = []
-shown_refusal (Err f) = Refused (World f) ∷ []
-
--- and so it does in a world with strangers
-abbrev pub mixed_refusal : Result (Unit {0}) MixedFault → List Shown
-mixed_refusal (Ok done) = []
-mixed_refusal (Err f) = Refused f ∷ []
+shown_refusal (Err f) = Refused f ∷ []
 
 abbrev pub shown_crossings : List Crossing → List Shown
 shown_crossings crossings = map (λ c. Crossed c) crossings

@@ -13,9 +13,7 @@ use Rattle.interface.specs.Printed.{host_text}
 use Rattle.promise.specs.declared.book.Told.{Told}
 use Rattle.promise.specs.declared.life.Life.{Life}
 use Rattle.net_sim.specs.declared.event.WorldFault.{WorldFault}
-use Rattle.net_sim.specs.declared.event.WorldFault.TheVariants.{Carrier, Program}
-use Rattle.net_sim.specs.declared.mixed.MixedFault.{MixedFault}
-use Rattle.net_sim.specs.declared.mixed.MixedFault.TheVariants.{World, NoProgram, HasProgram}
+use Rattle.net_sim.specs.declared.event.WorldFault.TheVariants.{Carrier, HasProgram, NoProgram, Program}
 use Rattle.replay.specs.Output.{fault_name}
 use Rattle.sockets.specs.declared.fault.NcpFault.{NcpFault}
 use Rattle.sockets.specs.declared.fault.NcpFault.TheVariants as problem
@@ -48,18 +46,11 @@ problem_name problem.OutOfMemory = codes "OutOfMemory"
 abbrev pub refusal_name : WorldFault → List ℕ
 refusal_name (Carrier f) = fault_name f
 refusal_name (Program f) = problem_name f
+refusal_name NoProgram = codes "NoProgram"
+refusal_name HasProgram = codes "HasProgram"
 
 abbrev pub refusal_text : WorldFault → List ℕ
 refusal_text f = words (codes "refused" ∷ refusal_name f ∷ [])
-
--- in a world with strangers: as in any world, or for what the host is, a stranger or none
-abbrev pub mixed_refusal_name : MixedFault → List ℕ
-mixed_refusal_name (World f) = refusal_name f
-mixed_refusal_name NoProgram = codes "NoProgram"
-mixed_refusal_name HasProgram = codes "HasProgram"
-
-abbrev pub mixed_refusal_text : MixedFault → List ℕ
-mixed_refusal_text f = words (codes "refused" ∷ mixed_refusal_name f ∷ [])
 
 -- ---- the notices to a user
 

@@ -1,5 +1,5 @@
 -- The events of a world's script over a carrier, whatever it is made of: the worlds of `Kinds` whose hosts all run the program.
-use Rattle.std.specs.Prelude.{◌≡◌, ℕ, zero, suc, false, List, [], ◌∷◌, Option, Some, None, Result, Ok}
+use Rattle.std.specs.Prelude.{◌≡◌, ℕ, zero, suc, false, List, [], ◌∷◌, Option, Some, None, Result}
 use Rattle.net_sim.specs.Rest.{IsAtRest}
 use Rattle.net_sim.specs.World.{WorldState, StepGives, CalmGives, stops}
 use Rattle.net_sim.specs.declared.event.Event.{Event}
@@ -8,7 +8,7 @@ use Rattle.interface.specs.Calls.{Calls}
 use Rattle.net_sim.specs.declared.event.WorldFault.{WorldFault}
 use Rattle.world_replay.specs.Gains.{Gains, gained}
 use Rattle.world_replay.specs.Kinds.{EndsBy, HappensBy, Kind, MayDoBy, ReplaysBy, StopsBy}
-use Rattle.world_replay.specs.Output.{Shown, shown_refusal}
+use Rattle.world_replay.specs.Output.{Shown}
 use Rattle.world_script.specs.declared.event.WorldEvent.{WorldEvent}
 use Rattle.world_script.specs.declared.event.WorldEvent.TheVariants as event
 
@@ -25,11 +25,7 @@ rounds_in (event.Calm rounds) = Some rounds
 abbrev pub world_kind : {C : Type 0} → Calls C → Kind (WorldState C) WorldEvent
 world_kind {C} calls = record {
   kept = λ (w : WorldState C). w.kept;
-  Answer = Result (Unit {0}) WorldFault;
-  done = Ok tt;
   gives = EventGives calls;
-  stops = stops;
-  refusal = shown_refusal;
   calm = event.Calm;
   rounds = rounds_in;
   rests = IsAtRest calls;

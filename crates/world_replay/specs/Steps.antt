@@ -2,47 +2,40 @@
 use Rattle.std.specs.Prelude.{◌≡◌, ℕ, suc, ◌+◌, false, true, List, [], ◌++◌, Option, Some, Result, Ok, Err}
 use Rattle.std.specs.Io.KnownBytes.{Appends}
 use Rattle.interface.specs.declared.crossing.Crossing.{Crossing}
-use Rattle.net_sim.specs.MixedWorlds.{mixed_stops}
-use Rattle.net_sim.specs.declared.mixed.MixedFault.{MixedFault}
+use Rattle.net_sim.specs.World.{stops}
+use Rattle.net_sim.specs.declared.event.WorldFault.{WorldFault}
 use Rattle.replay.specs.declared.events.ReplayFault.{ReplayFault}
 use Rattle.replay.specs.declared.events.ReplayFault.TheVariants as fault
 use Rattle.replay.specs.declared.print.Detail.{Detail}
 use Rattle.world_replay.specs.Gains.{Gains, gained}
 use Rattle.world_replay.specs.Kinds.{HappensBy, Kind, MayDoBy, StopsBy}
-use Rattle.world_replay.specs.Output.{Shown, Writes, mixed_refusal, output, shown_in_turn}
+use Rattle.world_replay.specs.Output.{Shown, Writes, output, shown_in_turn}
 
 -- ---- what a replay needs of a kind of world
-
--- an event goes so, and this answer shows the same refusal, and says as well whether memory has run out
-abbrev pub Tells : {S E : Type 0} → Kind S E → S → E → Result (Unit {0}) MixedFault → S → Type 0
-Tells kind old e told new = (outcome : kind.Answer) × kind.gives old e outcome new
-    × (mixed_stops told ≡ kind.stops outcome) × (kind.refusal outcome ≡ mixed_refusal told)
 
 pub record IsReplayable {S E : Type 0} (kind : Kind S E) : Type 0 where
   -- the calm of this many rounds has these, and no other event has
   pub has_rounds : (n : ℕ) → kind.rounds (kind.calm n) ≡ Some n
   pub is_calm : (e : E) (n : ℕ) → kind.rounds e ≡ Some n → e ≡ kind.calm n
-  -- memory lasts where all is done, and nothing is refused; and so it is in a calm in which memory lasts
-  pub lasts : kind.stops kind.done ≡ false
-  pub unrefused : kind.refusal kind.done ≡ []
-  pub well : (n : ℕ) (old : S) (r : kind.Answer) (new : S) → kind.gives old (kind.calm n) r new → kind.stops r ≡ false
-      → r ≡ kind.done
+  -- a calm in which memory lasts isn't refused
+  pub well : (n : ℕ) (old : S) (r : Result (Unit {0}) WorldFault) (new : S) → kind.gives old (kind.calm n) r new
+      → stops r ≡ false → r ≡ Ok tt
   -- the book only grows
-  pub gains : (e : E) (old : S) (r : kind.Answer) (new : S) → kind.gives old e r new
+  pub gains : (e : E) (old : S) (r : Result (Unit {0}) WorldFault) (new : S) → kind.gives old e r new
       → Gains (kind.kept old) (kind.kept new)
   -- rounds and then further ones are one calm, and so are their lines
   pub more :
-      (n k : ℕ) (old mid new : S) (r q : kind.Answer) → kind.gives old (kind.calm (suc n)) r mid → kind.stops r ≡ false
-      → kind.gives mid (kind.calm (suc k)) q new
+      (n k : ℕ) (old mid new : S) (r q : Result (Unit {0}) WorldFault) → kind.gives old (kind.calm (suc n)) r mid
+      → stops r ≡ false → kind.gives mid (kind.calm (suc k)) q new
       → kind.gives old (kind.calm (suc n + suc k)) q new
   pub shows :
-      (n k : ℕ) (old mid new : S) (r q : kind.Answer) → kind.gives old (kind.calm n) r mid
+      (n k : ℕ) (old mid new : S) (r q : Result (Unit {0}) WorldFault) → kind.gives old (kind.calm n) r mid
       → kind.gives mid (kind.calm k) q new
       → (g : Gains (kind.kept old) (kind.kept mid)) (h : Gains (kind.kept mid) (kind.kept new))
       (all : Gains (kind.kept old) (kind.kept new)) → gained all ≡ gained g ++ gained h
   -- a round in which memory runs out ends any longer calm
-  pub ends : (k : ℕ) (old new : S) (r : kind.Answer) → kind.gives old (kind.calm 1) r new → kind.stops r ≡ true
-      → kind.gives old (kind.calm (suc k)) r new
+  pub ends : (k : ℕ) (old new : S) (r : Result (Unit {0}) WorldFault) → kind.gives old (kind.calm 1) r new
+      → stops r ≡ true → kind.gives old (kind.calm (suc k)) r new
 
 -- ---- how the replay of one event may end
 
@@ -59,7 +52,7 @@ abbrev pub OneEnds : {S E : Type 0} → Kind S E → Detail → S → E → Resu
     → Option (List ℕ) → Type 0
 OneEnds kind detail old e (Ok done) new before after = Writes detail (HappensBy kind old e new) before after
 OneEnds kind detail old e (Err fault.OutOfMemory) new before after = Writes detail (StopsBy kind old e new) before after
-OneEnds kind detail old e (Err fault.CannotWrite) new before after = (outcome : kind.Answer)
+OneEnds kind detail old e (Err fault.CannotWrite) new before after = (outcome : Result (Unit {0}) WorldFault)
     × kind.gives old e outcome new
 
 -- ---- printing

@@ -307,7 +307,7 @@ pub fn has_calmed<C: Carrier>(world: &World<C>, before: usize) -> bool
 /// Returns whether nothing has crossed since the book had this many crossings, and the world is known to rest.
 fn rests_since<R: Replayed>(world: &R, before: usize) -> bool
     ensures crossed { result ≡ true → length (R.kind.kept world.now).book.crossings ≡ before }
-    ensures unchanged { result ≡ true → (n : ℕ) → R.kind.gives world.now (R.kind.calm n) R.kind.done world.now }
+    ensures unchanged { result ≡ true → (n : ℕ) → R.kind.gives world.now (R.kind.calm n) (Ok tt) world.now }
     ensures rest { result ≡ true → R.kind.rests world.now }
 {
     world.book().crossings().len() == before && world.rests()

@@ -3,20 +3,19 @@
 ghost use Rattle.std.specs.Prelude.{◌≡◌, ◌↔◌, ◌≤◌, ◌-◌, Err, OnErr, OnOk, IfSome, IsSome, drop, false, length, max, reverse, take, true};
 ghost use Rattle.std.specs.Io.KnownBytes.{Appends};
 ghost use Rattle.host_services.specs.declared.report.Report.TheVariants as report;
-ghost use Rattle.net_sim.specs.MixedWorlds.{mixed_stops};
 ghost use Rattle.net_sim.specs.World.{stops};
 ghost use Rattle.replay.specs.Failing.{TellsCannotWrite, TellsFailure};
 ghost use Rattle.replay.specs.declared.print.Detail.{Detail};
 ghost use Rattle.script.specs.Input.{ended_line};
-ghost use Rattle.world_replay.specs.Output.{lives_output, mixed_refusal, output, shown_crossings, shown_in_turn, shown_notices, told_in_turn};
-ghost use Rattle.world_replay.specs.Printed.{life_text, mixed_refusal_name, problem_name, refusal_name, report_text, reported_text};
+ghost use Rattle.world_replay.specs.Output.{lives_output, output, shown_crossings, shown_in_turn, shown_notices, shown_refusal, told_in_turn};
+ghost use Rattle.world_replay.specs.Printed.{life_text, problem_name, refusal_name, report_text, reported_text};
 ghost use Rattle.world_replay.specs.Printed.{shown_octet, state_text, told_text};
 ghost use Rattle.world_replay.specs.Steps.{Fronts};
 
 use crate::lines::{LifeLine, OutcomeLine};
 use crate::told::put_told;
 use interface::{Crossing, HostAddr};
-use net_sim::{Book, Life, MixedFault, Report, Reported, Told, WorldFault};
+use net_sim::{Book, Life, Report, Reported, Told, WorldFault};
 use replay::{Detail, Line, Output, ReplayFault, WriteFailed, carrier_refusal, print_crossing_in};
 use sockets::NcpFault;
 
@@ -221,19 +220,19 @@ fn print_crossings<W: Output>(
 ///
 /// Errors: `CannotWrite`; `OutOfMemory` where memory has run out, after which nothing is printed.
 pub(crate) fn print_refusal<W: Output>(
-    outcome: Result<(), MixedFault>,
+    outcome: Result<(), WorldFault>,
     writer: &mut W,
 ) -> Result<(), ReplayFault>
     requires { W.failed writer.old ≡ false }
-    ensures shown { (detail : Detail) → OnOk result (Appends (W.contents writer.old) (W.contents writer.new) (output detail (mixed_refusal outcome))) }
-    ensures goes_on { OnOk result (mixed_stops outcome ≡ false) }
-    ensures memory { result ≡ Err ReplayFault.OutOfMemory → (mixed_stops outcome ≡ true) × (writer.new ≡ writer.old) }
+    ensures shown { (detail : Detail) → OnOk result (Appends (W.contents writer.old) (W.contents writer.new) (output detail (shown_refusal outcome))) }
+    ensures goes_on { OnOk result (stops outcome ≡ false) }
+    ensures memory { result ≡ Err ReplayFault.OutOfMemory → (stops outcome ≡ true) × (writer.new ≡ writer.old) }
     ensures failed { TellsCannotWrite result (W.failed writer.new) }
 {
     let Err(fault) = outcome else {
         return Ok(());
     };
-    let name = match mixed_name_of(fault) {
+    let name = match name_of(fault) {
         Some(name) => name,
         None => return Err(ReplayFault::OutOfMemory),
     };
@@ -254,19 +253,6 @@ pub(crate) fn check_memory(outcome: Result<(), WorldFault>) -> Result<(), Replay
     }
 }
 
-/// Returns the name of a refusal in a world with strangers, or in any. `None` where running out of memory has stopped
-/// the world.
-fn mixed_name_of(fault: MixedFault) -> Option<&'static str>
-    ensures name { IfSome result (λ name. name.now ≡ mixed_refusal_name fault) }
-    ensures goes_on { IsSome result ↔ (mixed_stops (Err fault) ≡ false) }
-{
-    match fault {
-        MixedFault::World(fault) => name_of(fault),
-        MixedFault::NoProgram => Some("NoProgram"),
-        MixedFault::HasProgram => Some("HasProgram"),
-    }
-}
-
 /// Returns the name of a refusal. `None` where running out of memory has stopped the world.
 fn name_of(fault: WorldFault) -> Option<&'static str>
     ensures name { IfSome result (λ name. name.now ≡ refusal_name fault) }
@@ -275,6 +261,8 @@ fn name_of(fault: WorldFault) -> Option<&'static str>
     match fault {
         WorldFault::Carrier(fault) => carrier_refusal(fault),
         WorldFault::Program(fault) => program_refusal(fault),
+        WorldFault::NoProgram => Some("NoProgram"),
+        WorldFault::HasProgram => Some("HasProgram"),
     }
 }
 

@@ -1,14 +1,13 @@
 //! What a replay asks of a world, with strangers or without.
 
-ghost use Rattle.std.specs.Prelude.{◌≡◌, ℕ, true};
+ghost use Rattle.std.specs.Prelude.{◌≡◌, ℕ, Ok, true};
 ghost use Rattle.net_sim.specs.Carriers.{shown};
-ghost use Rattle.net_sim.specs.MixedWorlds.{mixed_answer};
 ghost use Rattle.world_replay.specs.Kinds.{Kind, mixed_kind};
-ghost use Rattle.world_replay.specs.Replay.{EventGives, world_kind};
-ghost use Rattle.world_replay.specs.Steps.{IsReplayable, Tells};
+ghost use Rattle.world_replay.specs.Replay.{world_kind};
+ghost use Rattle.world_replay.specs.Steps.{IsReplayable};
 
 use interface::Carrier;
-use net_sim::{Book, MixedFault, MixedWorld, World, WorldFault};
+use net_sim::{Book, MixedWorld, World, WorldFault};
 use world_script::{MixedWorldEvent, WorldEvent};
 
 /// A world whose scripts are replayed.
@@ -26,13 +25,13 @@ pub(crate) trait Replayed {
     /// Lets one event happen, or refuses it.
     ///
     /// Errors: memory runs out, or why it is refused.
-    fn happen(&mut self, event: Self::Event) -> Result<(), MixedFault>
-        ensures { Tells kind self.old event result self.new };
+    fn happen(&mut self, event: Self::Event) -> Result<(), WorldFault>
+        ensures { kind.gives self.old event result self.new };
 
     /// Returns whether more rounds of a calm are known to change nothing. This takes no memory.
     fn rests(&self) -> bool
         ensures rest { result ≡ true → kind.rests self.now }
-        ensures unchanged { result ≡ true → (n : ℕ) → kind.gives self.now (kind.calm n) kind.done self.now };
+        ensures unchanged { result ≡ true → (n : ℕ) → kind.gives self.now (kind.calm n) (Ok tt) self.now };
 
     /// Returns how many rounds an event has that is a calm.
     fn rounds_of(event: &Self::Event) -> Option<u32>
@@ -58,9 +57,11 @@ impl<C: Carrier> Replayed for World<C> {
         World::book(self)
     }
 
-    fn happen(&mut self, event: WorldEvent) -> Result<(), MixedFault> {
-        let outcome = follow(self, event);
-        answer_of(outcome)
+    fn happen(&mut self, event: WorldEvent) -> Result<(), WorldFault> {
+        match event {
+            WorldEvent::Happen(event) => self.step(event),
+            WorldEvent::Calm(rounds) => self.calm(rounds),
+        }
     }
 
     fn rests(&self) -> bool {
@@ -90,7 +91,7 @@ impl<C: Carrier> Replayed for MixedWorld<C> {
         MixedWorld::book(self)
     }
 
-    fn happen(&mut self, event: MixedWorldEvent) -> Result<(), MixedFault> {
+    fn happen(&mut self, event: MixedWorldEvent) -> Result<(), WorldFault> {
         match event {
             MixedWorldEvent::Happen(event) => self.step(event),
             MixedWorldEvent::Calm(rounds) => self.calm(rounds),
@@ -113,21 +114,4 @@ impl<C: Carrier> Replayed for MixedWorld<C> {
     }
 
     fn is_replayable() {}
-}
-
-/// Lets one event happen in a world without strangers.
-fn follow<C: Carrier>(world: &mut World<C>, event: WorldEvent) -> Result<(), WorldFault>
-    ensures { EventGives (shown C.calls) world.old event result world.new }
-{
-    match event {
-        WorldEvent::Happen(event) => world.step(event),
-        WorldEvent::Calm(rounds) => world.calm(rounds),
-    }
-}
-
-/// Returns the answer of a world, as one with strangers gives it.
-fn answer_of(outcome: Result<(), WorldFault>) -> Result<(), MixedFault>
-    ensures { result ≡ mixed_answer outcome }
-{
-    outcome.map_err(MixedFault::World)
 }

@@ -5,24 +5,23 @@ ghost use Rattle.std.specs.Prelude.{◌≡◌, ℕ, [], ◌∷◌, codes};
 ghost use Rattle.interface.specs.declared.carrier.CarrierFault.TheVariants as fault;
 ghost use Rattle.interface.specs.declared.crossing.Crossing.TheVariants as crossing;
 ghost use Rattle.net_sim.specs.declared.mixed.MixedEvent.TheVariants.{Any, Out};
-ghost use Rattle.net_sim.specs.declared.mixed.MixedFault.TheVariants.{HasProgram, NoProgram, World};
 ghost use Rattle.net_sim.specs.Worked.{accepting_carrier, any_carrier, message};
 ghost use Rattle.net_sim.specs.WorkedMixed.{fourth, waiting_carrier};
 ghost use Rattle.net_sim.specs.declared.event.Event.TheVariants.{Ask, Offer, Take};
-ghost use Rattle.net_sim.specs.declared.event.WorldFault.TheVariants.{Carrier};
+ghost use Rattle.net_sim.specs.declared.event.WorldFault.TheVariants.{Carrier, HasProgram, NoProgram};
 ghost use Rattle.sockets.specs.Worked.{first, second, third};
 ghost use Rattle.sockets.specs.declared.request.Request.TheVariants as request;
 ghost use Rattle.world_replay.specs.Output.{Crossed, Refused};
-ghost use Rattle.world_replay.specs.Printed.{mixed_refusal_text};
+ghost use Rattle.world_replay.specs.Printed.{refusal_text};
 ghost use Rattle.world_replay.specs.WorkedMixed.{MayShow, ShowsOneTaken, ShowsOnly, hail, hailed};
 ghost use Rattle.world_script.specs.declared.event.MixedWorldEvent.TheVariants.{Calm, Happen};
 
 /// The words of a refusal.
 pub fn worked_refusals()
     // by its name only, whoever refused
-    ensures no_program { mixed_refusal_text NoProgram ≡ codes "refused NoProgram" }
-    ensures has_program { mixed_refusal_text HasProgram ≡ codes "refused HasProgram" }
-    ensures world { mixed_refusal_text (World (Carrier fault.NoSuch)) ≡ codes "refused NoSuch" }
+    ensures no_program { refusal_text NoProgram ≡ codes "refused NoProgram" }
+    ensures has_program { refusal_text HasProgram ≡ codes "refused HasProgram" }
+    ensures world { refusal_text (Carrier fault.NoSuch) ≡ codes "refused NoSuch" }
 {}
 
 /// What is shown of a stranger.
@@ -38,7 +37,7 @@ pub fn worked_strangers()
     ensures offered { ShowsOnly any_carrier (Happen (Any (Offer third))) (Refused NoProgram ∷ []) }
     ensures asked { ShowsOnly any_carrier (Happen (Any (Ask third (request.Echo second 65)))) (Refused NoProgram ∷ []) }
     ensures program { ShowsOnly any_carrier (Happen (Out (message first second 2))) (Refused HasProgram ∷ []) }
-    ensures nobody { ShowsOnly any_carrier (Happen (Out (message fourth second 2))) (Refused (World (Carrier fault.NoSuch)) ∷ []) }
+    ensures nobody { ShowsOnly any_carrier (Happen (Out (message fourth second 2))) (Refused (Carrier fault.NoSuch) ∷ []) }
 
     // in a calm it takes nothing, though something waits for it
     ensures waits { (rounds : ℕ) → ShowsOnly waiting_carrier (Calm rounds) [] }

@@ -5,7 +5,7 @@ use Rattle.net_sim.specs.MixedWorlds.{MixedState}
 use Rattle.net_sim.specs.WorkedMixed.{beside_third}
 use Rattle.net_sim.specs.declared.mixed.MixedEvent.{MixedEvent}
 use Rattle.replay.specs.declared.print.Detail.TheVariants.{Sizes}
-use Rattle.world_replay.proofs.lemmas.Gained.{HaveGains, mixed_refusal_gained, replays_show}
+use Rattle.world_replay.proofs.lemmas.Gained.{HaveGains, replays_show}
 use Rattle.world_replay.specs.Kinds.{HappensBy, mixed_kind}
 use Rattle.world_replay.specs.Output.{Shown, crossings_of, output}
 use Rattle.world_replay.specs.WorkedMixed.{ShowsOnly}
@@ -22,7 +22,7 @@ crossed_shown : (calls : Calls Seen) (e : MixedEvent) (new : MixedState Seen) (l
     → h.gains.crossings ≡ crossings_of lines
 crossed_shown calls e new lines h =
     let said : HaveGains beside_third.world.kept new.world.kept lines =
-    replays_show (mixed_kind calls) mixed_refusal_gained beside_third (mixed.Happen e ∷ []) new lines
+    replays_show (mixed_kind calls) beside_third (mixed.Happen e ∷ []) new lines
     (new, lines, [], h, (refl, refl), sym (append-nil lines)) in
     sym (crossings_gained [] new.world.kept.book.crossings h.gains.crossings h.gains.crossed)
     ∙ crossings_gained [] new.world.kept.book.crossings (crossings_of lines) said.crossed

@@ -20,12 +20,12 @@ pub use Rattle.net_sim.specs.Rest.{IsAtRest}
 pub use Rattle.net_sim.specs.World.{AskGives, AtSeat, DoesOrHalts, Halts, OfferEnds, OfferGives, QuietEnds, StepGives}
 pub use Rattle.net_sim.specs.World.{TakeEnds, TakeGives, TypeGives, WorldState, noticed, opening_seats}
 pub use Rattle.net_sim.specs.World.{opening_services, opening_world, seat_of, seated, serviced, services_of, stops}
-pub use Rattle.net_sim.specs.World.{tended, up_in, wants_memory, with_program, with_server, with_services, with_user}
+pub use Rattle.net_sim.specs.World.{tended, up_in, with_program, with_server, with_services, with_user}
 pub use Rattle.net_sim.specs.World.{world_heard, world_moved}
 pub use Rattle.net_sim.specs.declared.event.Event.{Event}
 pub use Rattle.net_sim.specs.declared.event.Event.TheVariants.{Ask, Offer, Quiet, Server, Take, Typed, User}
 pub use Rattle.net_sim.specs.declared.event.WorldFault.{WorldFault}
-pub use Rattle.net_sim.specs.declared.event.WorldFault.TheVariants.{Carrier, Program}
+pub use Rattle.net_sim.specs.declared.event.WorldFault.TheVariants.{Carrier}
 pub use Rattle.net_sim.specs.declared.seat.Seat.{Seat}
 pub use Rattle.net_sim.specs.declared.seat.ServiceSeat.{ServiceSeat}
 pub use Rattle.replay.proofs.lemmas.{appends_more, appends_none, crossings_shown, last_shown, last_written, on_ok}

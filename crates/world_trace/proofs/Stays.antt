@@ -5,9 +5,9 @@ use Rattle.world_trace.proofs.Common.{Calls, crossing_of, is_halt, is_memory, Ho
 use Rattle.world_trace.proofs.Common.{ServiceDeskState, ServicesState, opening_desk, line_bits, all_told, asked}
 use Rattle.world_trace.proofs.Common.{crossed, shown, AskGives, AtSeat, DoesOrHalts, Halts, OfferEnds, OfferGives}
 use Rattle.world_trace.proofs.Common.{QuietEnds, StepGives, TakeEnds, TakeGives, TypeGives, WorldState, noticed}
-use Rattle.world_trace.proofs.Common.{seat_of, seated, serviced, services_of, stops, tended, wants_memory, with_program}
+use Rattle.world_trace.proofs.Common.{seat_of, seated, serviced, services_of, stops, tended, with_program}
 use Rattle.world_trace.proofs.Common.{with_server, with_services, with_user, world_heard, world_moved, Event, Ask}
-use Rattle.world_trace.proofs.Common.{Offer, Quiet, Server, Take, Typed, User, WorldFault, Carrier, Program, Seat}
+use Rattle.world_trace.proofs.Common.{Offer, Quiet, Server, Take, Typed, User, WorldFault, Seat}
 use Rattle.world_trace.proofs.Common.{ServiceSeat, accepted, NcpState, refusal, served, served_notices, next_out}
 use Rattle.world_trace.proofs.Common.{offered, NcpFault, Request, HappensInCalm, AreOthers, IsAsBefore, IsStill}
 use Rattle.world_trace.proofs.Common.{at_host, event_of, is_of_network, seat_place, service_place, seat_member}
@@ -17,6 +17,7 @@ use Rattle.interface.specs.declared.crossing.Crossing.TheVariants as crossing
 use Rattle.interface.specs.declared.crossing.Inbound.{Inbound}
 use Rattle.interface.specs.declared.message.HostMessage.{HostMessage}
 use Rattle.host_services.specs.Turns as services
+use Rattle.net_sim.proofs.lemmas.{memory_stops}
 use Rattle.net_sim.specs.World.{EventGives, turn_of}
 use Rattle.net_sim.specs.declared.event.Event.TheVariants.{Net}
 use Rattle.sockets.specs.declared.request.Request.TheVariants as request
@@ -32,10 +33,6 @@ Answer = Result (Unit {0}) WorldFault
 first_false : (a b : Bool) → (a || b) ≡ false → a ≡ false
 first_false true b is = absurd (false≢true (sym is))
 first_false false b is = refl
-
-memory_stops : (f : WorldFault) → wants_memory f ≡ true → stops (Err f) ≡ true
-memory_stops (Carrier f) is = ap (λ b. b || is_halt f) is
-memory_stops (Program f) is = is
 
 -- ---- what is at other hosts
 

@@ -10,12 +10,10 @@ use Rattle.interface.specs.declared.crossing.Inbound.{Inbound}
 use Rattle.interface.specs.declared.crossing.Inbound.TheVariants as inbound
 use Rattle.interface.specs.declared.message.HostMessage.{HostMessage}
 use Rattle.net_sim.specs.MixedWorlds.{AnyGives, AskedGives, FetchEnds, FetchGives, MixedState, MixedStepGives, OfWorld}
-use Rattle.net_sim.specs.MixedWorlds.{OutEnds, OutGives, RefusesMixed, SaysGives, asked_at, is_strange, mixed_answer}
-use Rattle.net_sim.specs.MixedWorlds.{mixed_stops, strange_in}
+use Rattle.net_sim.specs.MixedWorlds.{OutEnds, OutGives, RefusesMixed, SaysGives, asked_at, is_strange, strange_in}
 use Rattle.net_sim.specs.MixedWorlds as mixed_world
 use Rattle.net_sim.specs.declared.mixed.MixedEvent.{MixedEvent}
 use Rattle.net_sim.specs.declared.mixed.MixedEvent.TheVariants.{Any, Out}
-use Rattle.net_sim.specs.declared.mixed.MixedFault.{MixedFault}
 use Rattle.net_sim.specs.World.{StepGives}
 use Rattle.replay.specs.declared.events.ReplayFault.TheVariants as fault
 use Rattle.replay.specs.declared.print.Detail.TheVariants.{Sizes}
@@ -101,16 +99,8 @@ mixed_ends calls members spot e old new (Err fault.CannotWrite) a b h = h
 
 -- ---- what is at other hosts
 
-answer_stops : (q : Result (Unit {0}) WorldFault) → mixed_stops (mixed_answer q) ≡ stops q
-answer_stops (Ok done) = refl
-answer_stops (Err f) = refl
-
 module _ {C : Type 0} (own : Calls C) where
-  goes_on : (q : Result (Unit {0}) WorldFault) (r : Result (Unit {0}) MixedFault) → r ≡ mixed_answer q
-      → mixed_stops r ≡ false → stops q ≡ false
-  goes_on q r is on = sym (answer_stops q) ∙ ap mixed_stops (sym is) ∙ on
-
-  unmoved : (o : Option Host) (f : MixedFault) (old : MixedState C) (r : Result (Unit {0}) MixedFault)
+  unmoved : (o : Option Host) (f : WorldFault) (old : MixedState C) (r : Result (Unit {0}) WorldFault)
       (new : MixedState C) → RefusesMixed f old r new → AtOthers own o old.world new.world
   unmoved o f old r new n = same_others own o old.world new.world (ap (λ (s : MixedState C). s.world) n.1)
 
@@ -143,38 +133,37 @@ module _ {C : Type 0} (own : Calls C) where
   said o m (Ok done) c old q new on (inr h) = halts_not own (AtOthers own o old new) c old new q on h
   said o m (Err e) c old q new on ends = carried o old new (ap seats_of ends.1) (ap served_in ends.1)
 
-  stepped : (e : Event) (old : MixedState C) (r : Result (Unit {0}) MixedFault) (new : MixedState C)
-      → is_of_network e ≡ false → mixed_stops r ≡ false → OfWorld (StepGives (shown own) old.world e) old r new
+  stepped : (e : Event) (old : MixedState C) (r : Result (Unit {0}) WorldFault) (new : MixedState C)
+      → is_of_network e ≡ false → stops r ≡ false → OfWorld (StepGives (shown own) old.world e) old r new
       → AtOthers own (at_one e) old.world new.world
-  stepped e old r new not on (q, gives, is, same) =
-      event_others own e old.world new.world q not (goes_on q r is on) gives
+  stepped e old r new not on (gives, same) = event_others own e old.world new.world r not on gives
 
-  asked : (e : Event) (old : MixedState C) (r : Result (Unit {0}) MixedFault) (new : MixedState C)
-      → is_of_network e ≡ false → mixed_stops r ≡ false → AskedGives (shown own) old e r new
+  asked : (e : Event) (old : MixedState C) (r : Result (Unit {0}) WorldFault) (new : MixedState C)
+      → is_of_network e ≡ false → stops r ≡ false → AskedGives (shown own) old e r new
       → AtOthers own (at_one e) old.world new.world
   asked e old r new not on g =
       on_either (is_strange (strange_in old) (asked_at e)) (λ s n. unmoved (at_one e) _ old r new n)
       (λ s t. stepped e old r new not on t) g
 
-  any_others : (e : Event) (old : MixedState C) (r : Result (Unit {0}) MixedFault) (new : MixedState C)
-      → is_of_network e ≡ false → mixed_stops r ≡ false → AnyGives (shown own) old e r new
+  any_others : (e : Event) (old : MixedState C) (r : Result (Unit {0}) WorldFault) (new : MixedState C)
+      → is_of_network e ≡ false → stops r ≡ false → AnyGives (shown own) old e r new
       → AtOthers own (at_one e) old.world new.world
   any_others (Take h) old r new not on g =
       on_either (strange_in old h)
-      (λ s f. fetched (Some h) f.1.0 f.1.1 old.world f.0 new.world (goes_on f.0 r f.2 on) f.1.3)
+      (λ s f. fetched (Some h) f.0.0 f.0.1 old.world r new.world on f.0.3)
       (λ s t. stepped (Take h) old r new not on t) g
   any_others e old r new not on g = asked e old r new not on g
 
-  says_others : (m : HostMessage) (old : MixedState C) (r : Result (Unit {0}) MixedFault) (new : MixedState C)
-      → mixed_stops r ≡ false → SaysGives (shown own) old m r new → AtOthers own None old.world new.world
+  says_others : (m : HostMessage) (old : MixedState C) (r : Result (Unit {0}) WorldFault) (new : MixedState C)
+      → stops r ≡ false → SaysGives (shown own) old m r new → AtOthers own None old.world new.world
   says_others m old r new on g =
       on_either (strange_in old m.flow.source)
-      (λ s f. said None m f.1.0 f.1.1 old.world f.0 new.world (goes_on f.0 r f.2 on) f.1.3)
+      (λ s f. said None m f.0.0 f.0.1 old.world r new.world on f.0.3)
       (λ s n. unmoved None _ old r new n) g
 
-  reaches : (e : MixedEvent) (o : Option Host) (old : MixedState C) (r : Result (Unit {0}) MixedFault)
+  reaches : (e : MixedEvent) (o : Option Host) (old : MixedState C) (r : Result (Unit {0}) WorldFault)
       (new : MixedState C)
-      → mixed_reach e ≡ reach.At o → mixed_stops r ≡ false → mixed_world.MixedEventGives (shown own) old e r new
+      → mixed_reach e ≡ reach.At o → stops r ≡ false → mixed_world.MixedEventGives (shown own) old e r new
       → AtOthers own o old.world new.world
   reaches (Any e) o old r new at on g = by (is_of_network e) refl where
     by : (b : Bool) → is_of_network e ≡ b → AtOthers own o old.world new.world
@@ -191,9 +180,9 @@ module _ {C : Type 0} (own : Calls C) where
       subst (λ (x : Option Host). AtOthers own x old.world new.world) same (says_others m old r new on g)
 
   -- an event leaves what it doesn't reach
-  pub mixed_others : (e : MixedEvent) (o : Option Host) (old : MixedState C) (r : Result (Unit {0}) MixedFault)
+  pub mixed_others : (e : MixedEvent) (o : Option Host) (old : MixedState C) (r : Result (Unit {0}) WorldFault)
       (new : MixedState C)
-      → mixed_reach e ≡ reach.At o → mixed_stops r ≡ false → MixedStepGives (shown own) old e r new
+      → mixed_reach e ≡ reach.At o → stops r ≡ false → MixedStepGives (shown own) old e r new
       → AtOthers own o old.world new.world
   mixed_others e o old r new at on g =
       on_either old.world.stopped (λ s n. unmoved o _ old r new n) (λ s t. reaches e o old r new at on t) g

@@ -7,9 +7,9 @@ use Rattle.interface.specs.Printed.{host_text}
 use Rattle.net_sim.specs.MixedWorlds.{MixedState, MixedStepGives}
 use Rattle.net_sim.specs.World.{WorldState}
 use Rattle.net_sim.specs.declared.event.Event.{Event}
+use Rattle.net_sim.specs.declared.event.WorldFault.{WorldFault}
 use Rattle.net_sim.specs.declared.mixed.MixedEvent.{MixedEvent}
 use Rattle.net_sim.specs.declared.mixed.MixedEvent.TheVariants.{Any, Out}
-use Rattle.net_sim.specs.declared.mixed.MixedFault.{MixedFault}
 use Rattle.replay.specs.InTurn.{EndsInTurn, Happening, InTurn}
 use Rattle.replay.specs.declared.print.Detail.TheVariants.{Sizes}
 use Rattle.topology.specs.Topology.{TopologyFields}
@@ -56,7 +56,7 @@ TellsMixed calls members spot old e new lines =
 -- it is processed, whatever comes of it, and has no line
 abbrev pub MayTellMixed : {C : Type 0} → Calls C → Happening (MixedState C) MixedEvent (List ℕ)
 MayTellMixed calls old e new lines =
-    (lines ≡ []) × ((outcome : Result (Unit {0}) MixedFault) × MixedStepGives calls old e outcome new)
+    (lines ≡ []) × ((outcome : Result (Unit {0}) WorldFault) × MixedStepGives calls old e outcome new)
 
 -- memory ran out before it happened, in it, or for its line
 abbrev pub StopsMixed : {C : Type 0} → Calls C → Happening (MixedState C) MixedEvent (List ℕ)

@@ -23,10 +23,10 @@ use Rattle.net_sim.specs.MixedWorlds.{OutEnds, OutGives, RefusesMixed, asked_at,
 use Rattle.net_sim.specs.MixedWorlds as worlds
 use Rattle.net_sim.specs.World.{CalmGives, StepGives, done_by, noticed, services_of, turn_of, world_moved}
 use Rattle.net_sim.specs.declared.event.Event.TheVariants.{Ask, Net, Offer, Quiet, Server, Take, Typed, User}
+use Rattle.net_sim.specs.declared.event.WorldFault.{WorldFault}
+use Rattle.net_sim.specs.declared.event.WorldFault.TheVariants.{NoProgram}
 use Rattle.net_sim.specs.declared.mixed.MixedEvent.{MixedEvent}
 use Rattle.net_sim.specs.declared.mixed.MixedEvent.TheVariants.{Any, Out}
-use Rattle.net_sim.specs.declared.mixed.MixedFault.{MixedFault}
-use Rattle.net_sim.specs.declared.mixed.MixedFault.TheVariants.{NoProgram}
 use Rattle.world_replay.proofs.lemmas.{on_either}
 use Rattle.world_replay.specs.Kinds.{MixedEventGives, ReplaysBy, RunsOutBy, mixed_kind}
 use Rattle.world_replay.specs.Output.{Shown}
@@ -67,7 +67,7 @@ module _ {C : Type 0} (calls : Calls C) where
 
   ways : Ways calls (λ c d cs. Unit {0}) Keeps
   ways = record {
-    left = λ r w l. l;
+    left = λ r w own l. l;
     halted = λ c cs old r new running cross one h l. subst Lived (sym h.kept) l;
     passed = λ e c old running cross l. l;
     quiet = λ c old running cross l. l;
@@ -114,24 +114,21 @@ module _ {C : Type 0} (calls : Calls C) where
 
   -- ---- one event of a world with strangers
 
-  abbrev Answer : Type 0
-  Answer = Result (Unit {0}) MixedFault
-
-  of_world : (Gives : Answered → WorldState C → Type 0) (old : MixedState C) (r : Answer) (new : MixedState C)
+  of_world : (Gives : Answered → WorldState C → Type 0) (old : MixedState C) (r : Answered) (new : MixedState C)
       → ((q : Answered) (w : WorldState C) → Gives q w → Lived old.world.kept → Lived w.kept)
       → OfWorld Gives old r new → Lived old.world.kept → Lived new.world.kept
-  of_world Gives old r new keeps (q, gives, is, same) l = keeps q new.world gives l
+  of_world Gives old r new keeps (gives, same) l = keeps r new.world gives l
 
-  refused : (f : MixedFault) (old : MixedState C) (r : Answer) (new : MixedState C) → RefusesMixed f old r new
+  refused : (f : WorldFault) (old : MixedState C) (r : Answered) (new : MixedState C) → RefusesMixed f old r new
       → Lived old.world.kept → Lived new.world.kept
   refused f old r new h l = subst (λ (s : MixedState C). Lived s.world.kept) (sym h.1) l
 
-  ask : (e : Event) (old : MixedState C) (r : Answer) (new : MixedState C) → AskedGives calls old e r new
+  ask : (e : Event) (old : MixedState C) (r : Answered) (new : MixedState C) → AskedGives calls old e r new
       → Lived old.world.kept → Lived new.world.kept
   ask e old r new h = on_either (is_strange (strange_in old) (asked_at e)) (λ s g. refused NoProgram old r new g)
       (λ s g. of_world (StepGives calls old.world e) old r new (λ q w t. step e old.world q w t) g) h
 
-  any : (e : Event) (old : MixedState C) (r : Answer) (new : MixedState C) → AnyGives calls old e r new
+  any : (e : Event) (old : MixedState C) (r : Answered) (new : MixedState C) → AnyGives calls old e r new
       → Lived old.world.kept → Lived new.world.kept
   any (Take h) old r new g = on_either (strange_in old h)
       (λ s f. of_world (FetchGives calls h old.world) old r new (λ q w t. fetch t.0 t.1 old.world q w t.3) f)
@@ -144,14 +141,14 @@ module _ {C : Type 0} (calls : Calls C) where
   any (User h peer listen own) old r new g = ask (User h peer listen own) old r new g
   any (Typed h line) old r new g = ask (Typed h line) old r new g
 
-  event : (e : MixedEvent) (old : MixedState C) (r : Answer) (new : MixedState C)
+  event : (e : MixedEvent) (old : MixedState C) (r : Answered) (new : MixedState C)
       → worlds.MixedEventGives calls old e r new → Lived old.world.kept → Lived new.world.kept
   event (Any e) old r new h = any e old r new h
   event (Out m) old r new h = on_either (strange_in old m.flow.source)
       (λ s g. of_world (OutGives calls m old.world) old r new (λ q w t. out m t.0 t.1 old.world q w t.3) g)
       (λ s g. refused _ old r new g) h
 
-  one : (e : MixedWorldEvent) (old : MixedState C) (r : Answer) (new : MixedState C) → MixedEventGives calls old e r new
+  one : (e : MixedWorldEvent) (old : MixedState C) (r : Answered) (new : MixedState C) → MixedEventGives calls old e r new
       → Lived old.world.kept → Lived new.world.kept
   one (mixed.Happen e) old r new h = on_either old.world.stopped (λ s g. refused _ old r new g)
       (λ s g. event e old r new g) h

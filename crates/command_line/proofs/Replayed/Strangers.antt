@@ -14,7 +14,7 @@ use Rattle.topology.specs.Mixed.{AreHosts}
 use Rattle.topology.specs.declared.network.CarrierKind.TheVariants as kind
 use Rattle.world_replay.specs.Kinds.{ReplaysBy, RunsOutBy, mixed_kind}
 use Rattle.world_replay.specs.Output as lines
-use Rattle.world_replay.proofs.lemmas.Gained.{mixed_refusal_gained, replays_show, stops_show}
+use Rattle.world_replay.proofs.lemmas.Gained.{replays_show, stops_show}
 use Rattle.command_line.specs.Mixed.{DescribesMixed, MixedEndsOver, MixedShowsFrom, MixedStopsFrom}
 use Rattle.command_line.proofs.Replayed.Written.{shows_book}
 use Rattle.command_line.specs.declared.fault.ScriptFault.TheVariants as fault
@@ -68,8 +68,8 @@ mixed_writes_all {C} calls strangers carrier opening last events lives book deta
         last = last;
         replayed = from;
         booked = shows_book last.world.kept h.shown
-            (replays_show (mixed_kind (shown calls)) mixed_refusal_gained
-            (opening_mixed (shown calls) carrier strangers) events last h.shown from);
+            (replays_show (mixed_kind (shown calls)) (opening_mixed (shown calls) carrier strangers) events last
+            h.shown from);
         left = left;
         among = among;
         toward = toward;
@@ -94,8 +94,8 @@ mixed_writes_part {C} calls strangers carrier opening last events detail a b is 
         last = last;
         stopped = from;
         booked = shows_book last.world.kept h.shown
-            (stops_show (mixed_kind (shown calls)) mixed_refusal_gained (opening_mixed (shown calls) carrier strangers)
-            events last h.shown from);
+            (stops_show (mixed_kind (shown calls)) (opening_mixed (shown calls) carrier strangers) events last
+            h.shown from);
         among = among;
         toward = toward;
       };

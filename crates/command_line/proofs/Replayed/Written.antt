@@ -66,7 +66,7 @@ world_writes_all {C} calls carrier opening last events lives book detail a b c i
       shows = record {
         last = last;
         replayed = from;
-        booked = shows_book last.kept h.shown (world.replays_show (worlds.world_kind (shown calls)) world.refusal_gained (opening_world (shown calls) carrier) events last h.shown from);
+        booked = shows_book last.kept h.shown (world.replays_show (worlds.world_kind (shown calls)) (opening_world (shown calls) carrier) events last h.shown from);
         left = left;
         promise = promise;
       };
@@ -84,7 +84,7 @@ world_writes_part {C} calls carrier opening last events detail a b is h promise 
       is_shown = record {
         last = last;
         stopped = from;
-        booked = shows_book last.kept h.shown (world.stops_show (worlds.world_kind (shown calls)) world.refusal_gained (opening_world (shown calls) carrier) events last h.shown from);
+        booked = shows_book last.kept h.shown (world.stops_show (worlds.world_kind (shown calls)) (opening_world (shown calls) carrier) events last h.shown from);
         promise = promise;
       };
       written = h.written;

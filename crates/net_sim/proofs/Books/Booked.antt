@@ -111,7 +111,7 @@ module _ {C : Type 0} (own : Calls C) where
 
   books_ways : Ways (shown own) Logged Books
   books_ways = record {
-    left = λ r w b. b;
+    left = λ r w own b. b;
     halted = halt_books;
     passed = λ e c old running log b. record { unbooked = []; book = log ∙ mine old b running; all = λ on. refl; one = tt };
     quiet = λ c old running log b. done_books old c [] (with_carrier c old) b running log refl refl;

@@ -1,6 +1,6 @@
 -- One walk over the events of a world: each ends in one of few ways, and a relation between the worlds before and after that each way
 -- keeps holds of every event.
-use Rattle.net_sim.proofs.Common.{◌≡◌, inl, inr, ℕ, Bool, true, false, List, [], ◌∷◌, ◌++◌, length, map, Option, Some, None, Ok, Err, refl, sym, subst, MatchBool, reverse_onto, Calls, Seen, crossing_of, is_memory, step_crossings, up_at, Host, CarrierFault, Crossing, Inbound, NetEvent, HostMessage, accepted, NcpState, refusal, next_out, NcpFault, Request, line_bits, AreOfOneEvent, AreStops, WorldState, WorldFault, Carrier, Program, Net, Quiet, Offer, Ask, Server, User, Typed, Seat, seat_of, served_at, services_of, with_carrier, with_server, with_user, world_moved, AskGives, AtProgram, AtSeat, Does, DoesOrHalts, EventGives, Halts, NetEnds, OfferEnds, OfferGives, QuietEnds, Refuses, StepGives, TakeEnds, TakeGives, TypeGives}
+use Rattle.net_sim.proofs.Common.{◌≡◌, inl, inr, ℕ, Bool, true, false, List, [], ◌∷◌, ◌++◌, length, map, Option, Some, None, Ok, Err, refl, ap, sym, subst, ◌∙◌, MatchBool, reverse_onto, Calls, Seen, crossing_of, is_memory, step_crossings, up_at, Host, CarrierFault, Crossing, Inbound, NetEvent, HostMessage, accepted, NcpState, refusal, next_out, NcpFault, Request, line_bits, AreOfOneEvent, AreStops, WorldState, WorldFault, Carrier, Program, Net, Quiet, Offer, Ask, Server, User, Typed, Seat, seat_of, served_at, services_of, with_carrier, with_server, with_user, world_moved, AskGives, AtProgram, AtSeat, Does, DoesOrHalts, EventGives, Halts, NetEnds, OfferEnds, OfferGives, QuietEnds, Refuses, StepGives, TakeEnds, TakeGives, TypeGives}
 use Rattle.std.proofs.Common.{Result}
 use Rattle.std.specs.Prelude.{reverse}
 use Rattle.interface.specs.declared.carrier.CarrierFault.TheVariants as fault
@@ -10,8 +10,7 @@ use Rattle.sockets.specs.Sending.{offered}
 use Rattle.sockets.specs.declared.fault.NcpFault.TheVariants as problem
 use Rattle.sockets.specs.declared.request.Request.TheVariants as request
 use Rattle.net_sim.specs.World.{Event, Take}
-use Rattle.net_sim.specs.World.{changed}
-use Rattle.net_sim.specs.World.{Passes}
+use Rattle.net_sim.specs.World.{Passes, changed, is_of_strangers}
 
 abbrev pub Answered : Type 0
 Answered = Result (Unit {0}) WorldFault
@@ -52,7 +51,7 @@ HasProgram h s w = (seat : Seat) × (seat_of h w.seats ≡ Some seat) × (seat.p
 -- refuses, nothing crosses, a program's message goes out or something comes in for one, the network's own crossings, and what a user asks
 -- for or begins
 pub record Ways {C : Type 0} (calls : Calls C) (Crossed : C → C → List Crossing → Type 0) (R : WorldState C → Answered → WorldState C → Type 0) : Type 0 where
-  pub left : (r : Answered) (w : WorldState C) → R w r w
+  pub left : (r : Answered) (w : WorldState C) → is_of_strangers r ≡ false → R w r w
   pub halted : (c : C) (cs : List Crossing) (old : WorldState C) (r : Answered) (new : WorldState C) → old.stopped ≡ false
       → Crossed old.carrier c cs → AreOfOneEvent cs → Halts c old r new → R old r new
   pub passed : (e : CarrierFault) (c : C) (old : WorldState C) → old.stopped ≡ false → Crossed old.carrier c []
@@ -103,8 +102,8 @@ module _ {C : Type 0} (calls : Calls C) (Crossed : C → C → List Crossing →
   pub does : (done old : WorldState C) (r : Answered) (new : WorldState C) → R old (Ok tt) done → Does done r new → R old r new
   does done old r new k d = subst (R old r) (sym d.1) (subst (λ (a : Answered). R old a done) (sym d.0) k)
 
-  refuses : (f : WorldFault) (old : WorldState C) (r : Answered) (new : WorldState C) → Refuses f old r new → R old r new
-  refuses f old r new h = subst (R old r) (sym h.1) (ways.left r old)
+  refuses : (f : WorldFault) (old : WorldState C) (r : Answered) (new : WorldState C) → is_of_strangers (Err f) ≡ false → Refuses f old r new → R old r new
+  refuses f old r new own h = subst (R old r) (sym h.1) (ways.left r old (ap is_of_strangers h.0 ∙ own))
 
   pub passes : (e : CarrierFault) (c : C) (old : WorldState C) (r : Answered) (new : WorldState C) → old.stopped ≡ false → Crossed old.carrier c []
       → Passes e c old r new → R old r new
@@ -131,7 +130,7 @@ module _ {C : Type 0} (calls : Calls C) (Crossed : C → C → List Crossing →
 
   offer_way : (h : Host) (s : NcpState) (o : Option HostMessage) (old : WorldState C) (r : Answered) (new : WorldState C) → old.stopped ≡ false → HasProgram h s old
       → next_out s ≡ o → OfferGives calls h s o old r new → R old r new
-  offer_way h s None old r new running has next gives = subst (R old r) (sym gives.1) (ways.left r old)
+  offer_way h s None old r new running has next gives = subst (R old r) (sym gives.1) (ways.left r old (ap is_of_strangers gives.0))
   offer_way h s (Some m) old r new running has next (inl x) = halts old r new running x
   offer_way h s (Some m) old r new running has next (inr t) = offer_ends h s m t.0 t.1 old r new running has next t.2 t.3
 
@@ -161,24 +160,24 @@ module _ {C : Type 0} (calls : Calls C) (Crossed : C → C → List Crossing →
 
   ask_way : (h : Host) (q : Request) (s : NcpState) (o : Option NcpFault) (old : WorldState C) (r : Answered) (new : WorldState C) → old.stopped ≡ false → HasProgram h s old
       → refusal s q ≡ o → AskGives h q s o old r new → R old r new
-  ask_way h q s (Some f) old r new running has is gives = refuses (Program f) old r new gives
+  ask_way h q s (Some f) old r new running has is gives = refuses (Program f) old r new refl gives
   ask_way h q s None old r new running has is gives = does_or_halts (served_at h q s old) old r new running (ways.served h q s old running has is) gives
 
   type_way : (h : Host) (line : List ℕ) (s : NcpState) (o : Option ℕ) (old : WorldState C) (r : Answered) (new : WorldState C) → old.stopped ≡ false → HasProgram h s old
       → TypeGives h line s o old r new → R old r new
-  type_way h line s None old r new running has gives = refuses (Program problem.NotOpen) old r new gives
+  type_way h line s None old r new running has gives = refuses (Program problem.NotOpen) old r new refl gives
   type_way h line s (Some socket) old r new running has gives =
       let q : Request = request.Send socket (line_bits line) in ask_way h (request.Send socket (line_bits line)) s (refusal s q) old r new running has refl gives
 
   -- a host that isn't there, or is down, does nothing
   at_program : (h : Host) (Gives : NcpState → Type 0) (seat : Seat) (o : Option NcpState) (old : WorldState C) (r : Answered) (new : WorldState C) → seat_of h old.seats ≡ Some seat
       → seat.program ≡ o → ((s : NcpState) → HasProgram h s old → Gives s → R old r new) → AtProgram Gives o old r new → R old r new
-  at_program h Gives seat None old r new found is k t = refuses (Carrier fault.IsDown) old r new t
+  at_program h Gives seat None old r new found is k t = refuses (Carrier fault.IsDown) old r new refl t
   at_program h Gives seat (Some s) old r new found is k t = k s (seat, found, is) t
 
   at_seat : (h : Host) (Gives : NcpState → Type 0) (o : Option Seat) (old : WorldState C) (r : Answered) (new : WorldState C) → seat_of h old.seats ≡ o
       → ((s : NcpState) → HasProgram h s old → Gives s → R old r new) → AtSeat Gives o old r new → R old r new
-  at_seat h Gives None old r new found k t = refuses (Carrier fault.NoSuch) old r new t
+  at_seat h Gives None old r new found k t = refuses (Carrier fault.NoSuch) old r new refl t
   at_seat h Gives (Some seat) old r new found k t = at_program h Gives seat seat.program old r new found refl k t
 
   at_host : (h : Host) (Gives : NcpState → Type 0) (old : WorldState C) (r : Answered) (new : WorldState C)
@@ -206,7 +205,7 @@ module _ {C : Type 0} (calls : Calls C) (Crossed : C → C → List Crossing →
 
   if_stopped : (P : Type 0) (old : WorldState C) (r : Answered) (new : WorldState C) → (b : Bool) → old.stopped ≡ b → (old.stopped ≡ false → P → R old r new)
       → MatchBool b (Refuses (Carrier fault.Stopped) old r new) P → R old r new
-  if_stopped P old r new true is k h = refuses (Carrier fault.Stopped) old r new h
+  if_stopped P old r new true is k h = refuses (Carrier fault.Stopped) old r new refl h
   if_stopped P old r new false is k h = k is h
 
   -- one event, whether or not the world has stopped

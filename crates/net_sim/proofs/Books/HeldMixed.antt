@@ -5,9 +5,10 @@ use Rattle.std.proofs.Common.{All, Result}
 use Rattle.std.specs.List.{filter}
 use Rattle.interface.specs.Mailboxes.{IsRun}
 use Rattle.interface.specs.declared.carrier.CarrierFault.TheVariants as fault
-use Rattle.net_sim.specs.Inside.Mixed.{IsHeldAmong, mixed_runs_out}
+use Rattle.net_sim.specs.Inside.Mixed.{IsHeldAmong}
+use Rattle.net_sim.specs.Inside.Parts.{runs_out}
 use Rattle.net_sim.specs.Laws.Worlds.{IsNamedMixed}
-use Rattle.net_sim.specs.MixedWorlds.{IsLawfulAmong, MixedCalmGives, MixedEvent, MixedEventGives, MixedFault, MixedState, MixedStepGives, RefusesMixed, World, opening_mixed, strange_in}
+use Rattle.net_sim.specs.MixedWorlds.{IsLawfulAmong, MixedCalmGives, MixedEvent, MixedEventGives, MixedState, MixedStepGives, RefusesMixed, opening_mixed, strange_in}
 use Rattle.net_sim.proofs.Books.Held.{have_addresses, still_running}
 use Rattle.net_sim.proofs.Books.Mixed as mixed
 use Rattle.net_sim.proofs.Books.Whole.{some_hosts}
@@ -23,7 +24,7 @@ mixed_opening_held own c named none order addresses = record {
 }
 
 -- what keeps the law keeps the order of the hosts, which are the same
-module _ {C : Type 0} (own : Calls C) (old new : MixedState C) (r : Result (Unit {0}) MixedFault)
+module _ {C : Type 0} (own : Calls C) (old new : MixedState C) (r : Result (Unit {0}) WorldFault)
     (held : IsHeldAmong own.seen old)
     (run : IsRun (own.seen new.world.carrier).hosts (own.seen new.world.carrier).log) where
   abbrev hosts : List Host
@@ -46,10 +47,10 @@ module _ {C : Type 0} (own : Calls C) (old new : MixedState C) (r : Result (Unit
   step_held e named gives =
       held_by (mixed.mixed_keeps own hosts e old r new named (mixed.kept_of own hosts old held.lawful) gives)
 
-  pub turn_held : (e : Event) (answer : Result (Unit {0}) WorldFault) → IsNamed e → StepGives (shown own) old.world e answer new.world
+  pub turn_held : (e : Event) → IsNamed e → StepGives (shown own) old.world e r new.world
       → new.strangers ≡ old.strangers → IsHeldAmong own.seen new
-  turn_held e answer named gives same =
-      held_by (mixed.turn_keeps own hosts e old answer new named (mixed.kept_of own hosts old held.lawful) gives same)
+  turn_held e named gives same =
+      held_by (mixed.turn_keeps own hosts e old r new named (mixed.kept_of own hosts old held.lawful) gives same)
 
   pub calm_held : (times : ℕ) → MixedCalmGives (shown own) times old r new → IsHeldAmong own.seen new
   calm_held times gives =
@@ -58,16 +59,16 @@ module _ {C : Type 0} (own : Calls C) (old new : MixedState C) (r : Result (Unit
 abbrev pub on_now : {C : Type 0} → MixedState C → MixedState C
 on_now s = record { world = running s.world.carrier s.world.seats s.world.services s.world.kept; strangers = s.strangers }
 
-abbrev pub mixed_ended : {C : Type 0} → C → List Seat → List ServiceSeat → Kept → List Host → Result (Unit {0}) MixedFault → MixedState C
-mixed_ended c seats services k strangers r = record { world = record { carrier = c; seats = seats; services = services; kept = k; stopped = mixed_runs_out r }; strangers = strangers }
+abbrev pub mixed_ended : {C : Type 0} → C → List Seat → List ServiceSeat → Kept → List Host → Result (Unit {0}) WorldFault → MixedState C
+mixed_ended c seats services k strangers r = record { world = record { carrier = c; seats = seats; services = services; kept = k; stopped = runs_out r }; strangers = strangers }
 
-event_steps : {C : Type 0} (calls : Calls C) (e : MixedEvent) (old : MixedState C) (r : Result (Unit {0}) MixedFault) (new : MixedState C) → old.world.stopped ≡ false
+event_steps : {C : Type 0} (calls : Calls C) (e : MixedEvent) (old : MixedState C) (r : Result (Unit {0}) WorldFault) (new : MixedState C) → old.world.stopped ≡ false
     → MixedEventGives calls (on_now old) e r new → MixedStepGives calls old e r new
 event_steps {C} calls e old r new run gives =
     let mine : MixedEventGives calls old e r new = subst (λ (w : WorldState C). MixedEventGives calls (record { world = w; strangers = old.strangers }) e r new) (still_running old.world run) gives in
-    subst (λ (b : Bool). MatchBool b (RefusesMixed (World (Carrier fault.Stopped)) old r new) (MixedEventGives calls old e r new)) (sym run) mine
+    subst (λ (b : Bool). MatchBool b (RefusesMixed (Carrier fault.Stopped) old r new) (MixedEventGives calls old e r new)) (sym run) mine
 
-pub followed_mixed : {C : Type 0} (own : Calls C) (e : MixedEvent) (old : MixedState C) (c : C) (seats : List Seat) (services : List ServiceSeat) (k : Kept) (r : Result (Unit {0}) MixedFault) → IsHeldAmong own.seen old
+pub followed_mixed : {C : Type 0} (own : Calls C) (e : MixedEvent) (old : MixedState C) (c : C) (seats : List Seat) (services : List ServiceSeat) (k : Kept) (r : Result (Unit {0}) WorldFault) → IsHeldAmong own.seen old
     → IsNamedMixed e → old.world.stopped ≡ false → MixedEventGives (shown own) (on_now old) e r (mixed_ended c seats services k old.strangers r) → IsRun (own.seen c).hosts (own.seen c).log
     → IsHeldAmong own.seen (mixed_ended c seats services k old.strangers r)
 followed_mixed {C} own e old c seats services k r held named run gives is =

@@ -5,18 +5,15 @@ use Rattle.interface.specs.Mailboxes.{IsRun}
 use Rattle.interface.specs.declared.carrier.CarrierFault.TheVariants as fault
 use Rattle.net_sim.specs.Carriers.{IsBooked}
 use Rattle.net_sim.specs.Laws.Worlds.{AreNamedMixed, IsNamedMixed}
-use Rattle.net_sim.specs.MixedWorlds.{AnyGives, FetchGives, HasProgram, IsLawfulAmong, IsWholeAmong, MixedEvent, MixedEventGives, MixedCalmGives, MixedFault, MixedRunGives, MixedRuns, MixedState, MixedStepGives, NoProgram, OfWorld, OutGives, RefusesMixed, SaysGives, World, Any, Out, asked_at, has_seat, is_strange, mixed_stops, opening_among, strange_in}
+use Rattle.net_sim.specs.MixedWorlds.{AnyGives, FetchGives, HasProgram, IsLawfulAmong, IsWholeAmong, MixedEvent, MixedEventGives, MixedCalmGives, MixedRunGives, MixedRuns, MixedState, MixedStepGives, NoProgram, OfWorld, OutGives, RefusesMixed, SaysGives, Any, Out, asked_at, has_seat, is_strange, opening_among, strange_in}
 use Rattle.net_sim.specs.Reports.{AreReported}
-use Rattle.net_sim.specs.World.{Event, Take}
+use Rattle.net_sim.specs.World.{Event, Take, stops}
 use Rattle.net_sim.proofs.Books.Booked.{among_booked, calm_books, fetch_books, out_books, step_books}
 use Rattle.net_sim.proofs.Books.Reported.{among_reported, calm_reported, fetch_reported, out_reported, step_reported}
 use Rattle.net_sim.proofs.Books.Whole.{calm_among, fetch_among, opening_among_whole, out_among, step_among}
 
 abbrev Answer : Type 0
 Answer = Result (Unit {0}) WorldFault
-
-abbrev Mixed : Type 0
-Mixed = Result (Unit {0}) MixedFault
 
 -- a choice, with what it was made by
 either : (P Q R : Type 0) (b : Bool) → (b ≡ true → P → R) → (b ≡ false → Q → R) → MatchBool b P Q → R
@@ -36,12 +33,12 @@ module _ {C : Type 0} (own : Calls C) (hosts : List Host) where
 
   -- ---- one event
 
-  refused : (f : MixedFault) (old : MixedState C) (r : Mixed) (new : MixedState C) → Kept old → RefusesMixed f old r new → Kept new
+  refused : (f : WorldFault) (old : MixedState C) (r : Answer) (new : MixedState C) → Kept old → RefusesMixed f old r new → Kept new
   refused f old r new k h = subst Kept (sym h.1) k
 
-  of_world : (Gives : Answer → WorldState C → Type 0) (old : MixedState C) (r : Mixed) (new : MixedState C) → ((answer : Answer) → Gives answer new.world → Keeps (strange_in old) new.world)
+  of_world : (Gives : Answer → WorldState C → Type 0) (old : MixedState C) (r : Answer) (new : MixedState C) → ((answer : Answer) → Gives answer new.world → Keeps (strange_in old) new.world)
       → OfWorld Gives old r new → Kept new
-  of_world Gives old r new k h = subst (λ (xs : List Host). Keeps (λ g. is_host xs g) new.world) (sym h.3) (k h.0 h.1)
+  of_world Gives old r new k h = subst (λ (xs : List Host). Keeps (λ g. is_host xs g) new.world) (sym h.1) (k r h.0)
 
   pub step_keeps : (strange : Host → Bool) (e : Event) (old : WorldState C) (r : Answer) (new : WorldState C) → IsNamed e → Keeps strange old → StepGives (shown own) old e r new → Keeps strange new
   step_keeps strange e old r new named k h = record {
@@ -74,27 +71,27 @@ module _ {C : Type 0} (own : Calls C) (hosts : List Host) where
   turn_keeps e old r new named k h same = subst (λ (xs : List Host). Keeps (λ g. is_host xs g) new.world) (sym same) (step_keeps (strange_in old) e old.world r new.world named k h)
 
   -- something that a stranger isn't asked for
-  asked_keeps : (e : Event) (old : MixedState C) (r : Mixed) (new : MixedState C) → IsNamed e → Kept old
+  asked_keeps : (e : Event) (old : MixedState C) (r : Answer) (new : MixedState C) → IsNamed e → Kept old
       → MatchBool (is_strange (strange_in old) (asked_at e)) (RefusesMixed NoProgram old r new) (OfWorld (StepGives (shown own) old.world e) old r new) → Kept new
   asked_keeps e old r new named k h =
       either (RefusesMixed NoProgram old r new) (OfWorld (StepGives (shown own) old.world e) old r new) (Kept new) (is_strange (strange_in old) (asked_at e))
       (λ on no. refused NoProgram old r new k no)
       (λ off does. of_world (StepGives (shown own) old.world e) old r new (λ answer g. step_keeps (strange_in old) e old.world answer new.world named k g) does) h
 
-  take_keeps : (h : Host) (old : MixedState C) (r : Mixed) (new : MixedState C) → old.world.stopped ≡ false → Kept old → AnyGives (shown own) old (Take h) r new → Kept new
+  take_keeps : (h : Host) (old : MixedState C) (r : Answer) (new : MixedState C) → old.world.stopped ≡ false → Kept old → AnyGives (shown own) old (Take h) r new → Kept new
   take_keeps h old r new running k gives =
       either (OfWorld (FetchGives (shown own) h old.world) old r new) (OfWorld (StepGives (shown own) old.world (Take h)) old r new) (Kept new) (strange_in old h)
       (λ on does. of_world (FetchGives (shown own) h old.world) old r new (λ answer g. fetch_keeps (strange_in old) h old.world answer new.world running on k g) does)
       (λ off does. of_world (StepGives (shown own) old.world (Take h)) old r new (λ answer g. step_keeps (strange_in old) (Take h) old.world answer new.world tt k g) does) gives
 
-  says_keeps : (m : HostMessage) (old : MixedState C) (r : Mixed) (new : MixedState C) → old.world.stopped ≡ false → Kept old → SaysGives (shown own) old m r new → Kept new
+  says_keeps : (m : HostMessage) (old : MixedState C) (r : Answer) (new : MixedState C) → old.world.stopped ≡ false → Kept old → SaysGives (shown own) old m r new → Kept new
   says_keeps m old r new running k gives =
-      let f : MixedFault = if has_seat m.flow.source old.world.seats then HasProgram else World (Carrier fault.NoSuch) in
+      let f : WorldFault = if has_seat m.flow.source old.world.seats then HasProgram else Carrier fault.NoSuch in
       either (OfWorld (OutGives (shown own) m old.world) old r new) (RefusesMixed f old r new) (Kept new) (strange_in old m.flow.source)
       (λ on does. of_world (OutGives (shown own) m old.world) old r new (λ answer g. out_keeps (strange_in old) m old.world answer new.world running on k g) does)
       (λ off no. refused f old r new k no) gives
 
-  event_keeps : (e : MixedEvent) (old : MixedState C) (r : Mixed) (new : MixedState C) → old.world.stopped ≡ false → IsNamedMixed e → Kept old → MixedEventGives (shown own) old e r new → Kept new
+  event_keeps : (e : MixedEvent) (old : MixedState C) (r : Answer) (new : MixedState C) → old.world.stopped ≡ false → IsNamedMixed e → Kept old → MixedEventGives (shown own) old e r new → Kept new
   event_keeps (Out m) old r new running named k h = says_keeps m old r new running k h
   event_keeps (Any (Take g)) old r new running named k h = take_keeps g old r new running k h
   event_keeps (Any (Net e)) old r new running named k h = asked_keeps (Net e) old r new named k h
@@ -105,27 +102,27 @@ module _ {C : Type 0} (own : Calls C) (hosts : List Host) where
   event_keeps (Any (User g peer listen mine)) old r new running named k h = asked_keeps (User g peer listen mine) old r new named k h
   event_keeps (Any (Typed g line)) old r new running named k h = asked_keeps (Typed g line) old r new named k h
 
-  pub mixed_keeps : (e : MixedEvent) (old : MixedState C) (r : Mixed) (new : MixedState C) → IsNamedMixed e → Kept old → MixedStepGives (shown own) old e r new → Kept new
+  pub mixed_keeps : (e : MixedEvent) (old : MixedState C) (r : Answer) (new : MixedState C) → IsNamedMixed e → Kept old → MixedStepGives (shown own) old e r new → Kept new
   mixed_keeps e old r new named k h =
-      either (RefusesMixed (World (Carrier fault.Stopped)) old r new) (MixedEventGives (shown own) old e r new) (Kept new) old.world.stopped
-      (λ on no. refused (World (Carrier fault.Stopped)) old r new k no)
+      either (RefusesMixed (Carrier fault.Stopped) old r new) (MixedEventGives (shown own) old e r new) (Kept new) old.world.stopped
+      (λ on no. refused (Carrier fault.Stopped) old r new k no)
       (λ running does. event_keeps e old r new running named k does) h
 
   -- ---- several events
 
-  runs_keep : (events : List MixedEvent) (old : MixedState C) (r : Mixed) (new : MixedState C) → AreNamedMixed events → Kept old → MixedRuns (shown own) old events r new → Kept new
+  runs_keep : (events : List MixedEvent) (old : MixedState C) (r : Answer) (new : MixedState C) → AreNamedMixed events → Kept old → MixedRuns (shown own) old events r new → Kept new
   runs_keep [] old r new named k h = subst Kept (sym h.1) k
   runs_keep (e ∷ events) old r new named k h =
       let m : Kept h.1 = mixed_keeps e old h.0 h.1 named.0 k h.2 in
-      either ((r ≡ h.0) × (new ≡ h.1)) (MixedRuns (shown own) h.1 events r new) (Kept new) (mixed_stops h.0)
+      either ((r ≡ h.0) × (new ≡ h.1)) (MixedRuns (shown own) h.1 events r new) (Kept new) (stops h.0)
       (λ on is. subst Kept (sym is.1) m) (λ off rest. runs_keep events h.1 r new named.1 m rest) h.3
 
-  run_keeps : (events : List MixedEvent) (old : MixedState C) (r : Mixed) (new : MixedState C) → AreNamedMixed events → Kept old → MixedRunGives (shown own) old events r new → Kept new
+  run_keeps : (events : List MixedEvent) (old : MixedState C) (r : Answer) (new : MixedState C) → AreNamedMixed events → Kept old → MixedRunGives (shown own) old events r new → Kept new
   run_keeps events old r new named k h =
-      either (RefusesMixed (World (Carrier fault.Stopped)) old r new) (MixedRuns (shown own) old events r new) (Kept new) old.world.stopped
-      (λ on no. refused (World (Carrier fault.Stopped)) old r new k no) (λ off runs. runs_keep events old r new named k runs) h
+      either (RefusesMixed (Carrier fault.Stopped) old r new) (MixedRuns (shown own) old events r new) (Kept new) old.world.stopped
+      (λ on no. refused (Carrier fault.Stopped) old r new k no) (λ off runs. runs_keep events old r new named k runs) h
 
-  pub calm_keeps : (times : ℕ) (old : MixedState C) (r : Mixed) (new : MixedState C) → Kept old
+  pub calm_keeps : (times : ℕ) (old : MixedState C) (r : Answer) (new : MixedState C) → Kept old
       → MixedCalmGives (shown own) times old r new → Kept new
   calm_keeps times old r new k h =
       of_world (CalmGives (shown own) times old.world) old r new
@@ -158,7 +155,7 @@ module _ {C : Type 0} (own : Calls C) (hosts : List Host) where
   pub kept_of : (s : MixedState C) → Lawful s → Kept s
   kept_of s l = keeps_of (strange_in s) s.world l
 
-  module _ (old new : MixedState C) (r : Mixed) (l : Lawful old) (run : IsRun hosts (own.seen new.world.carrier).log) where
+  module _ (old new : MixedState C) (r : Answer) (l : Lawful old) (run : IsRun hosts (own.seen new.world.carrier).log) where
     lawful_of : Kept new → Lawful new
     lawful_of k = lawful_by (strange_in new) new.world l.addresses run k
 

@@ -161,7 +161,7 @@ module _ {C : Type 0} (calls : Calls C) where
 
   reports_ways : Ways calls (λ c d cs. Unit {0}) Reports
   reports_ways = record {
-    left = λ r w b. b;
+    left = λ r w own b. b;
     halted = λ c cs old r new running crossed one h b. halt_reported c old r new h b;
     passed = λ e c old running crossed b. carried_reported c (is_memory e) old running b;
     quiet = λ c old running crossed b. carried_reported c old.stopped old running b;

@@ -4,7 +4,7 @@ use Rattle.std.proofs.Common.{is_some, slice_get, lt-ltb, le-ltb, Result}
 use Rattle.std.proofs.lemmas.List.{drop_all}
 use Rattle.interface.specs.declared.carrier.CarrierFault.TheVariants as fault
 use Rattle.net_sim.specs.Inside.Calm.{CalmTurn, Round}
-use Rattle.net_sim.specs.World.{Event, Take, turn_of, Passes}
+use Rattle.net_sim.specs.World.{Event, HasProgram, NoProgram, Passes, Take, turn_of}
 use Rattle.net_sim.proofs.Hosts.SeatLemmas.{absent}
 
 abbrev Answer : Type 0
@@ -80,6 +80,8 @@ here (x ∷ seats) (suc place) lt = let h : Here seats place = here seats place 
 pub memory_stops : (f : WorldFault) → wants_memory f ≡ true → stops (Err f) ≡ true
 memory_stops (Carrier f) is = rw is refl
 memory_stops (Program f) is = is
+memory_stops NoProgram is = is
+memory_stops HasProgram is = is
 
 apart : (b : Bool) → b ≡ true → b ≡ false → ⊥
 apart true a b = absurd (cc)

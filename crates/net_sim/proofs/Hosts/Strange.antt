@@ -1,16 +1,13 @@
 -- How an event of a world with strangers ends.
-use Rattle.net_sim.proofs.Common.{◌≡◌, Bool, true, false, List, Ok, Err, refl, ap, sym, subst, ◌∙◌, MatchBool, Calls, Host, is_host, HostMessage, WorldState, WorldFault, StepGives}
+use Rattle.net_sim.proofs.Common.{◌≡◌, Bool, true, false, List, refl, MatchBool, Calls, Host, is_host, HostMessage, WorldState, WorldFault, StepGives}
 use Rattle.std.proofs.Common.{Result}
-use Rattle.net_sim.specs.Inside.Mixed.{mixed_after, mixed_of, mixed_runs_out}
-use Rattle.net_sim.specs.Inside.Parts.{HostsState, runs_out, world_after, world_of, world_of_hosts}
-use Rattle.net_sim.specs.MixedWorlds.{AnyGives, AskedGives, FetchGives, MixedFault, MixedState, NoProgram, OfWorld, OutGives, RefusesMixed, asked_at, is_strange, mixed_answer}
+use Rattle.net_sim.specs.Inside.Mixed.{mixed_after, mixed_of}
+use Rattle.net_sim.specs.Inside.Parts.{HostsState, world_after, world_of}
+use Rattle.net_sim.specs.MixedWorlds.{AnyGives, AskedGives, FetchGives, MixedState, NoProgram, OfWorld, OutGives, RefusesMixed, asked_at, is_strange}
 use Rattle.net_sim.specs.World.{Event, Take}
 
 abbrev Answer : Type 0
 Answer = Result (Unit {0}) WorldFault
-
-abbrev Mixed : Type 0
-Mixed = Result (Unit {0}) MixedFault
 
 on : (P Q : Type 0) (b : Bool) → b ≡ true → P → MatchBool b P Q
 on P Q true is p = p
@@ -20,34 +17,29 @@ off : (P Q : Type 0) (b : Bool) → b ≡ false → Q → MatchBool b P Q
 off P Q true is q = absurd (let no : true ≡ false = is in cc)
 off P Q false is q = q
 
--- memory ran out in the world, or not
-same_end : (a : Answer) → runs_out a ≡ mixed_runs_out (mixed_answer a)
-same_end (Ok done) = refl
-same_end (Err f) = refl
-
-module _ {C : Type 0} (calls : Calls C) (xs : List Host) (c0 c1 : C) (h0 h1 : HostsState) (a : Answer) (r : Mixed) (is : r ≡ mixed_answer a) where
+module _ {C : Type 0} (calls : Calls C) (xs : List Host) (c0 c1 : C) (h0 h1 : HostsState) (r : Answer) where
   abbrev old : MixedState C
   old = mixed_of c0 h0 xs
 
   abbrev new : MixedState C
   new = mixed_after c1 h1 xs r
 
-  of_world : (Gives : Answer → WorldState C → Type 0) → Gives a (world_after c1 h1 a) → OfWorld Gives old r new
-  of_world Gives g = (a, subst (λ (b : Bool). Gives a (world_of_hosts c1 h1 b)) (same_end a ∙ ap mixed_runs_out (sym is)) g, is, refl)
+  of_world : (Gives : Answer → WorldState C → Type 0) → Gives r (world_after c1 h1 r) → OfWorld Gives old r new
+  of_world Gives g = (g, refl)
 
-  pub take_strange : (h : Host) → is_host xs h ≡ true → FetchGives calls h (world_of c0 h0) a (world_after c1 h1 a) → AnyGives calls old (Take h) r new
+  pub take_strange : (h : Host) → is_host xs h ≡ true → FetchGives calls h (world_of c0 h0) r (world_after c1 h1 r) → AnyGives calls old (Take h) r new
   take_strange h is_one g =
       on (OfWorld (FetchGives calls h (world_of c0 h0)) old r new) (OfWorld (StepGives calls (world_of c0 h0) (Take h)) old r new) (is_host xs h) is_one (of_world (FetchGives calls h (world_of c0 h0)) g)
 
-  pub take_plain : (h : Host) → is_host xs h ≡ false → StepGives calls (world_of c0 h0) (Take h) a (world_after c1 h1 a) → AnyGives calls old (Take h) r new
+  pub take_plain : (h : Host) → is_host xs h ≡ false → StepGives calls (world_of c0 h0) (Take h) r (world_after c1 h1 r) → AnyGives calls old (Take h) r new
   take_plain h is_none g =
       off (OfWorld (FetchGives calls h (world_of c0 h0)) old r new) (OfWorld (StepGives calls (world_of c0 h0) (Take h)) old r new) (is_host xs h) is_none (of_world (StepGives calls (world_of c0 h0) (Take h)) g)
 
-  pub ask_plain : (e : Event) → is_strange (λ h. is_host xs h) (asked_at e) ≡ false → StepGives calls (world_of c0 h0) e a (world_after c1 h1 a) → AskedGives calls old e r new
+  pub ask_plain : (e : Event) → is_strange (λ h. is_host xs h) (asked_at e) ≡ false → StepGives calls (world_of c0 h0) e r (world_after c1 h1 r) → AskedGives calls old e r new
   ask_plain e is_none g =
       off (RefusesMixed NoProgram old r new) (OfWorld (StepGives calls (world_of c0 h0) e) old r new) (is_strange (λ h. is_host xs h) (asked_at e)) is_none (of_world (StepGives calls (world_of c0 h0) e) g)
 
-  pub says_strange : (m : HostMessage) (f : MixedFault) → is_host xs m.flow.source ≡ true → OutGives calls m (world_of c0 h0) a (world_after c1 h1 a)
+  pub says_strange : (m : HostMessage) (f : WorldFault) → is_host xs m.flow.source ≡ true → OutGives calls m (world_of c0 h0) r (world_after c1 h1 r)
       → MatchBool (is_host xs m.flow.source) (OfWorld (OutGives calls m (world_of c0 h0)) old r new) (RefusesMixed f old r new)
   says_strange m f is_one g =
       on (OfWorld (OutGives calls m (world_of c0 h0)) old r new) (RefusesMixed f old r new) (is_host xs m.flow.source) is_one (of_world (OutGives calls m (world_of c0 h0)) g)

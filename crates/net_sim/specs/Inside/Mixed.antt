@@ -1,16 +1,10 @@
 -- The parts of a world with strangers, and such a world as every call of it leaves it.
-use Rattle.std.specs.Prelude.{Bool, false, List, Result, Ok, Err}
+use Rattle.std.specs.Prelude.{Bool, List, Result}
 use Rattle.interface.specs.Calls.{Seen, InOrder}
 use Rattle.interface.specs.Host.{Host}
-use Rattle.net_sim.specs.Inside.Parts.{HostsState, world_of, world_of_hosts}
-use Rattle.net_sim.specs.MixedWorlds.{IsLawfulAmong, MixedFault, MixedState, World, NoProgram, HasProgram, strange_in}
-use Rattle.net_sim.specs.World.{WorldState, wants_memory}
-
-abbrev pub mixed_runs_out : Result (Unit {0}) MixedFault → Bool
-mixed_runs_out (Ok done) = false
-mixed_runs_out (Err (World f)) = wants_memory f
-mixed_runs_out (Err NoProgram) = false
-mixed_runs_out (Err HasProgram) = false
+use Rattle.net_sim.specs.Inside.Parts.{HostsState, runs_out, world_of, world_of_hosts}
+use Rattle.net_sim.specs.MixedWorlds.{IsLawfulAmong, MixedState, strange_in}
+use Rattle.net_sim.specs.World.{WorldFault, WorldState}
 
 -- of a world, and strangers
 abbrev pub mixed_with : {C : Type 0} → WorldState C → List Host → MixedState C
@@ -23,8 +17,8 @@ mixed_of_hosts c h strangers stopped = record { world = world_of_hosts c h stopp
 abbrev pub mixed_of : {C : Type 0} → C → HostsState → List Host → MixedState C
 mixed_of c h strangers = record { world = world_of c h; strangers = strangers }
 
-abbrev pub mixed_after : {C : Type 0} → C → HostsState → List Host → Result (Unit {0}) MixedFault → MixedState C
-mixed_after c h strangers r = mixed_of_hosts c h strangers (mixed_runs_out r)
+abbrev pub mixed_after : {C : Type 0} → C → HostsState → List Host → Result (Unit {0}) WorldFault → MixedState C
+mixed_after c h strangers r = mixed_of_hosts c h strangers (runs_out r)
 
 -- its hosts are in order, and it is lawful
 pub record IsHeldAmong {C : Type 0} (seen : C → Seen) (s : MixedState C) : Type 0 where

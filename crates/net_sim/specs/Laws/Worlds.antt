@@ -14,7 +14,7 @@ use Rattle.interface.specs.declared.message.HostMessage.{HostMessage}
 use Rattle.ncp_control.specs.Phases.{is_ready}
 use Rattle.net_sim.specs.Carriers.{IsBooked, shown}
 use Rattle.net_sim.specs.Clean.{HaveAddresses, IsFresh, IsLawful, IsText, IsUnheard, is_through}
-use Rattle.net_sim.specs.MixedWorlds.{Any, IsLawfulAmong, MixedCalmGives, MixedEvent, MixedFault, MixedRunGives}
+use Rattle.net_sim.specs.MixedWorlds.{Any, IsLawfulAmong, MixedCalmGives, MixedEvent, MixedRunGives}
 use Rattle.net_sim.specs.MixedWorlds.{MixedState, MixedStepGives, Out, opening_among, strange_in}
 use Rattle.net_sim.specs.Projection.{Agrees, IsApart, event_by, event_of, message_on}
 use Rattle.net_sim.specs.Story as story
@@ -22,7 +22,8 @@ use Rattle.net_sim.specs.Story.{Crossed, Moment, places}
 use Rattle.net_sim.specs.Mixed.{Happened}
 use Rattle.net_sim.specs.Timeline.{contacts_of, crossings_of, events_in}
 use Rattle.net_sim.specs.Whole.{Each, IsNamed, IsWhole}
-use Rattle.net_sim.specs.World.{CalmGives, Event, RunGives, StepGives, WorldFault, WorldState, opening_world, seat_of}
+use Rattle.net_sim.specs.World.{CalmGives, Event, RunGives, StepGives, WorldFault, WorldState}
+use Rattle.net_sim.specs.World.{is_of_strangers, opening_world, seat_of}
 use Rattle.reset_law.specs.Events.{part_of}
 use Rattle.reset_law.specs.Network.{AreOurs, Network}
 use Rattle.reset_law.specs.Pairs.{MaySend, Pair, pair_moved}
@@ -88,6 +89,17 @@ pub record Books {C : Type 0} (calls : Calls C) : Type 0 where
   pub refused :
       (old new : WorldState C) (e : Event) (r : Result (Unit {0}) WorldFault) (f : WorldFault) → r ≡ Err f →
       StepGives (shown calls) old e r new → new.kept ≡ old.kept
+  -- none is refused as `NoProgram` or `HasProgram`, as it may be where there are strangers; nor does a list of events or
+  -- a calm end so
+  pub answered :
+      (old new : WorldState C) (e : Event) (r : Result (Unit {0}) WorldFault) → StepGives (shown calls) old e r new →
+      is_of_strangers r ≡ false
+  pub run_answered :
+      (old new : WorldState C) (events : List Event) (r : Result (Unit {0}) WorldFault) →
+      RunGives (shown calls) old events r new → is_of_strangers r ≡ false
+  pub calm_answered :
+      (old new : WorldState C) (times : ℕ) (r : Result (Unit {0}) WorldFault) →
+      CalmGives (shown calls) times old r new → is_of_strangers r ≡ false
   -- one event, a list of events, and this many quiet rounds with all that the hosts take and say between them
   pub step :
       (old new : WorldState C) (e : Event) (r : Result (Unit {0}) WorldFault) → IsBooked calls.seen old →
@@ -206,18 +218,18 @@ pub record MixedWorlds {C : Type 0} (calls : Calls C) : Type 0 where
       IsLawfulAmong strange calls.seen (calls.seen c).hosts (opening_among (shown calls) strange c)
   -- by one event, where users name hosts by addresses and the carrier's log is still a run of the mailboxes
   pub step :
-      (hosts : List Host) (old new : MixedState C) (e : MixedEvent) (r : Result (Unit {0}) MixedFault) →
+      (hosts : List Host) (old new : MixedState C) (e : MixedEvent) (r : Result (Unit {0}) WorldFault) →
       IsLawfulAmong (strange_in old) calls.seen hosts old.world → IsNamedMixed e →
       MixedStepGives (shown calls) old e r new → IsRun hosts (calls.seen new.world.carrier).log →
       IsLawfulAmong (strange_in new) calls.seen hosts new.world
   -- by a list of events, and by this many quiet rounds, in which strangers take nothing
   pub run :
-      (hosts : List Host) (old new : MixedState C) (events : List MixedEvent) (r : Result (Unit {0}) MixedFault) →
+      (hosts : List Host) (old new : MixedState C) (events : List MixedEvent) (r : Result (Unit {0}) WorldFault) →
       IsLawfulAmong (strange_in old) calls.seen hosts old.world → AreNamedMixed events →
       MixedRunGives (shown calls) old events r new → IsRun hosts (calls.seen new.world.carrier).log →
       IsLawfulAmong (strange_in new) calls.seen hosts new.world
   pub calm :
-      (hosts : List Host) (old new : MixedState C) (times : ℕ) (r : Result (Unit {0}) MixedFault) →
+      (hosts : List Host) (old new : MixedState C) (times : ℕ) (r : Result (Unit {0}) WorldFault) →
       IsLawfulAmong (strange_in old) calls.seen hosts old.world → MixedCalmGives (shown calls) times old r new →
       IsRun hosts (calls.seen new.world.carrier).log → IsLawfulAmong (strange_in new) calls.seen hosts new.world
   -- without strangers such a world is lawful as any world is, and a lawful one is such a world

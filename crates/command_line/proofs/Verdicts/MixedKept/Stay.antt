@@ -13,10 +13,9 @@ use Rattle.net_sim.specs.MixedWorlds as worlds
 use Rattle.net_sim.specs.World.{CalmGives, StepGives}
 use Rattle.net_sim.specs.declared.event.Event.TheVariants.{Ask, Net, Offer, Quiet, Server, Take, Typed, User}
 use Rattle.net_sim.specs.declared.event.WorldFault.{WorldFault}
+use Rattle.net_sim.specs.declared.event.WorldFault.TheVariants.{NoProgram}
 use Rattle.net_sim.specs.declared.mixed.MixedEvent.{MixedEvent}
 use Rattle.net_sim.specs.declared.mixed.MixedEvent.TheVariants.{Any, Out}
-use Rattle.net_sim.specs.declared.mixed.MixedFault.{MixedFault}
-use Rattle.net_sim.specs.declared.mixed.MixedFault.TheVariants.{NoProgram}
 use Rattle.world_replay.specs.Kinds.{MixedEventGives, ReplaysBy, RunsOutBy, mixed_kind}
 use Rattle.world_replay.specs.Output.{Shown}
 use Rattle.world_script.specs.declared.event.MixedWorldEvent.TheVariants as mixed
@@ -29,13 +28,13 @@ either false p q h = q h
 
 module _ {C : Type 0} (calls : Calls C) where
   abbrev Answer : Type 0
-  Answer = Result (Unit {0}) MixedFault
+  Answer = Result (Unit {0}) WorldFault
 
-  of_world : (Gives : Result (Unit {0}) WorldFault → WorldState C → Type 0) (old : MixedState C) (r : Answer)
-      (new : MixedState C) → OfWorld Gives old r new → new.strangers ≡ old.strangers
-  of_world Gives old r new (q, gives, is, same) = same
+  of_world : (Gives : Answer → WorldState C → Type 0) (old : MixedState C) (r : Answer) (new : MixedState C)
+      → OfWorld Gives old r new → new.strangers ≡ old.strangers
+  of_world Gives old r new (gives, same) = same
 
-  refused : (f : MixedFault) (old : MixedState C) (r : Answer) (new : MixedState C) → RefusesMixed f old r new
+  refused : (f : WorldFault) (old : MixedState C) (r : Answer) (new : MixedState C) → RefusesMixed f old r new
       → new.strangers ≡ old.strangers
   refused f old r new h = ap (λ (s : MixedState C). s.strangers) h.1
 

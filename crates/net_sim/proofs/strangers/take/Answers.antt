@@ -5,9 +5,9 @@ use Rattle.net_sim.proofs.strangers.take.Goals as goal
 pub returns-then-is_among : goal.returns-then-is_among
 returns-then-is_among g c =
     let calls : Calls g.row.C.Denot = shown g.C.Carrier.calls in
-    take_strange calls c.args.strangers.now c.args.carrier.now c.fetch-done.new.carrier c.args.hosts.now c.fetch-done.new.hosts c.fetch-done.result c.answer_of.result c.answer_of.ensures c.args.host (search rules) c.fetch-done.ensures
+    take_strange calls c.args.strangers.now c.args.carrier.now c.fetch.new.carrier c.args.hosts.now c.fetch.new.hosts c.fetch.result c.args.host (search rules) c.fetch.ensures
 
 pub returns : goal.returns
 returns g c =
     let calls : Calls g.row.C.Denot = shown g.C.Carrier.calls in
-    take_plain calls c.args.strangers.now c.args.carrier.now c.take-done.new.carrier c.args.hosts.now c.take-done.new.hosts c.take-done.result c.answer_of-2.result c.answer_of-2.ensures c.args.host (search rules) c.take-done.ensures
+    take_plain calls c.args.strangers.now c.args.carrier.now c.take.new.carrier c.args.hosts.now c.take.new.hosts c.take.result c.args.host (search rules) c.take.ensures

@@ -50,10 +50,8 @@ returns-clause-rests c = rests
 
 pub returns-clause-stays : goal.returns-clause-stays
 returns-clause-stays c rounds = (
-  Ok tt,
   begun waiting_carrier rounds world (Ok tt) world refl
       (rest_passed waiting_carrier rounds 0 world world (none_passed waiting_carrier rounds world) rests),
-  refl,
   refl,
 )
 

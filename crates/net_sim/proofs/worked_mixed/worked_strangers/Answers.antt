@@ -15,7 +15,7 @@ ends (Ok done) c r new is (inr h) on = absurd (let no : true ≡ false = sym h.s
 ends (Err e) c r new is h on = absurd (cc)
 
 pub returns-clause-written : goal.returns-clause-written
-returns-clause-written c r new h on = ends h.1.0 h.1.1 h.0 new.world h.1.2.0 h.1.3 on
+returns-clause-written c r new h on = ends h.0.0 h.0.1 r new.world h.0.2.0 h.0.3 on
 
 refuses : (named : List Host) (h : Host) → absent_in three_seen.hosts named ≡ Some h → IsRefusedNaming named h
 refuses named h is (Ok s) opens = absurd (let no : None ≡ Some h = sym opens.0 ∙ is in cc)

@@ -8,7 +8,7 @@ pub print_news-requires-clause-crossed : goal.print_news-requires-clause-crossed
 print_news-requires-clause-crossed g c =
     let old : Kept = g.R.Replayed.kind.kept c.args.world.now in
     let new : Kept = g.R.Replayed.kind.kept c.happen-outcome.new.self in
-    let grew : Gains old new = c.is_replayable.ensures.gains c.args.event c.args.world.now c.happen-outcome.ensures.0 c.happen-outcome.new.self c.happen-outcome.ensures.1 in
+    let grew : Gains old new = c.is_replayable.ensures.gains c.args.event c.args.world.now c.happen-outcome.result c.happen-outcome.new.self c.happen-outcome.ensures in
     let was : length c.crossings-crossed.result.now ≡ length old.book.crossings =
     ap length c.crossings-crossed.ensures ∙ length-reverse c.book.result.book.crossings ∙ ap (λ (k : Kept). length k.book.crossings) c.book.ensures in
     let is : length c.book-4.result.book.crossings ≡ length new.book.crossings = ap (λ (k : Kept). length k.book.crossings) c.book-4.ensures in
@@ -19,7 +19,7 @@ pub print_news-requires-clause-told : goal.print_news-requires-clause-told
 print_news-requires-clause-told g c =
     let old : Kept = g.R.Replayed.kind.kept c.args.world.now in
     let new : Kept = g.R.Replayed.kind.kept c.happen-outcome.new.self in
-    let grew : Gains old new = c.is_replayable.ensures.gains c.args.event c.args.world.now c.happen-outcome.ensures.0 c.happen-outcome.new.self c.happen-outcome.ensures.1 in
+    let grew : Gains old new = c.is_replayable.ensures.gains c.args.event c.args.world.now c.happen-outcome.result c.happen-outcome.new.self c.happen-outcome.ensures in
     let was : length c.notices-told.result.now ≡ length old.book.notices = ap length c.notices-told.ensures ∙ ap (λ (k : Kept). length k.book.notices) c.book-2.ensures in
     let is : length c.book-4.result.book.notices ≡ length new.book.notices = ap (λ (k : Kept). length k.book.notices) c.book-4.ensures in
     let more : length old.book.notices ≤ length new.book.notices = more_notices old new grew in
@@ -29,7 +29,7 @@ pub print_news-requires-clause-said : goal.print_news-requires-clause-said
 print_news-requires-clause-said g c =
     let old : Kept = g.R.Replayed.kind.kept c.args.world.now in
     let new : Kept = g.R.Replayed.kind.kept c.happen-outcome.new.self in
-    let grew : Gains old new = c.is_replayable.ensures.gains c.args.event c.args.world.now c.happen-outcome.ensures.0 c.happen-outcome.new.self c.happen-outcome.ensures.1 in
+    let grew : Gains old new = c.is_replayable.ensures.gains c.args.event c.args.world.now c.happen-outcome.result c.happen-outcome.new.self c.happen-outcome.ensures in
     let was : length c.reports-said.result.now ≡ length old.book.reports = ap length c.reports-said.ensures ∙ ap (λ (k : Kept). length k.book.reports) c.book-3.ensures in
     let is : length c.book-4.result.book.reports ≡ length new.book.reports = ap (λ (k : Kept). length k.book.reports) c.book-4.ensures in
     let more : length old.book.reports ≤ length new.book.reports = more_reports old new grew in

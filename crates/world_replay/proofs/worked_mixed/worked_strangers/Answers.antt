@@ -1,5 +1,5 @@
 use Rattle.interface.specs.declared.carrier.CarrierFault.TheVariants as fault
-use Rattle.world_replay.proofs.Common.{Any, Out, HasProgram, NoProgram, World, any_carrier, message, Ask, Offer, Carrier, first, second, third}
+use Rattle.world_replay.proofs.Common.{Any, Out, HasProgram, NoProgram, any_carrier, message, Ask, Offer, Carrier, first, second, third}
 use Rattle.net_sim.specs.WorkedMixed.{fourth}
 use Rattle.sockets.specs.declared.request.Request.TheVariants as request
 use Rattle.world_script.specs.declared.event.MixedWorldEvent.TheVariants.{Happen}
@@ -25,7 +25,7 @@ pub returns-clause-program : goal.returns-clause-program
 returns-clause-program c = λ new shown h. refused_only any_carrier (Happen (Out (message first second 2))) HasProgram new shown h h.gives
 
 pub returns-clause-nobody : goal.returns-clause-nobody
-returns-clause-nobody c = λ new shown h. refused_only any_carrier (Happen (Out (message fourth second 2))) (World (Carrier fault.NoSuch)) new shown h h.gives
+returns-clause-nobody c = λ new shown h. refused_only any_carrier (Happen (Out (message fourth second 2))) (Carrier fault.NoSuch) new shown h h.gives
 
 pub returns-clause-waits : goal.returns-clause-waits
 returns-clause-waits c = waits

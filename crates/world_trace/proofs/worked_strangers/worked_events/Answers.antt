@@ -3,8 +3,8 @@ use Rattle.std.specs.Fmt.{digits}
 use Rattle.interface.specs.declared.crossing.Crossing.TheVariants as crossing
 use Rattle.net_sim.specs.Worked.{accepting_carrier, any_carrier, message}
 use Rattle.net_sim.specs.declared.event.Event.TheVariants.{Offer}
+use Rattle.net_sim.specs.declared.event.WorldFault.TheVariants.{HasProgram, NoProgram}
 use Rattle.net_sim.specs.declared.mixed.MixedEvent.TheVariants.{Any, Out}
-use Rattle.net_sim.specs.declared.mixed.MixedFault.TheVariants.{HasProgram, NoProgram}
 use Rattle.sockets.specs.Worked.{third}
 use Rattle.world_replay.specs.Output.{Crossed, Refused}
 use Rattle.world_trace.proofs.Beside.{traces_only}

@@ -1,6 +1,6 @@
 use Rattle.net_sim.proofs.Common.{rules, ◌≡◌, refl, CalmGives, Calls, shown}
 use Rattle.net_sim.specs.Inside.Mixed.{IsHeldAmong, mixed_with}
-use Rattle.net_sim.specs.MixedWorlds.{MixedState, mixed_answer}
+use Rattle.net_sim.specs.MixedWorlds.{MixedState}
 use Rattle.net_sim.proofs.Books.HeldMixed.{calm_held}
 use Rattle.net_sim.proofs.mixed_world.MixedWorld.calm.Goals as goal
 
@@ -12,5 +12,5 @@ invariant_of-self g c =
     let strangers : c.self.inside.strangers.items ≡ c.args.self.now.strangers = search rules in
     let gives : CalmGives (shown calls) c.args.rounds c.args.self.now.world c.calm-done.result c.calm-done.new.self = search rules in
     rw strangers
-    (calm_held calls c.args.self.now new (mixed_answer c.calm-done.result) held c.is_run.ensures c.args.rounds
-    (c.calm-done.result, gives, refl, refl))
+    (calm_held calls c.args.self.now new c.calm-done.result held c.is_run.ensures c.args.rounds
+    (gives, refl))

@@ -1,5 +1,6 @@
 use Rattle.net_sim.proofs.Common.{rules, ◌≡◌, ◌∷◌, List, true, false, subst, shown, Calls}
-use Rattle.net_sim.specs.MixedWorlds.{MixedEvent, MixedRuns, mixed_stops}
+use Rattle.net_sim.specs.MixedWorlds.{MixedEvent, MixedRuns}
+use Rattle.net_sim.specs.World.{stops}
 use Rattle.net_sim.proofs.Books.RunLoop.{mixed_ends, mixed_more, mixed_on}
 use Rattle.net_sim.proofs.mixed_world.MixedWorld.run.Goals as goal
 
@@ -9,13 +10,13 @@ loop-event-init g c =
     let gives : c.into_iter-event-iterator.result.rest.items ≡ c.args.events.items = search rules in
     λ r new rest. subst (λ (es : List MixedEvent). MixedRuns (shown calls) c.args.self.now es r new) gives rest
 
-pub returns-then-stops_mixed : goal.returns-then-stops_mixed
-returns-then-stops_mixed g c =
+pub returns-then-stops : goal.returns-then-stops
+returns-then-stops g c =
     let calls : Calls g.row.C.Denot = g.C.Carrier.calls in
     let left : List MixedEvent = c.loop-event.event-iterator.rest.items in
     let later : List MixedEvent = c.next.new.self.rest.items in
     let is : left ≡ c.in-Some.event ∷ later = c.in-Some.ensures.steps.0 in
-    let off : mixed_stops c.step-done.result ≡ true = search rules in
+    let off : stops c.step-done.result ≡ true = search rules in
     mixed_on (shown calls) c.args.events.items c.args.self.now c.step-done.result c.step-done.new.self (search rules)
     (c.loop-event.invariant c.step-done.result c.step-done.new.self
     (mixed_ends (shown calls) left later c.in-Some.event is c.loop-event.self c.step-done.new.self c.step-done.result
@@ -27,7 +28,7 @@ loop-event-preserved g c =
     let left : List MixedEvent = c.loop-event.event-iterator.rest.items in
     let later : List MixedEvent = c.next.new.self.rest.items in
     let is : left ≡ c.in-Some.event ∷ later = c.in-Some.ensures.steps.0 in
-    let on : mixed_stops c.step-done.result ≡ false = search rules in
+    let on : stops c.step-done.result ≡ false = search rules in
     λ r new rest. c.loop-event.invariant r new
     (mixed_more (shown calls) left later c.in-Some.event is c.loop-event.self c.step-done.new.self c.step-done.result
     c.step-done.ensures on r new rest)

@@ -1,6 +1,6 @@
 use Rattle.net_sim.proofs.Common.{rules, ◌≡◌, refl, StepGives, Calls, shown}
 use Rattle.net_sim.specs.Inside.Mixed.{IsHeldAmong, mixed_with}
-use Rattle.net_sim.specs.MixedWorlds.{MixedState, mixed_answer}
+use Rattle.net_sim.specs.MixedWorlds.{MixedState}
 use Rattle.net_sim.proofs.Books.HeldMixed.{turn_held}
 use Rattle.net_sim.proofs.mixed_world.MixedWorld.turn.Goals as goal
 
@@ -12,5 +12,5 @@ invariant_of-self g c =
     let strangers : c.self.inside.strangers.items ≡ c.args.self.now.strangers = search rules in
     let gives : StepGives (shown calls) c.args.self.now.world c.args.event c.step-done.result c.step-done.new.self = search rules in
     rw strangers
-    (turn_held calls c.args.self.now new (mixed_answer c.step-done.result) held c.is_run.ensures c.args.event
-    c.step-done.result c.step-done.ensures.named gives refl)
+    (turn_held calls c.args.self.now new c.step-done.result held c.is_run.ensures c.args.event
+    c.step-done.ensures.named gives refl)

@@ -1,5 +1,6 @@
 use Rattle.net_sim.proofs.Common.{rules, ◌≡◌, shown, Calls}
-use Rattle.net_sim.specs.Inside.Mixed.{mixed_runs_out, mixed_with}
+use Rattle.net_sim.specs.Inside.Mixed.{mixed_with}
+use Rattle.net_sim.specs.Inside.Parts.{runs_out}
 use Rattle.net_sim.specs.MixedWorlds.{MixedEventGives, MixedState}
 use Rattle.net_sim.proofs.Books.HeldMixed.{followed_mixed, mixed_ended, on_now}
 use Rattle.net_sim.proofs.Books.SomeWorld.{among_some, core_live}
@@ -15,7 +16,7 @@ invariant_of-self g c =
     let calls : Calls g.row.C.Denot = g.C.Carrier.calls in
     let old : MixedState g.row.C.Denot = mixed_with c.args.self.now c.args.strangers.now in
     let new : MixedState g.row.C.Denot = mixed_ended c.follow_mixed-done.new.carrier c.follow_mixed-done.new.hosts.seats c.follow_mixed-done.new.hosts.services c.follow_mixed-done.new.hosts.book c.args.strangers.now c.follow_mixed-done.result in
-    let stop : c.runs_out_mixed-self-inside.result ≡ mixed_runs_out c.follow_mixed-done.result = search rules in
+    let stop : c.runs_out-self-inside.result ≡ runs_out c.follow_mixed-done.result = search rules in
     let gives : MixedEventGives (shown calls) (on_now old) c.args.event c.follow_mixed-done.result new = search rules in
     rw stop (among_some calls.seen new (followed_mixed calls c.args.event old c.follow_mixed-done.new.carrier c.follow_mixed-done.new.hosts.seats c.follow_mixed-done.new.hosts.services c.follow_mixed-done.new.hosts.book c.follow_mixed-done.result c.requires c.is_named_mixed.ensures (search rules) gives c.log.ensures.run))
 
@@ -24,6 +25,6 @@ returns-clause-held g c =
     let calls : Calls g.row.C.Denot = g.C.Carrier.calls in
     let old : MixedState g.row.C.Denot = mixed_with c.args.self.now c.args.strangers.now in
     let new : MixedState g.row.C.Denot = mixed_ended c.follow_mixed-done.new.carrier c.follow_mixed-done.new.hosts.seats c.follow_mixed-done.new.hosts.services c.follow_mixed-done.new.hosts.book c.args.strangers.now c.follow_mixed-done.result in
-    let stop : c.runs_out_mixed-self-inside.result ≡ mixed_runs_out c.follow_mixed-done.result = search rules in
+    let stop : c.runs_out-self-inside.result ≡ runs_out c.follow_mixed-done.result = search rules in
     let gives : MixedEventGives (shown calls) (on_now old) c.args.event c.follow_mixed-done.result new = search rules in
     rw stop (followed_mixed calls c.args.event old c.follow_mixed-done.new.carrier c.follow_mixed-done.new.hosts.seats c.follow_mixed-done.new.hosts.services c.follow_mixed-done.new.hosts.book c.follow_mixed-done.result c.requires c.is_named_mixed.ensures (search rules) gives c.log.ensures.run)
