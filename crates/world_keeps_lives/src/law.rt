@@ -21,7 +21,9 @@ ghost use Rattle.world_keeps_lives.specs.Lives.{AreRefusing, EachOn, HasOpenEnd,
 ghost use Rattle.world_keeps_lives.specs.Drained.{AllSent, ClosedFirst, ClosesFirst, all_lives};
 ghost use Rattle.world_keeps_lives.specs.Firsts.{AreApart, FirstBook};
 ghost use Rattle.world_keeps_lives.specs.Worked.{worked_end, with_one};
-ghost use Rattle.world_keeps_lives.specs.WorkedFormed.{arrived_told, closed_moments, closing_moments, gave, sent_log, sent_told, stopped_moments, stray_arrived, stray_log, stray_sent, taken_moments, took};
+ghost use Rattle.world_keeps_lives.specs.WorkedFormed.{arrived_told, closed_moments, closing_moments, gave, sent_log};
+ghost use Rattle.world_keeps_lives.specs.WorkedFormed.{sent_told, stopped_moments, stray_arrived, stray_log, stray_sent};
+ghost use Rattle.world_keeps_lives.specs.WorkedFormed.{taken_moments, took};
 ghost use Rattle.world_keeps_lives.specs.WorkedFormed.{took_second, two_log, untaken_log};
 ghost use Rattle.net_sim.specs.Worked.{crossings, eight, eight_zeros, taker};
 ghost use Rattle.net_sim.specs.WorkedMoments.{sent_moments};
