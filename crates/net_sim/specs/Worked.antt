@@ -12,6 +12,7 @@ use Rattle.sockets.specs.Pairs.{opening_state}
 use Rattle.host_pairs.specs.declared.notice.Notice.TheVariants as notice
 use Rattle.sockets.specs.declared.request.Request.TheVariants as request
 use Rattle.sockets.specs.Worked.{first, second, third, on_link}
+use Rattle.promise.specs.Worked as promise
 use Rattle.promise.specs.declared.life.Life.{Life}
 use Rattle.promise.specs.declared.book.Told.{Told}
 use Rattle.net_sim.specs.Book.{Kept, opening_kept, all_crossed, book_told, asked}
@@ -31,7 +32,7 @@ abbrev pub eight_zeros : List Bool
 eight_zeros = replicate 8 false
 
 abbrev pub message : Host → Host → ℕ → HostMessage
-message from to link = record { flow = on_link from to link; text = eight }
+message from to link = promise.message from to link eight
 
 -- newest first: a control message of the first host to the second, and one back; both are taken and answered
 abbrev pub crossings : List Crossing
@@ -50,36 +51,16 @@ used =
     book_told first (notice.Returned 16 1 4) (book_told first (notice.Arrived 16 eight) (book_told second (notice.Sent 33 eight)
     (asked second (request.Send 33 eight) (asked first (request.Grant 16 2 100) opened_kept))))
 
+-- and the receiver is told that its end is over by CLS
+abbrev pub ended : Kept
+ended = book_told first (notice.Ended 16 second 33) used
+
 -- the lives that begin so
 abbrev pub receiver : Life
-receiver = record {
-  host = first;
-  socket = 16;
-  peer = second;
-  foreign = 33;
-  own_stamp = 0;
-  partner_stamp = 4;
-  bits = [];
-  messages = 0;
-  granted = record { messages = 0; bits = 0 };
-  returned = record { messages = 0; bits = 0 };
-  ended = false;
-}
+receiver = record promise.taker { partner_stamp = 4; bits = []; messages = 0; granted = record { messages = 0; bits = 0 } }
 
 abbrev pub sender : Life
-sender = record {
-  host = second;
-  socket = 33;
-  peer = first;
-  foreign = 16;
-  own_stamp = 2;
-  partner_stamp = 1;
-  bits = [];
-  messages = 0;
-  granted = record { messages = 0; bits = 0 };
-  returned = record { messages = 0; bits = 0 };
-  ended = false;
-}
+sender = record promise.giver { bits = []; messages = 0 }
 
 -- and as they are at last
 abbrev pub taker : Life

@@ -8,17 +8,11 @@ use Rattle.host_pairs.specs.declared.notice.Notice.{Notice}
 use Rattle.sockets.specs.Worked as sockets
 use Rattle.sockets.specs.Worked.{control, first, second, on_link}
 use Rattle.sockets.specs.declared.request.Request.TheVariants as request
+pub use Rattle.promise.specs.Worked.{rts, str}
 use Rattle.promise.specs.declared.book.Told.{Told}
 use Rattle.net_sim.specs.Story.{Moment, Crossed, Asked}
 use Rattle.net_sim.specs.Worked.{eight}
 use Rattle.net_sim.specs.WorkedResets.{rst, rrp}
-
--- the RTS of the first host's socket 16 for the second's socket 33, with link 2, and the STR that answers it
-abbrev pub rts : HostMessage
-rts = control first second (1 ∷ 0 ∷ 0 ∷ 0 ∷ 16 ∷ 0 ∷ 0 ∷ 0 ∷ 33 ∷ 2 ∷ [])
-
-abbrev pub str : HostMessage
-str = control second first (2 ∷ 0 ∷ 0 ∷ 0 ∷ 33 ∷ 0 ∷ 0 ∷ 0 ∷ 16 ∷ 8 ∷ [])
 
 -- an ALL for two messages and 100 bits, and a message with eight bits
 abbrev pub all_given : HostMessage

@@ -5,21 +5,16 @@ use Rattle.interface.specs.declared.crossing.Answer.TheVariants as answer
 use Rattle.interface.specs.declared.crossing.Crossing.{Crossing}
 use Rattle.interface.specs.declared.crossing.Crossing.TheVariants as crossing
 use Rattle.interface.specs.declared.message.HostMessage.{HostMessage}
-use Rattle.ncp_control.specs.Command.{spelling}
-use Rattle.ncp_control.specs.declared.command.Command.TheVariants as command
-use Rattle.host_pairs.specs.Control.{control_text}
-use Rattle.sockets.specs.Worked.{first, second, on_link}
+use Rattle.sockets.specs.Worked.{control, first, second, on_link}
+pub use Rattle.promise.specs.Worked.{rst}
 use Rattle.promise.specs.declared.book.Called.{Called}
 use Rattle.net_sim.specs.Worked.{message}
 
 abbrev pub call : Host → ℕ → Host → Called
 call h place peer = record { host = h; place = place; peer = peer }
 
-abbrev pub rst : Host → Host → HostMessage
-rst from to = record { flow = on_link from to 0; text = control_text (spelling command.Rst) }
-
 abbrev pub rrp : Host → Host → HostMessage
-rrp from to = record { flow = on_link from to 0; text = control_text (spelling command.Rrp) }
+rrp from to = control from to (13 ∷ [])
 
 -- the first host's user asks for a contact with the second, and the whole reset crosses
 abbrev pub contacts : List Called

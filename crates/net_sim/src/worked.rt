@@ -7,7 +7,7 @@ ghost use Rattle.net_sim.specs.Handed.{AreUnhanded};
 ghost use Rattle.promise.specs.Fates.{AreFated};
 ghost use Rattle.promise.specs.declared.life.Fate.TheVariants as fate;
 ghost use Rattle.promise.specs.Safe.{SafeBook};
-ghost use Rattle.net_sim.specs.Worked.{eight, eight_zeros, four, crossings, message, used, receiver, sender, taker, giver, elsewhere, asker, stranger, over};
+ghost use Rattle.net_sim.specs.Worked.{eight, eight_zeros, four, crossings, message, used, ended, receiver, sender, taker, giver, elsewhere, asker, stranger, over};
 ghost use Rattle.net_sim.specs.Worked.{stamp_of};
 ghost use Rattle.sockets.specs.Worked.{first, second};
 ghost use Rattle.host_pairs.specs.declared.notice.Notice.TheVariants as notice;
@@ -55,7 +55,7 @@ pub fn worked_fates()
     ensures another_host { (asked second (request.Close 16) used).fates ≡ fate.Open ∷ fate.Open ∷ [] }
 
     // over by CLS it has ended where nobody at its host had closed it, and else it is closed
-    ensures ended { (book_told first (notice.Ended 16 second 33) used).fates ≡ fate.Open ∷ fate.Ended ∷ [] }
+    ensures ended { ended.fates ≡ fate.Open ∷ fate.Ended ∷ [] }
     ensures closed { (book_told first (notice.Ended 16 second 33) (asked first (request.Close 16) used)).fates ≡ fate.Open ∷ fate.Closed ∷ [] }
     ensures another_end { (book_told first (notice.Ended 16 second 35) used).fates ≡ fate.Open ∷ fate.Open ∷ [] }
 
@@ -69,9 +69,9 @@ pub fn worked_fates()
     ensures up { (crossed (crossing.Up first) used).fates ≡ fate.Open ∷ fate.Open ∷ [] }
 
     // nothing changes it once it is over
-    ensures late { (asked first (request.Close 16) (book_told first (notice.Ended 16 second 33) used)).fates ≡ fate.Open ∷ fate.Ended ∷ [] }
+    ensures late { (asked first (request.Close 16) ended).fates ≡ fate.Open ∷ fate.Ended ∷ [] }
     ensures late_stop { (crossed (crossing.Down first) (book_told first (notice.PairReset second) used)).fates ≡ fate.Open ∷ fate.Reset ∷ [] }
-    ensures anew { (asked first (request.Close 16) (book_told first (notice.Opened 16 second 33 7 8) (book_told first (notice.Ended 16 second 33) used))).fates ≡ fate.Open ∷ fate.Ended ∷ fate.Closing ∷ [] }
+    ensures anew { (asked first (request.Close 16) (book_told first (notice.Opened 16 second 33 7 8) ended)).fates ≡ fate.Open ∷ fate.Ended ∷ fate.Closing ∷ [] }
 
     // there is one for each life, and it says whether the life is over
     ensures fated { AreFated (giver ∷ over taker ∷ []) (fate.Closing ∷ fate.Ended ∷ []) }

@@ -4,9 +4,11 @@
 //! Read in this order. No host program, packet, route or buffer occurs in any of it, and nothing else has to be read.
 //! 1. What crosses between hosts and the network: `specs/Mailboxes.antt` of `interface`, and `specs/Messages.antt`
 //!    there, which says what is safe of messages.
-//! 2. What is promised, in five clauses of `headline::book_of`: `specs/Promised.antt`, a record of five parts;
+//! 2. What is promised, in eight clauses of `headline::book_of`: `specs/Promised.antt`, a record of five parts;
 //!    `specs/Fates.antt`, what a life has that its partner's CLS ended, by the lives' [`Fate`]s; `specs/Arrived.antt`,
-//!    what an open life has and RFNM of data means; and `specs/Over.antt`, by what a life is over.
+//!    what an open life has and RFNM of data means; `specs/Ends.antt`, by what a life is over and what goes out after a
+//!    contact; and two of `world_keeps_streams`: `specs/Within.antt`, that a life counts nothing that crossed after it
+//!    was over, and `specs/Sent.antt`, which message of its partner each is that it counts.
 //! 3. What is written down of a world: `specs/Book.antt`, with [`Life`], [`Told`] and [`Called`].
 //! 4. The parts of the first: a safe book (`specs/Safe.antt`), the messages that a life is made of (`specs/Formed.antt`)
 //!    and that a notice reports (`specs/Notices.antt`), and the sockets that an initial connection pairs
