@@ -7,7 +7,7 @@ ghost use Rattle.net_sim.specs.Inside.Calm.{AllOfferNothing, CalmTurn, OffersNot
 ghost use Rattle.net_sim.specs.Rest.{IsAtRest};
 ghost use Rattle.net_sim.specs.Silent.{AllSilent, IsSilent, IsSilentAt};
 ghost use Rattle.net_sim.specs.World as world;
-ghost use Rattle.net_sim.specs.World.{CalmGives, Repeats, Offer, Take};
+ghost use Rattle.net_sim.specs.World.{CalmGives, Repeats};
 
 use crate::seat::Seat;
 use crate::world_core::{WorldCore, stops};
@@ -177,37 +177,20 @@ impl<C: Carrier> WorldCore<C> {
     fn take_turn(&mut self, at: usize, host: HostAddr) -> Result<(), WorldFault>
         ensures { CalmTurn (shown C.calls) host self.old result self.new }
     {
-        let answer = self.take_all(at, host);
+        let answer = self.repeat(at, &Event::Take(host), TAKINGS);
         if stops(&answer) {
             return answer;
         }
-        self.offer_all(at, host)
+        self.repeat(at, &Event::Offer(host), OFFERS)
     }
 
-    /// Lets a host take until nothing crosses by it, or 16 times. Its seat is likely here.
-    fn take_all(&mut self, at: usize, host: HostAddr) -> Result<(), WorldFault>
-        ensures { Repeats (shown C.calls) (Take host) 16 self.old result self.new }
+    /// Lets an event happen until nothing crosses by it, or this many times. Its host's seat is likely here.
+    fn repeat(&mut self, at: usize, event: &Event, times: u8) -> Result<(), WorldFault>
+        ensures { Repeats (shown C.calls) event.now times self.old result self.new }
     {
-        for _ in 0..TAKINGS {
+        for _ in 0..times {
             let before = self.crossed();
-            let answer = self.take_near(at, host);
-            if stops(&answer) {
-                return answer;
-            }
-            if self.crossed() <= before {
-                return Ok(());
-            }
-        }
-        Ok(())
-    }
-
-    /// Lets a host offer until nothing crosses by it, or 32 times. Its seat is likely here.
-    fn offer_all(&mut self, at: usize, host: HostAddr) -> Result<(), WorldFault>
-        ensures { Repeats (shown C.calls) (Offer host) 32 self.old result self.new }
-    {
-        for _ in 0..OFFERS {
-            let before = self.crossed();
-            let answer = self.offer_near(at, host);
+            let answer = self.step_near(Some(at), event);
             if stops(&answer) {
                 return answer;
             }

@@ -11,7 +11,8 @@ ghost use Rattle.net_sim.specs.Inside.Parts.{IsOnce, hosts_of, world_of};
 ghost use Rattle.net_sim.specs.MixedWorlds.{MixedStepGives};
 ghost use Rattle.net_sim.specs.Whole.{IsNamed};
 ghost use Rattle.net_sim.specs.World as world;
-ghost use Rattle.net_sim.specs.World.{StepGives, Offer, Take};
+ghost use Rattle.net_sim.specs.World.{EventGives, StepGives};
+ghost use Rattle.net_sim.specs.Inside.Parts.{AreLive, world_after};
 
 use crate::book::Book;
 use crate::events::{follow, is_named, offer, take};
@@ -117,44 +118,28 @@ impl<C: Carrier> WorldCore<C> {
         ensures gives { StepGives (shown C.calls) self.old event.now result self.new }
         ensures named { IsNamed event.now }
     {
+        self.step_near(None, event)
+    }
+
+    /// Lets one event happen, or refuses it. The seat of a host that takes or offers is looked for at a likely place
+    /// first, if one is given.
+    pub(crate) fn step_near(
+        &mut self,
+        likely: Option<usize>,
+        event: &Event,
+    ) -> Result<(), WorldFault>
+        ensures gives { StepGives (shown C.calls) self.old event.now result self.new }
+        ensures named { IsNamed event.now }
+    {
         is_named(event);
         if self.stopped {
             return Err(WorldFault::Carrier(CarrierFault::Stopped));
         }
-        let done = follow(&mut self.carrier, &mut self.hosts, event);
+        let done = follow_near(&mut self.carrier, &mut self.hosts, likely, event);
         // for the proof only: the log is a run of the mailboxes, which is a part of what a world keeps
         let _ = self.carrier.log();
         self.stopped = runs_out(&done);
         done
-    }
-
-    /// Lets a host take what came for it, as [`WorldCore::step`] does. Its seat is looked for at a likely place first.
-    pub(crate) fn take_near(&mut self, likely: usize, host: HostAddr) -> Result<(), WorldFault>
-        ensures { StepGives (shown C.calls) self.old (Take host) result self.new }
-    {
-        if self.stopped {
-            return Err(WorldFault::Carrier(CarrierFault::Stopped));
-        }
-        let taken = take(&mut self.carrier, &mut self.hosts, likely, host);
-        // for the proof only, as in `step`
-        let _ = self.carrier.log();
-        self.stopped = runs_out(&taken);
-        taken
-    }
-
-    /// Offers a host's next message to the network, as [`WorldCore::step`] does. Its seat is looked for at a likely
-    /// place first.
-    pub(crate) fn offer_near(&mut self, likely: usize, host: HostAddr) -> Result<(), WorldFault>
-        ensures { StepGives (shown C.calls) self.old (Offer host) result self.new }
-    {
-        if self.stopped {
-            return Err(WorldFault::Carrier(CarrierFault::Stopped));
-        }
-        let sent = offer(&mut self.carrier, &mut self.hosts, likely, host);
-        // for the proof only, as in `step`
-        let _ = self.carrier.log();
-        self.stopped = runs_out(&sent);
-        sent
     }
 
     /// Lets one event happen where these hosts are strangers, or refuses it.
@@ -176,6 +161,23 @@ impl<C: Carrier> WorldCore<C> {
         let _ = self.carrier.log();
         self.stopped = runs_out(&done);
         done
+    }
+}
+
+/// Lets any of the eight events happen, as [`follow`] does, at a likely place if one is given.
+fn follow_near<C: Carrier>(
+    carrier: &mut C,
+    hosts: &mut Hosts,
+    likely: Option<usize>,
+    event: &Event,
+) -> Result<(), WorldFault>
+    requires live { AreLive hosts.old.seats }
+    ensures { EventGives (shown C.calls) (world_of carrier.old hosts.old) event.now result (world_after carrier.new hosts.new result) }
+{
+    match (likely, event) {
+        (Some(at), Event::Offer(host)) => offer(carrier, hosts, at, *host),
+        (Some(at), Event::Take(host)) => take(carrier, hosts, at, *host),
+        _ => follow(carrier, hosts, event),
     }
 }
 

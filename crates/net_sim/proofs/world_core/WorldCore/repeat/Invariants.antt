@@ -1,9 +1,9 @@
-use Rattle.net_sim.proofs.Common.{shown, Offer, Calls}
+use Rattle.net_sim.proofs.Common.{shown, Calls}
 use Rattle.net_sim.proofs.Hosts.Calming.{Repeated}
-use Rattle.net_sim.proofs.world_core.WorldCore.offer_all.Given as goal
+use Rattle.net_sim.proofs.world_core.WorldCore.repeat.Given as goal
 
 -- something has crossed each time
 abbrev pub invariant-loop : goal.invariant-loop
 invariant-loop g l =
     let calls : Calls g.row.C.Denot = shown g.C.Carrier.calls in
-    Repeated calls (Offer l.host) 32 l.counter l.fn.self l.self
+    Repeated calls l.event l.times l.counter l.fn.self l.self
