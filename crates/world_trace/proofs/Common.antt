@@ -25,7 +25,6 @@ pub use Rattle.net_sim.specs.World.{world_heard, world_moved}
 pub use Rattle.net_sim.specs.declared.event.Event.{Event}
 pub use Rattle.net_sim.specs.declared.event.Event.TheVariants.{Ask, Offer, Quiet, Server, Take, Typed, User}
 pub use Rattle.net_sim.specs.declared.event.WorldFault.{WorldFault}
-pub use Rattle.net_sim.specs.declared.event.WorldFault.TheVariants.{Carrier}
 pub use Rattle.net_sim.specs.declared.seat.Seat.{Seat}
 pub use Rattle.net_sim.specs.declared.seat.ServiceSeat.{ServiceSeat}
 pub use Rattle.replay.proofs.lemmas.{appends_more, appends_none, crossings_shown, last_shown, last_written, on_ok}
