@@ -1,4 +1,5 @@
 mod Counting
+pub mod Handing
 pub mod InTurn
 pub mod Lines
 pub mod Passing

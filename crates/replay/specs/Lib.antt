@@ -2,6 +2,7 @@ pub mod Failing
 pub mod InTurn
 pub mod Output
 pub mod Replay
+pub mod Seen
 pub mod Settled
 pub mod Steps
 pub mod Worked

@@ -1,4 +1,4 @@
--- Words for worked examples: a carrier that counts its calls.
+-- Words for worked examples: a carrier that counts its calls, and rounds that count.
 use Rattle.std.specs.Prelude.{◌≡◌, ℕ, suc, false, [], None, Ok}
 use Rattle.interface.specs.Calls.{Calls}
 
@@ -11,3 +11,13 @@ counting = record {
   steps = λ old event r new. (r ≡ Ok tt) × (new ≡ suc old);
   rounds = λ old r new. (r ≡ Ok tt) × (new ≡ suc old);
 }
+
+-- rounds that count, and whether they are seen
+abbrev pub Counts : ℕ → ℕ → ℕ → Type 0
+Counts passed old new = (old ≡ passed) × (new ≡ suc passed)
+
+abbrev pub Never : ℕ → Type 0
+Never n = ⊥
+
+abbrev pub At : ℕ → ℕ → Type 0
+At place n = n ≡ place

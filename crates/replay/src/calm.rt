@@ -1,16 +1,36 @@
 //! A calm: rounds in which nothing is done to the network, and its hosts take what comes.
 
-ghost use Rattle.std.specs.Prelude.{◌≡◌, Err, IfErr, false};
-ghost use Rattle.replay.specs.Failing.{TellsCannotWrite};
+ghost use Rattle.std.specs.Prelude.{◌≡◌, ◌≤◌, Err, IfErr, OnOk, false, true};
+ghost use Rattle.std.specs.Io.KnownBytes.{Keeps};
+ghost use Rattle.replay.specs.Failing.{TellsCannotWrite, TellsFailure};
 ghost use Rattle.replay.specs.Replay.{Halts, Round, Takings, calmly};
 ghost use Rattle.replay.specs.Steps.{EventEnds, Grew};
 ghost use Rattle.script.specs.declared.event.RawEvent.TheVariants as script_event;
 
 use crate::events::ReplayFault;
 use crate::line::Line;
-use crate::output::Output;
+use crate::output::{Output, WriteFailed};
 use crate::print::{Detail, print_outcome};
 use interface::{Carrier, CarrierFault, HostAddr, TAKINGS};
+
+/// How many rounds of a calm pass before each further one is seen at once.
+pub const UNSEEN_ROUNDS: u32 = 64;
+
+/// Hands on all that was printed so far, after a round of a calm before which this many have passed. It does so only
+/// where the calm is long, so that it is seen though it may never end.
+///
+/// Errors: `WriteFailed`.
+pub fn hand_on_round<W: Output>(passed: u32, writer: &mut W) -> Result<(), WriteFailed>
+    requires { W.failed writer.old ≡ false }
+    ensures seen { 64 ≤ passed → OnOk result (W.flushed writer.new ≡ true) }
+    ensures kept { Keeps (W.contents writer.old) (W.contents writer.new) }
+    ensures failed { TellsFailure result (W.failed writer.new) }
+{
+    if passed >= UNSEEN_ROUNDS {
+        writer.flush()?;
+    }
+    Ok(())
+}
 
 /// Lets this many rounds pass, and prints after each what crossed in it. Refusals are not printed. Where the network rests, the
 /// rounds that are left would change nothing and print nothing, and are not made.

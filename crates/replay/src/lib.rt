@@ -21,6 +21,7 @@ mod output;
 mod print;
 pub mod worked;
 
+pub use calm::{UNSEEN_ROUNDS, hand_on_round};
 pub use events::{ReplayFault, replay_events};
 pub use line::Line;
 pub use output::{Output, Printer, WriteFailed};

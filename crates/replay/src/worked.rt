@@ -1,8 +1,9 @@
-//! Worked examples of a replay that ends at a failed write. The functions here do nothing: each clause is a row, over
-//! a carrier that counts its calls.
+//! Worked examples of a replay that ends at a failed write, and of what a long calm hands on. The functions here do
+//! nothing: each clause is a row, over a carrier that counts its calls, or over rounds that count.
 
 ghost use Rattle.std.specs.Prelude.{◌≡◌, List, [], ◌∷◌};
 ghost use Rattle.interface.specs.declared.event.NetEvent.{NetEvent};
+ghost use Rattle.replay.specs.Laws.{WorkedSeen};
 ghost use Rattle.replay.specs.Output.{Shown};
 ghost use Rattle.replay.specs.Replay.{MayDo};
 ghost use Rattle.replay.specs.Worked.{counting};
@@ -23,4 +24,9 @@ pub fn worked_failures()
 
     // nothing is claimed of what the event's lines left
     ensures unknown { (e : NetEvent) (s : Shown) → ¬ (MayDo counting 3 (script_event.Net e) 4 (s ∷ [])) }
+{}
+
+/// When what the rounds of a long calm print has to be handed on.
+pub fn worked_seen()
+    ensures { WorkedSeen }
 {}

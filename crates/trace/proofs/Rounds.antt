@@ -1,4 +1,5 @@
 -- The rounds of calms.
+pub mod Handing
 pub mod Listed
 pub mod Numbered
 pub mod Once

@@ -5,6 +5,7 @@ pub mod Joined
 pub mod Kept
 pub mod Named
 pub mod Parts
+pub mod Seen
 pub mod Steps
 pub mod Texts
 pub mod Traces

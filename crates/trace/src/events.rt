@@ -1,11 +1,12 @@
 //! Tracing a script's events over a carrier.
 
 ghost use Rattle.std.specs.Bool.{OnFalse, OnTrue};
-ghost use Rattle.std.specs.Prelude.{◌≡◌, ◌⊎◌, Err, IfErr, IfOk, IfSome, OnOk, List, ℕ, false, is_some, true};
+ghost use Rattle.std.specs.Prelude.{◌≡◌, ◌⊎◌, ◌<◌, ◌≤◌, ◌+◌, Err, IfErr, IfOk, IfSome, OnOk, List, ℕ, false, is_some, true};
 ghost use Rattle.replay.specs.Failing.{TellsCannotWrite};
 ghost use Rattle.replay.specs.Replay.{GoesOn, Halts, IsCopied, IsOneCall};
 ghost use Rattle.script.specs.declared.event.RawEvent.TheVariants as script_event;
 ghost use Rattle.trace.specs.Elements.{begins_in};
+ghost use Rattle.trace.specs.Seen.{EventHandsOn, EventsAreSeen, TraceIsSeen};
 ghost use Rattle.trace.specs.Steps.{Called, ElementEnds, EventEnds, IsAsBegun, RoundEnds};
 ghost use Rattle.trace.specs.Changes.{changed_parts};
 ghost use Rattle.trace.specs.Texts.{object};
@@ -18,7 +19,7 @@ use crate::line::print_line;
 use crate::members::Members;
 use crate::opening::print_opening;
 use interface::{Carrier, CarrierFault, Crossing};
-use replay::{Output, ReplayFault};
+use replay::{Output, ReplayFault, UNSEEN_ROUNDS, hand_on_round};
 use script::RawEvent;
 use std::alloc::{AllocError, Global};
 use topology::Topology;
@@ -49,6 +50,9 @@ pub fn trace_events<C: Inspect, W: Output>(
     // first the network, and then each elementary event in turn went as the carrier says that its calls may go, and its
     // line was written
     ensures traced { OnOk result (WritesTrace (AfterOpening C.inside network.now carrier.old (Traces C.calls C.inside carrier.old events.now carrier.new)) (W.contents writer.old) (W.contents writer.new)) }
+
+    // each round of a calm after the 64th is seen when it has passed: all that was written by then is handed on
+    ensures seen { OnOk result (TraceIsSeen C.calls C.inside W.contents W.flushed network.now events.now (carrier.old, writer.old) (carrier.new, writer.new)) }
 
     // memory ran out at one of them: the first line and those before it were written, and nothing else
     ensures memory { result ≡ Err ReplayFault.OutOfMemory → WritesTrace (AfterOpening C.inside network.now carrier.old (TraceEnds C.calls C.inside (StopsElement C.calls) carrier.old events.now carrier.new)) (W.contents writer.old) (W.contents writer.new) }
@@ -81,6 +85,7 @@ fn trace_all<C: Inspect, W: Output>(
 ) -> Result<(), ReplayFault>
     requires whole { W.failed writer.old ≡ false }
     ensures traced { OnOk result (WritesTrace (Traces C.calls C.inside carrier.old events.now carrier.new) (W.contents writer.old) (W.contents writer.new)) }
+    ensures seen { OnOk result (EventsAreSeen C.calls C.inside W.contents W.flushed events.now (carrier.old, writer.old) (carrier.new, writer.new)) }
     ensures memory { result ≡ Err ReplayFault.OutOfMemory → WritesTrace (TraceEnds C.calls C.inside (StopsElement C.calls) carrier.old events.now carrier.new) (W.contents writer.old) (W.contents writer.new) }
     ensures failed { TellsCannotWrite result (W.failed writer.new) }
     ensures cannot_write { result ≡ Err ReplayFault.CannotWrite → (others : List (List ℕ)) × TraceEnds C.calls C.inside (MayTell C.calls) carrier.old events.now carrier.new others }
@@ -109,6 +114,7 @@ fn trace_event<C: Inspect, W: Output>(
     requires whole { W.failed writer.old ≡ false }
     requires known { IfSome known.old (λ t. t.parts ≡ C.inside.members carrier.old) }
     ensures ends { EventEnds C.calls C.inside carrier.old (spot, event.now) result carrier.new (W.contents writer.old) (W.contents writer.new) }
+    ensures seen { OnOk result (EventHandsOn C.calls C.inside W.contents W.flushed (carrier.old, writer.old) (spot, event.now) (carrier.new, writer.new)) }
     ensures known { OnOk result (IfSome known.new (λ t. t.parts ≡ C.inside.members carrier.new)) }
     ensures failed { TellsCannotWrite result (W.failed writer.new) }
 {
@@ -121,7 +127,7 @@ fn trace_event<C: Inspect, W: Output>(
 }
 
 /// Traces a calm, round by round. A round after which all parts and the log are as they were before it is the last
-/// one: every round after it would be the same.
+/// one: every round after it would be the same. What a long calm writes is handed on as its rounds pass.
 fn trace_calm<C: Inspect, W: Output>(
     alloc: Global,
     carrier: &mut C,
@@ -133,19 +139,69 @@ fn trace_calm<C: Inspect, W: Output>(
     requires whole { W.failed writer.old ≡ false }
     requires known { IfSome known.old (λ t. t.parts ≡ C.inside.members carrier.old) }
     ensures ends { EventEnds C.calls C.inside carrier.old (spot, script_event.Calm rounds) result carrier.new (W.contents writer.old) (W.contents writer.new) }
+    ensures seen { OnOk result (EventHandsOn C.calls C.inside W.contents W.flushed (carrier.old, writer.old) (spot, script_event.Calm rounds) (carrier.new, writer.new)) }
     ensures known { OnOk result (IfSome known.new (λ t. t.parts ≡ C.inside.members carrier.new)) }
     ensures failed { TellsCannotWrite result (W.failed writer.new) }
 {
     let mut place = carrier.begin_calm(rounds);
+    let mut passed = 0;
     'rounds: while let Some((element, _)) = carrier.next_in_calm(place) {
         let begun = begin_round(alloc, carrier, known)?;
-        place = trace_round(alloc, carrier, spot, element.round, place, known, writer)?;
+        place = pass_round(
+            alloc,
+            carrier,
+            spot,
+            element.round,
+            place,
+            passed,
+            known,
+            writer,
+        )?;
         drop(element);
         if is_still(carrier, known, &begun) {
             return Ok(());
         }
+        passed = count_round(passed);
     }
     Ok(())
+}
+
+/// Returns how many rounds have passed after one more. From 64 on they are no longer counted.
+fn count_round(passed: u32) -> u32
+    ensures { result < 64 → result ≡ passed + 1 }
+{
+    if passed < UNSEEN_ROUNDS {
+        passed + 1
+    } else {
+        passed
+    }
+}
+
+/// Traces a round of a calm before which this many have passed, and of a long calm hands on all that was written so
+/// far. Returns the place after it.
+fn pass_round<C: Inspect, W: Output>(
+    alloc: Global,
+    carrier: &mut C,
+    spot: Spot,
+    round: u32,
+    begin: C::Place,
+    passed: u32,
+    known: &mut Option<Texts>,
+    writer: &mut W,
+) -> Result<C::Place, ReplayFault>
+    requires begins { begins_in round (C.left carrier.old begin) ≡ true }
+    requires whole { W.failed writer.old ≡ false }
+    requires known { IfSome known.old (λ t. t.parts ≡ C.inside.members carrier.old) }
+    requires some { is_some known.old ≡ true }
+    ensures ends { RoundEnds C.calls C.inside C.left spot carrier.old begin result carrier.new (W.contents writer.old) (W.contents writer.new) }
+    ensures seen { 64 ≤ passed → OnOk result (W.flushed writer.new ≡ true) }
+    ensures known { OnOk result (IfSome known.new (λ t. t.parts ≡ C.inside.members carrier.new)) }
+    ensures some { OnOk result (is_some known.new ≡ true) }
+    ensures failed { TellsCannotWrite result (W.failed writer.new) }
+{
+    let place = trace_round(alloc, carrier, spot, round, begin, known, writer)?;
+    hand_on_round(passed, writer)?;
+    Ok(place)
 }
 
 /// How things were where a round of a calm began.

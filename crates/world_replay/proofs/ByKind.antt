@@ -4,15 +4,16 @@ use Rattle.world_replay.proofs.Common.{Option, None, Some, Result, Ok, Err, refl
 use Rattle.world_replay.proofs.Common.{append-nil, Appends, Appends-nil, Appends-trans, Detail, Gains, Writes, output}
 use Rattle.world_replay.proofs.Common.{EventEnds, WorldFault, gained, HappensBy, StopsBy, shown_refusal, stops}
 use Rattle.world_replay.proofs.Common.{IsReplayable}
-use Rattle.std.proofs.Common.{OnOk, add-one}
-use Rattle.replay.proofs.lemmas.{one_written}
+use Rattle.std.proofs.Common.{OnOk}
+use Rattle.replay.proofs.lemmas.{one_written, seen_written}
 use Rattle.replay.specs.declared.events.ReplayFault.{ReplayFault}
 use Rattle.world_replay.specs.Steps.{OneEnds}
 use Rattle.std.proofs.lemmas.List.{append_assoc}
 use Rattle.replay.specs.declared.events.ReplayFault.TheVariants as fault
 use Rattle.world_replay.specs.Kinds.{BeginsAs, Kind}
-use Rattle.world_replay.specs.Seen.{AreSeenBy, CalmHandsOn, IsSeenBy, RoundPrints, RoundsPass}
-use Rattle.world_replay.specs.Output.{Shown}
+use Rattle.replay.specs.Seen.{IsSeen}
+use Rattle.world_replay.specs.Seen.{AreSeenBy, CalmHandsOn}
+use Rattle.world_replay.specs.Output.{Shown, shown_text}
 use Rattle.world_replay.proofs.News.{output-append}
 use Rattle.world_replay.proofs.Grown.{gains_none}
 use Rattle.world_replay.proofs.Replays.{News, news_is}
@@ -29,19 +30,13 @@ pub one_seen : {S E W : Type 0} (kind : Kind S E) (detail : Detail) (contents : 
     → Writes detail (HappensBy kind mid.0 e new.0) (contents mid.1) (contents new.1)
     → CalmHandsOn kind detail contents flushed (kind.rounds e) mid new
     → AreSeenBy kind detail contents flushed old (events ++ e ∷ []) new
-one_seen kind detail contents flushed old mid new events e before goes handed =
-    let both = one_written (IsSeenBy kind detail contents flushed) (λ s. []) old mid new events e None None None
+one_seen {S} {E} {W} kind detail contents flushed old mid new events e before goes handed =
+    let Handed : S × W → E → S × W → Type 0 = λ old e new. CalmHandsOn kind detail contents flushed (kind.rounds e) old new in
+    let seen = seen_written (HappensBy kind) (shown_text detail) contents Handed mid e new goes handed in
+    let both = one_written (IsSeen (HappensBy kind) (shown_text detail) contents Handed) (λ s. []) old mid new events e None None None
     (record { shown = before.0; is_shown = before.1; written = tt })
-    (record { shown = goes.shown; is_shown = record { happens = goes.is_shown; printed = goes.written; handed = handed }; written = tt }) in
+    (record { shown = seen.shown; is_shown = seen.is_shown; written = tt }) in
     (both.shown, both.is_shown)
-
--- one round more, which is seen if it has to be
-pub one_round_seen : {S E W : Type 0} (kind : Kind S E) (detail : Detail) (contents : W → Option (List ℕ)) (flushed : W → Bool)
-    (passed : ℕ) (old mid new : S × W) → RoundsPass (RoundPrints kind detail contents) (λ at. flushed at.1 ≡ true) passed old mid
-    → RoundPrints kind detail contents passed mid new → (64 ≤ passed → flushed new.1 ≡ true)
-    → RoundsPass (RoundPrints kind detail contents) (λ at. flushed at.1 ≡ true) (passed + 1) old new
-one_round_seen kind detail contents flushed passed old mid new before goes seen =
-    subst (λ n. RoundsPass (RoundPrints kind detail contents) (λ at. flushed at.1 ≡ true) n old new) (sym (add-one passed)) (mid, before, goes, seen)
 
 -- this many rounds have passed, and what they showed is written
 abbrev pub HaveRounds : {S E : Type 0} → Kind S E → Detail → ℕ → S → S → Option (List ℕ) → Option (List ℕ) → Type 0

@@ -12,7 +12,6 @@ pub mod ByKind
 pub mod Mixed
 mod MixedOnce
 pub mod News
-mod Passing
 pub mod Replayable
 pub mod Replays
 pub mod Reports

@@ -25,8 +25,7 @@ use Rattle.world_replay.specs.Output.{told_in_turn}
 use Rattle.world_replay.specs.Replay.{EndsIn, Happens, HappensInCalm, IsOfCalm, Replays, StopsIn, quiet_rounds}
 use Rattle.world_replay.specs.Replay.{rounds_of}
 use Rattle.world_replay.specs.Rounds.{RoundOf}
-use Rattle.world_replay.specs.Seen.{HandsOn, RoundsPass}
-use Rattle.world_replay.specs.Worked.{At, Counts, Never, came, said_at, told_at, went}
+use Rattle.world_replay.specs.Worked.{came, said_at, told_at, went}
 
 -- A carrier whose calls leave no choice leaves none to the replay of a world over it: events have one outcome and show
 -- one list of lines. What is shown where memory runs out is a prefix of that list.
@@ -149,20 +148,3 @@ pub record WorkedEnds {C : Type 0} (calls : Calls C) : Type 0 where
   pub memory :
       (old new : WorldState C) (e : WorldEvent) (lines : List Shown) (h : StopsIn (shown calls) old e new lines) →
       stops h.outcome ≡ true
-
--- When what the rounds of a calm print has to be handed on. The rounds here count, and are seen at some numbers.
-pub record WorkedSeen : Type 0 where
-  -- of 64 rounds none has to be seen, and of 65 the last one has
-  pub unseen : RoundsPass Counts Never 64 0 64
-  pub seen : ¬ (RoundsPass Counts Never 65 0 65)
-  -- so it is of a calm that has as many rounds
-  pub short : HandsOn Counts Never Never (Some 64) 0 64
-  pub long : ¬ (HandsOn Counts Never Never (Some 65) 0 65)
-  -- each of them: neither only the last round nor only the 65th
-  pub last_alone : ¬ (HandsOn Counts (At 100) Never (Some 100) 0 100)
-  pub first_alone : ¬ (HandsOn Counts (At 65) Never (Some 100) 0 100)
-  -- it ends before only if it rests, and not by itself
-  pub rests : HandsOn Counts Never (At 3) (Some 100) 0 3
-  pub broken_off : ¬ (HandsOn Counts Never Never (Some 100) 0 3)
-  -- what is no calm has no rounds
-  pub other : HandsOn Counts Never Never None 0 3

@@ -80,14 +80,3 @@ Ticks old e new shown = (new ≡ tally (one_more old.carrier)) × (shown ≡ e �
 -- and one that fails changes nothing and shows nothing
 abbrev pub Fails : Happening (WorldState ℕ) Event Event
 Fails old e new shown = (new ≡ old) × (shown ≡ [])
-
--- ---- rounds that count, and whether they are seen
-
-abbrev pub Counts : ℕ → ℕ → ℕ → Type 0
-Counts passed old new = (old ≡ passed) × (new ≡ suc passed)
-
-abbrev pub Never : ℕ → Type 0
-Never n = ⊥
-
-abbrev pub At : ℕ → ℕ → Type 0
-At place n = n ≡ place

@@ -18,11 +18,8 @@ use crate::replayed::Replayed;
 use crate::turning::Turning;
 use interface::Carrier;
 use net_sim::{Event, MixedWorld, World};
-use replay::{Detail, Line, Output, ReplayFault};
+use replay::{Detail, Line, Output, ReplayFault, hand_on_round};
 use world_script::{MixedWorldEvent, WorldEvent};
-
-/// How many rounds of a calm pass before each further one is seen at once.
-pub const UNSEEN_ROUNDS: u32 = 64;
 
 /// Lets each event happen in order, and prints what it shows: each crossing, each notice after the crossings that
 /// were before it, each report after its notice, and then the refusal, if there is one. Of a message it prints as much
@@ -288,10 +285,7 @@ fn replay_round<R: Replayed, W: Output>(
     ensures failed { TellsCannotWrite result (W.failed writer.new) }
 {
     replay_one(world, R::round(), line, detail, writer)?;
-    if passed >= UNSEEN_ROUNDS {
-        writer.flush()?;
-    }
-    Ok(())
+    Ok(hand_on_round(passed, writer)?)
 }
 
 /// Returns whether more rounds of a calm are known to change nothing: nothing has crossed since the book had this many

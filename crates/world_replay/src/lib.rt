@@ -29,9 +29,8 @@ pub mod worked_mixed;
 pub mod worked_rounds;
 
 pub use events::{
-    UNSEEN_ROUNDS, has_calmed, replay_events, replay_in_calm, replay_mixed_events,
-    replay_mixed_in_calm,
+    has_calmed, replay_events, replay_in_calm, replay_mixed_events, replay_mixed_in_calm,
 };
 pub use lines::LifeLine;
 pub use print::print_lives;
-pub use replay::{Detail, Output, ReplayFault, WriteFailed};
+pub use replay::{Detail, Output, ReplayFault, UNSEEN_ROUNDS, WriteFailed};

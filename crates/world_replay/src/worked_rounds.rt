@@ -5,7 +5,6 @@ ghost use Rattle.std.specs.Prelude.{◌≡◌, List, [], ◌∷◌};
 ghost use Rattle.net_sim.specs.declared.event.Event.{Event};
 ghost use Rattle.net_sim.specs.declared.event.Event.TheVariants.{Offer, Quiet, Take};
 ghost use Rattle.sockets.specs.Worked.{first};
-ghost use Rattle.world_replay.specs.Laws.{WorkedSeen};
 ghost use Rattle.world_replay.specs.Output.{Shown};
 ghost use Rattle.world_replay.specs.Replay.{HappensInCalm};
 ghost use Rattle.world_replay.specs.Rounds.{Again, EndsRepeated, EndsRound, Repeated, RoundOf, turns_in};
@@ -62,9 +61,4 @@ pub fn worked_ends()
 
     // and one of its events fails
     ensures whole { ¬ (EndsRound Ticks Fails (tally 2) (tally 2) (Quiet ∷ Take first ∷ Offer first ∷ [])) }
-{}
-
-/// When what the rounds of a long calm print has to be handed on.
-pub fn worked_seen()
-    ensures { WorkedSeen }
 {}

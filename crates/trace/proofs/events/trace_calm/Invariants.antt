@@ -1,20 +1,18 @@
 use Rattle.std.proofs.Common.{◌≡◌, IfSome, false, length}
 use Rattle.interface.specs.Calls.{Calls}
 use Rattle.trace.specs.Elements.{by_round}
-use Rattle.trace.specs.Traces.{Inside, TellsMoving}
-use Rattle.trace.proofs.Telling.{SoFar}
+use Rattle.trace.specs.Traces.{Inside}
+use Rattle.trace.proofs.Rounds.Handing.{Passing}
 use Rattle.trace.proofs.events.trace_calm.Given as goal
 
--- the rounds so far happened, none of them was still, and their lines are written; what is left is what the carrier
--- says; no write has
--- failed; the texts are those of all parts, if they are known
+-- the rounds so far passed, none of them was still, and each after the 64th was seen; what is left is what the carrier
+-- says; no write has failed; the texts are those of all parts, if they are known
 abbrev pub invariant-rounds : goal.invariant-rounds
 invariant-rounds g l =
     let calls : Calls g.row.C.Denot = g.C.Carrier.calls in
     let inside : Inside g.row.C.Denot = g.C.Inspect.inside in
-    SoFar (TellsMoving calls inside l.spot) l.fn.carrier (by_round (inside.calm l.fn.carrier l.rounds))
-    (by_round (g.C.Inspect.left l.carrier l.place)) l.carrier (g.W.Output.contents l.fn.writer)
-    (g.W.Output.contents l.writer)
+    Passing calls inside l.spot g.W.Output.contents g.W.Output.flushed (by_round (inside.calm l.fn.carrier l.rounds))
+    (by_round (g.C.Inspect.left l.carrier l.place)) l.passed (l.fn.carrier, l.fn.writer) (l.carrier, l.writer)
     × (g.W.Output.failed l.writer ≡ false) × IfSome l.known (λ t. t.parts ≡ inside.members l.carrier)
 
 -- each has one more after it

@@ -1,5 +1,7 @@
-use Rattle.world_replay.proofs.Common.{◌≡◌, ◌+◌, ◌-◌, Err, inl, inr, refl, rules, subst, sym, arith, EventEnds}
-use Rattle.world_replay.proofs.ByKind.{all_passed, no_rounds, one_round_seen, round_ends_so, round_more, rounds_end}
+use Rattle.world_replay.proofs.Common.{◌≡◌, ◌+◌, ◌-◌, true, Err, inl, inr, refl, rules, subst, sym, arith, EventEnds}
+use Rattle.replay.proofs.lemmas.{one_round_seen}
+use Rattle.world_replay.specs.Seen.{RoundPrints}
+use Rattle.world_replay.proofs.ByKind.{all_passed, no_rounds, round_ends_so, round_more, rounds_end}
 use Rattle.world_replay.proofs.events.replay_calm.Goals as goal
 
 pub loop-passed-init : goal.loop-passed-init
@@ -11,7 +13,7 @@ loop-passed-preserved g c = (
       c.loop-passed.invariant.0 c.in_ok-replay_round.ensures.ends,
   c.in_ok-replay_round.ensures.failed,
   omega (arith, c.loop-passed-test.true),
-  one_round_seen g.R.Replayed.kind c.args.detail g.W.Output.contents g.W.Output.flushed c.loop-passed.passed (c.args.world.now, c.args.writer.now) (c.loop-passed.world, c.loop-passed.writer) (c.replay_round.new.world, c.replay_round.new.writer)
+  one_round_seen (RoundPrints g.R.Replayed.kind c.args.detail g.W.Output.contents) (λ at. g.W.Output.flushed at.1 ≡ true) c.loop-passed.passed (c.args.world.now, c.args.writer.now) (c.loop-passed.world, c.loop-passed.writer) (c.replay_round.new.world, c.replay_round.new.writer)
       c.loop-passed.invariant.3 c.in_ok-replay_round.ensures.ends c.in_ok-replay_round.ensures.seen,
 )
 
@@ -38,7 +40,7 @@ pub returns-then-rests_since-clause-seen : goal.returns-then-rests_since-clause-
 returns-then-rests_since-clause-seen g c = λ long. (
   c.loop-passed.passed + 1,
   omega (arith, c.loop-passed-test.true),
-  one_round_seen g.R.Replayed.kind c.args.detail g.W.Output.contents g.W.Output.flushed c.loop-passed.passed (c.args.world.now, c.args.writer.now) (c.loop-passed.world, c.loop-passed.writer) (c.replay_round.new.world, c.replay_round.new.writer)
+  one_round_seen (RoundPrints g.R.Replayed.kind c.args.detail g.W.Output.contents) (λ at. g.W.Output.flushed at.1 ≡ true) c.loop-passed.passed (c.args.world.now, c.args.writer.now) (c.loop-passed.world, c.loop-passed.writer) (c.replay_round.new.world, c.replay_round.new.writer)
       c.loop-passed.invariant.3 c.in_ok-replay_round.ensures.ends c.in_ok-replay_round.ensures.seen,
   inr (c.rests_since.ensures.rest c.if-rests_since.true),
 )

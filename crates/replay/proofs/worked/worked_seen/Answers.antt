@@ -1,6 +1,6 @@
-use Rattle.world_replay.proofs.Common.{arith, inr, refl}
-use Rattle.world_replay.proofs.Passing.{broken_off, first_alone, last_alone, long, none_seen, seen}
-use Rattle.world_replay.proofs.worked_rounds.worked_seen.Goals as goal
+use Rattle.std.proofs.Common.{arith, inr, refl}
+use Rattle.replay.proofs.Handing.{broken_off, first_alone, last_alone, long, none_seen, seen}
+use Rattle.replay.proofs.worked.worked_seen.Goals as goal
 
 pub returns : goal.returns
 returns c = record {
