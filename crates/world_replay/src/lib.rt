@@ -33,4 +33,4 @@ pub use events::{
 };
 pub use lines::LifeLine;
 pub use print::print_lives;
-pub use replay::{Detail, Output, ReplayFault, UNSEEN_ROUNDS, WriteFailed};
+pub use replay::{Detail, Output, ReplayFault, WriteFailed};
