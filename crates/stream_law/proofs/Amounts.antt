@@ -40,7 +40,7 @@ for_more c f k e = elim (at c true f k) [
 
 -- and what isn't now was not before
 pub for_less : (c : ℕ) (f : ℕ → Bool) (k : ℕ) → for c true f k ≡ false → f k ≡ false
-for_less c f k e = false_from_ne_true (f k) (λ t. unlike (for c true f k) (for_more c f k t) e)
+for_less c f k e = false_from_ne_true (f k) (λ t. unlike _ (for_more c f k t) e)
 
 -- the part of an amount of connection `d` that is of connection `k`
 abbrev pub mine : ℕ → ℕ → ℕ → ℕ
@@ -54,21 +54,21 @@ add_by true x y z e = e
 add_by false x y z e = omega arith
 
 pub mine_add : (k d x y z : ℕ) → x + y ≡ z → mine k d x + mine k d y ≡ mine k d z
-mine_add k d x y z e = add_by (k == d) x y z e
+mine_add k d x y z e = add_by _ x y z e
 
 within_by : (b : Bool) (x y z : ℕ) → x ≤ y + z → (if b then x else 0) ≤ (if b then y else 0) + (if b then z else 0)
 within_by true x y z l = l
 within_by false x y z l = omega arith
 
 pub mine_within : (k d x y z : ℕ) → x ≤ y + z → mine k d x ≤ mine k d y + mine k d z
-mine_within k d x y z l = within_by (k == d) x y z l
+mine_within k d x y z l = within_by _ x y z l
 
 most_by : (b : Bool) (n : ℕ) → (if b then n else 0) ≤ n
 most_by true n = omega arith
 most_by false n = omega arith
 
 pub mine_most : (k d n : ℕ) → mine k d n ≤ n
-mine_most k d n = most_by (k == d) n
+mine_most k d n = most_by _ n
 
 -- ---- messages and bits alike
 

@@ -15,7 +15,7 @@ none_waits x h c over (Waiting k z bits) e = by (c == k) refl where
   by false is = rw is refl
   by true is =
       let same : c ≡ k = eqb-true c k is in
-      absurd (unlike (x.sender.closed k) (ap x.sender.closed (sym same) ∙ h.ends.passed c over) (waits_for x h k z bits e).2)
+      absurd (unlike _ (ap x.sender.closed (sym same) ∙ h.ends.passed c over) (waits_for x h k z bits e).2)
 
 pub came_inv : (x : Stream) → Inv x → (c : ℕ) → x.receiver.over c ≡ true → length (x.sender.sent c) ≡ x.receiver.came c
 came_inv x h c over =
@@ -24,4 +24,4 @@ came_inv x h c over =
     omega (arith, all, none)
 
 pub came_in : (events : List Event) (c : ℕ) → IsRun events → (stream events).receiver.over c ≡ true → length ((stream events).sender.sent c) ≡ (stream events).receiver.came c
-came_in events c run over = came_inv (stream events) (inv_run events run) c over
+came_in events c run over = came_inv _ (inv_run events run) c over

@@ -72,7 +72,7 @@ other_by true n e = absurd (cc)
 other_by false n e = refl
 
 mine_other : (k c n : ℕ) → k ≢ c → mine k c n ≡ 0
-mine_other k c n other = other_by (k == c) n (ne_eqb k c other)
+mine_other k c n other = other_by _ n (ne_eqb k c other)
 
 fits_in : (u : Counter) (a : Allocation) (m n : ℕ) → number u a + amount u m n ≤ number u (record { messages = 65535; bits = 4294967295 }) → number u (counters.granted a m n) ≡ number u a + amount u m n
 fits_in Messages a m n l = min-eq_left l
@@ -89,7 +89,7 @@ module _ (lost : Bool) (r : Receiver) (s : Sender) (d u : List Word) (b : Box) (
   exact_ask c fresh = record {
     holds = λ u' k e. (
         let a : Account u' k r s d u = h.account u' k in
-        let t : total u' (r.taken k) ≤ total u' (s.sent k) = total_front u' (r.taken k) (s.sent k) (h.arrivals.fronts k) in
+        let t : total u' (r.taken k) ≤ total u' (s.sent k) = total_front u' _ _ (h.arrivals.fronts k) in
         let n : number u' counters.nothing ≡ 0 = number_nothing u' in
         omega (arith, a, t, n));
     fits = (omega arith, omega arith);
@@ -101,7 +101,7 @@ module _ (lost : Bool) (r : Receiver) (s : Sender) (d u : List Word) (b : Box) (
     holds = λ u' k e. (
         let l : number u' r.allocation + total u' (r.taken k) + number u' (r.returned k) ≤ number u' (r.granted k) = x.holds u' k e in
         let f : number u' (for c (counters.added (r.granted c) m n) r.granted k) ≡ number u' (r.granted k) + mine k c (amount u' m n) = number_for u' k c m n r.granted in
-        let same : mine k c (amount u' m n) ≡ amount u' m n = mine_same k c (amount u' m n) (both_are r.end c k end e) in
+        let same : mine k c (amount u' m n) ≡ amount u' m n = mine_same k c _ (both_are r.end c k end e) in
         let all : number u' (counters.granted r.allocation m n) ≡ number u' r.allocation + amount u' m n = number_all u' r.allocation m n messages bits in
         omega (arith, l, f, same, all));
     fits = (
@@ -110,7 +110,7 @@ module _ (lost : Bool) (r : Receiver) (s : Sender) (d u : List Word) (b : Box) (
     );
     all = λ u' k o. (
         let a : AtMostAll u' k r s d u = x.all u' k o in
-        let g : granted_in u' k (d ++ All c m n ∷ []) ≡ granted_in u' k d + (mine k c (amount u' m n) + 0) = granted_more u' k d (All c m n) in
+        let g : granted_in u' k (d ++ All c m n ∷ []) ≡ granted_in u' k d + (mine k c (amount u' m n) + 0) = granted_more u' k d _ in
         let f : number u' (for c (counters.added (r.granted c) m n) r.granted k) ≡ number u' (r.granted k) + mine k c (amount u' m n) = number_for u' k c m n r.granted in
         omega (arith, a, g, f));
   }
@@ -121,7 +121,7 @@ module _ (lost : Bool) (r : Receiver) (s : Sender) (d u : List Word) (b : Box) (
     fits = x.fits;
     all = λ u' k o. (
         let a : AtMostAll u' k r s d u = x.all u' k o in
-        let g : granted_in u' k (d ++ Gvb c m n ∷ []) ≡ granted_in u' k d + 0 = granted_more u' k d (Gvb c m n) in
+        let g : granted_in u' k (d ++ Gvb c m n ∷ []) ≡ granted_in u' k d + 0 = granted_more u' k d _ in
         omega (arith, a, g));
   }
 
@@ -147,15 +147,15 @@ module _ (lost : Bool) (r : Receiver) (s : Sender) (d rest : List Word) (b : Box
   room_for c m n end h u =
       let a : Account u c r s d (Ret c m n ∷ rest) = h.account u c in
       let l : number u (r.granted c) ≤ number u r.allocation + total u (r.taken c) + number u (r.returned c) = h.grants.left u c end in
-      let t : total u (r.taken c) ≤ total u (s.sent c) = total_front u (r.taken c) (s.sent c) (h.arrivals.fronts c) in
-      let own : mine c c (amount u m n) ≡ amount u m n = mine_same c c (amount u m n) refl in
+      let t : total u (r.taken c) ≤ total u (s.sent c) = total_front u _ _ (h.arrivals.fronts c) in
+      let own : mine c c (amount u m n) ≡ amount u m n = mine_same c c _ refl in
       omega (arith, a, l, t, own)
 
   opened_for : (c m n : ℕ) → r.end ≡ Some c → Inv (made r s d (Ret c m n ∷ rest) b) → (u : Counter) → r.opened ≡ false → amount u m n ≡ 0
   opened_for c m n end h u unopened =
       let a : Account u c r s d (Ret c m n ∷ rest) = h.account u c in
       let none : number u (r.granted c) ≡ 0 = h.grants.unopened u c end unopened in
-      let own : mine c c (amount u m n) ≡ amount u m n = mine_same c c (amount u m n) refl in
+      let own : mine c c (amount u m n) ≡ amount u m n = mine_same c c _ refl in
       omega (arith, a, none, own)
 
   ret_opened : (c m n : ℕ) → r.end ≡ Some c → Inv (made r s d (Ret c m n ∷ rest) b) → r.closed ≡ false → r.over c ≡ false → r.opened ≡ true → (receivers.is_open c r && holds r.allocation m n) ≡ true
@@ -169,10 +169,10 @@ module _ (lost : Bool) (r : Receiver) (s : Sender) (d rest : List Word) (b : Box
       → (u : Counter) → amount u m n ≡ 0
   ret_nothing c m n end h dropped closed unsaid u = by r.opened refl where
     over : r.over c ≡ false
-    over = false_from_ne_true (r.over c) (λ o. unlike (s.closed c) (h.ends.passed c o) unsaid)
+    over = false_from_ne_true (r.over c) (λ o. unlike _ (h.ends.passed c o) unsaid)
 
     by : (v : Bool) → r.opened ≡ v → amount u m n ≡ 0
-    by true e = absurd (unlike (receivers.is_open c r && holds r.allocation m n) (ret_opened c m n end h closed over e) dropped)
+    by true e = absurd (unlike _ (ret_opened c m n end h closed over e) dropped)
     by false e = opened_for c m n end h u e
 
   exact_ret_if : (c m n : ℕ) → r.end ≡ Some c → Inv (made r s d (Ret c m n ∷ rest) b) → Exact lost (made r s d (Ret c m n ∷ rest) b) → (v : Bool) → (receivers.is_open c r && holds r.allocation m n) ≡ v
@@ -181,7 +181,7 @@ module _ (lost : Bool) (r : Receiver) (s : Sender) (d rest : List Word) (b : Box
     holds = λ u' k i. (
         let l : number u' r.allocation + total u' (r.taken k) + number u' (r.returned k) ≤ number u' (r.granted k) = x.holds u' k i in
         let f : number u' (for c (counters.added (r.returned c) m n) r.returned k) ≡ number u' (r.returned k) + mine k c (amount u' m n) = number_for u' k c m n r.returned in
-        let same : mine k c (amount u' m n) ≡ amount u' m n = mine_same k c (amount u' m n) (both_are r.end c k end i) in
+        let same : mine k c (amount u' m n) ≡ amount u' m n = mine_same k c _ (both_are r.end c k end i) in
         let less : number u' (record { messages = r.allocation.messages - m; bits = r.allocation.bits - n }) + amount u' m n ≡ number u' r.allocation
         = number_less u' r.allocation m n (and_parts (receivers.is_open c r) (holds r.allocation m n) e).1 in
         omega (arith, l, f, same, less));
@@ -198,19 +198,19 @@ module _ (lost : Bool) (r : Receiver) (s : Sender) (d rest : List Word) (b : Box
         let a : AtMostAll u' k r s d (Ret c m n ∷ rest) = x.all u' k o in
         let same : k ≡ c = both_are r.end c k end o.end in
         let none : amount u' m n ≡ 0 = ret_nothing c m n end h e o.receiver (ap s.closed (sym same) ∙ o.sender) u' in
-        let less : mine k c (amount u' m n) ≤ amount u' m n = mine_most k c (amount u' m n) in
+        let less : mine k c (amount u' m n) ≤ amount u' m n = mine_most k c _ in
         omega (arith, a, none, less));
   }
 
   exact_ret : (c m n : ℕ) → Inv (made r s d (Ret c m n ∷ rest) b) → Exact lost (made r s d (Ret c m n ∷ rest) b) → Exact lost (made (receivers.takes_back m n r.end r) s d rest b)
   exact_ret c m n h x =
       let end : r.end ≡ Some c = receives.returned_to r s d rest b c m n h in
-      subst (λ (o : Option ℕ). Exact lost (made (receivers.takes_back m n o r) s d rest b)) (sym end) (exact_ret_if c m n end h x (receivers.is_open c r && holds r.allocation m n) refl)
+      subst (λ (o : Option ℕ). Exact lost (made (receivers.takes_back m n o r) s d rest b)) (sym end) (exact_ret_if c m n end h x _ refl)
 
 -- it takes data
 module _ (lost : Bool) (r : Receiver) (s : Sender) (d u : List Word) (c z : ℕ) (bits : List Bool) (h : Inv (made r s d u (Waiting c z bits))) (x : Exact lost (made r s d u (Waiting c z bits))) where
   end_is : r.end ≡ Some c
-  end_is = waits_of (made r s d u (Waiting c z bits)) h c z bits refl
+  end_is = waits_of _ h c z bits refl
 
   exact_taken_if : (v : Bool) → (receivers.is_open c r && is_size z (r.size c) && covers r.allocation (length bits)) ≡ v
       → Exact lost (made (record (if v then record r { allocation = counters.spent r.allocation (length bits); taken = for c (r.taken c ++ bits ∷ []) r.taken } else r) { came = for c (suc (r.came c)) r.came }) s d u Taken)
@@ -218,7 +218,7 @@ module _ (lost : Bool) (r : Receiver) (s : Sender) (d u : List Word) (c z : ℕ)
     holds = λ u' k i. (
         let l : number u' r.allocation + total u' (r.taken k) + number u' (r.returned k) ≤ number u' (r.granted k) = x.holds u' k i in
         let f : total u' (for c (r.taken c ++ bits ∷ []) r.taken k) ≡ total u' (r.taken k) + mine k c (cost u' bits) = total_for u' k c bits r.taken in
-        let own : mine k c (cost u' bits) ≡ cost u' bits = mine_same k c (cost u' bits) (both_are r.end c k end_is i) in
+        let own : mine k c (cost u' bits) ≡ cost u' bits = mine_same k c _ (both_are r.end c k end_is i) in
         let less : number u' (counters.spent r.allocation (length bits)) + cost u' bits ≡ number u' r.allocation
         = number_spent u' r.allocation bits (and_parts (receivers.is_open c r && is_size z (r.size c)) (covers r.allocation (length bits)) e).1 in
         omega (arith, l, f, own, less));
@@ -230,7 +230,7 @@ module _ (lost : Bool) (r : Receiver) (s : Sender) (d u : List Word) (c z : ℕ)
   exact_take : Exact lost (made (receivers.moved (receivers.Take z bits) r) s d u Taken)
   exact_take =
       subst (λ (o : Option ℕ). Exact lost (made (record (receivers.takes z bits o r) { came = receivers.one_more o r.came }) s d u Taken)) (sym end_is)
-      (exact_taken_if (receivers.is_open c r && is_size z (r.size c) && covers r.allocation (length bits)) refl)
+      (exact_taken_if _ refl)
 
 -- ---- what the sender does
 
@@ -238,7 +238,7 @@ held_stays : (u : Counter) (k c : ℕ) (v : Bool) (o : Option ℕ) (a : Allocati
 held_stays u k c v None a other = omega arith
 held_stays u k c v (Some own) a other = by (own == c) refl v where
   by : (w : Bool) → (own == c) ≡ w → (v' : Bool) → mine k own (number u a) ≤ held u k (if w && v' then None else Some own) a
-  by true e true = let none : mine k own (number u a) ≡ 0 = mine_other k own (number u a) (λ same. other (same ∙ eqb-true own c e)) in omega (arith, none)
+  by true e true = let none : mine k own (number u a) ≡ 0 = mine_other k own _ (λ same. other (same ∙ eqb-true own c e)) in omega (arith, none)
   by true e false = omega arith
   by false e v' = omega arith
 
@@ -246,7 +246,7 @@ is_same : (k c : ℕ) → (k ≡ c) ⊎ (k ≢ c)
 is_same k c = by (k == c) refl where
   by : (v : Bool) → (k == c) ≡ v → (k ≡ c) ⊎ (k ≢ c)
   by true e = inl (eqb-true k c e)
-  by false e = inr (λ same. unlike (k == c) (eq-eqb k c same) e)
+  by false e = inr (λ same. unlike _ (eq-eqb k c same) e)
 
 module _ (lost : Bool) (r : Receiver) (s : Sender) (d u : List Word) (b : Box) (x : Exact lost (made r s d u b)) where
   exact_asks : (c z : ℕ) → Exact lost (made r (record s { size = for c (Some z) s.size }) d (u ++ Str c z ∷ []) b)
@@ -255,7 +255,7 @@ module _ (lost : Bool) (r : Receiver) (s : Sender) (d u : List Word) (b : Box) (
     fits = x.fits;
     all = λ u' k o. (
         let a : AtMostAll u' k r s d u = x.all u' k o in
-        let g : returned_in u' k (u ++ Str c z ∷ []) ≡ returned_in u' k u + 0 = returned_more u' k u (Str c z) in
+        let g : returned_in u' k (u ++ Str c z ∷ []) ≡ returned_in u' k u + 0 = returned_more u' k u _ in
         omega (arith, a, g));
   }
 
@@ -290,11 +290,11 @@ module _ (lost : Bool) (r : Receiver) (s : Sender) (d u : List Word) (b : Box) (
     holds = x.holds;
     fits = x.fits;
     all = λ u' k o. elim (at c true s.closed k) [
-      | inl t ↦ absurd (unlike (for c true s.closed k) t.1 o.sender)
+      | inl t ↦ absurd (unlike _ t.1 o.sender)
       | inr t ↦ (
           let a : AtMostAll u' k r s d u = x.all u' k (record { end = o.end; receiver = o.receiver; sender = sym t.1 ∙ o.sender; unshut = λ e. o.unshut (sends.goes_other c s.shut s.end k t.0 e); opened = λ g e. o.opened g (sends.goes_other c s.shut s.end k t.0 e) }) in
           let g : returned_in u' k (u ++ Cls c ∷ []) ≡ returned_in u' k u + 0 = returned_more u' k u (Cls c) in
-          let l : held u' k s.end s.allocation ≤ held u' k (senders.goes c s.shut s.end) s.allocation = held_stays u' k c s.shut s.end s.allocation t.0 in
+          let l : held u' k s.end s.allocation ≤ held u' k _ s.allocation = held_stays u' k c s.shut s.end s.allocation t.0 in
           omega (arith, a, g, l))
     ];
   }
@@ -308,9 +308,9 @@ module _ (lost : Bool) (r : Receiver) (s : Sender) (d u : List Word) (b : Box) (
         let a : AtMostAll u' k r s d u = x.all u' k o in
         let f : total u' (for c (s.sent c ++ bits ∷ []) s.sent k) ≡ total u' (s.sent k) + mine k c (cost u' bits) = total_for u' k c bits s.sent in
         let before : held u' k s.end s.allocation ≡ mine k c (number u' s.allocation) = held_is u' k c s.end s.allocation end in
-        let after : held u' k s.end (counters.spent s.allocation (length bits)) ≡ mine k c (number u' (counters.spent s.allocation (length bits))) = held_is u' k c s.end (counters.spent s.allocation (length bits)) end in
+        let after : held u' k s.end (counters.spent s.allocation (length bits)) ≡ mine k c (number u' (counters.spent s.allocation (length bits))) = held_is u' k c s.end _ end in
         let less : mine k c (number u' (counters.spent s.allocation (length bits))) + mine k c (cost u' bits) ≡ mine k c (number u' s.allocation)
-        = mine_add k c (number u' (counters.spent s.allocation (length bits))) (cost u' bits) (number u' s.allocation) (number_spent u' s.allocation bits covered) in
+        = mine_add k c _ _ _ (number_spent u' s.allocation bits covered) in
         omega (arith, a, f, before, after, less));
   }
 
@@ -341,10 +341,10 @@ module _ (lost : Bool) (r : Receiver) (s : Sender) (rest u : List Word) (b : Box
   counts c m n end there h x u' =
       let a : Account u' c r s (All c m n ∷ rest) u = h.account u' c in
       let l : number u' (r.granted c) ≤ number u' r.allocation + total u' (r.taken c) + number u' (r.returned c) = h.grants.left u' c there in
-      let t : total u' (r.taken c) ≤ total u' (s.sent c) = total_front u' (r.taken c) (s.sent c) (h.arrivals.fronts c) in
-      let own : mine c c (amount u' m n) ≡ amount u' m n = mine_same c c (amount u' m n) refl in
+      let t : total u' (r.taken c) ≤ total u' (s.sent c) = total_front u' _ _ (h.arrivals.fronts c) in
+      let own : mine c c (amount u' m n) ≡ amount u' m n = mine_same c c _ refl in
       let all : held u' c s.end s.allocation ≡ mine c c (number u' s.allocation) = held_is u' c c s.end s.allocation end in
-      let same : mine c c (number u' s.allocation) ≡ number u' s.allocation = mine_same c c (number u' s.allocation) refl in
+      let same : mine c c (number u' s.allocation) ≡ number u' s.allocation = mine_same c c _ refl in
       let most : number u' r.allocation ≤ number u' (record { messages = 65535; bits = 4294967295 }) = fits_of u' r x.fits in
       fits_in u' s.allocation m n (omega (arith, a, l, t, own, all, same, most))
 
@@ -356,29 +356,29 @@ module _ (lost : Bool) (r : Receiver) (s : Sender) (rest u : List Word) (b : Box
     all = λ u' k o. (
         let a : AtMostAll u' k r s (All c m n ∷ rest) u = x.all u' k o in
         let before : held u' k s.end s.allocation ≡ mine k c (number u' s.allocation) = held_is u' k c s.end s.allocation end in
-        let after : held u' k s.end (counters.granted s.allocation m n) ≡ mine k c (number u' (counters.granted s.allocation m n)) = held_is u' k c s.end (counters.granted s.allocation m n) end in
+        let after : held u' k s.end (counters.granted s.allocation m n) ≡ mine k c (number u' (counters.granted s.allocation m n)) = held_is u' k c s.end _ end in
         let more : mine k c (number u' s.allocation) + mine k c (amount u' m n) ≤ mine k c (number u' (counters.granted s.allocation m n)) = grows u' k o.end (is_same k c) in
         omega (arith, a, before, after, more));
   } where
     grows : (u' : Counter) (k : ℕ) → r.end ≡ Some k → (k ≡ c) ⊎ (k ≢ c) → mine k c (number u' s.allocation) + mine k c (amount u' m n) ≤ mine k c (number u' (counters.granted s.allocation m n))
     grows u' k there (inl same) =
         let all : number u' (counters.granted s.allocation m n) ≡ number u' s.allocation + amount u' m n = counts c m n end (there ∙ ap (λ (j : ℕ). Some j) same) h x u' in
-        let one : mine k c (number u' s.allocation) ≡ number u' s.allocation = mine_same k c (number u' s.allocation) same in
-        let two : mine k c (amount u' m n) ≡ amount u' m n = mine_same k c (amount u' m n) same in
-        let three : mine k c (number u' (counters.granted s.allocation m n)) ≡ number u' (counters.granted s.allocation m n) = mine_same k c (number u' (counters.granted s.allocation m n)) same in
+        let one : mine k c (number u' s.allocation) ≡ number u' s.allocation = mine_same k c _ same in
+        let two : mine k c (amount u' m n) ≡ amount u' m n = mine_same k c _ same in
+        let three : mine k c (number u' (counters.granted s.allocation m n)) ≡ number u' (counters.granted s.allocation m n) = mine_same k c _ same in
         omega (arith, all, one, two, three)
     grows u' k there (inr other) =
-        let one : mine k c (number u' s.allocation) ≡ 0 = mine_other k c (number u' s.allocation) other in
-        let two : mine k c (amount u' m n) ≡ 0 = mine_other k c (amount u' m n) other in
+        let one : mine k c (number u' s.allocation) ≡ 0 = mine_other k c _ other in
+        let two : mine k c (amount u' m n) ≡ 0 = mine_other k c _ other in
         omega (arith, one, two)
   exact_all_if c m n end opened h x false e = record {
     holds = x.holds;
     fits = x.fits;
     all = λ u' k o. elim (is_same k c) [
-      | inl same ↦ absurd (unlike (senders.is_open c s) (opened_of c (was (end ∙ ap (λ (j : ℕ). Some j) (sym same)) o.opened lost refl) (o.unshut (end ∙ ap (λ (j : ℕ). Some j) (sym same))) (ap s.closed (sym same) ∙ o.sender)) e)
+      | inl same ↦ absurd (unlike _ (opened_of c (was (end ∙ ap (λ (j : ℕ). Some j) (sym same)) o.opened lost refl) (o.unshut (end ∙ ap (λ (j : ℕ). Some j) (sym same))) (ap s.closed (sym same) ∙ o.sender)) e)
       | inr other ↦ (
           let a : AtMostAll u' k r s (All c m n ∷ rest) u = x.all u' k o in
-          let none : mine k c (amount u' m n) ≡ 0 = mine_other k c (amount u' m n) other in
+          let none : mine k c (amount u' m n) ≡ 0 = mine_other k c _ other in
           omega (arith, a, none))
     ];
   } where
@@ -390,7 +390,7 @@ module _ (lost : Bool) (r : Receiver) (s : Sender) (rest u : List Word) (b : Box
       → Exact lost (made r (senders.with_allocation s.end (λ a. counters.granted a m n) s) rest u b)
   exact_all c m n opened h x =
       let end : s.end ≡ Some c = sends.granted_to r s rest u b c m n h in
-      subst (λ (o : Option ℕ). Exact lost (made r (senders.with_allocation o (λ a. counters.granted a m n) s) rest u b)) (sym end) (exact_all_if c m n end opened h x (senders.is_open c s) refl)
+      subst (λ (o : Option ℕ). Exact lost (made r (senders.with_allocation o (λ a. counters.granted a m n) s) rest u b)) (sym end) (exact_all_if c m n end opened h x _ refl)
 
   exact_gvb_if : (c m n : ℕ) → s.end ≡ Some c → Exact lost (made r s (Gvb c m n ∷ rest) u b) → (v : Bool)
       → Exact lost (made r (if v then record s { allocation = counters.given_back s.allocation m n } else s) rest (word_queued (if v then Some (Ret c (counters.share s.allocation.messages m) (counters.share s.allocation.bits n)) else None) u) b)
@@ -400,12 +400,12 @@ module _ (lost : Bool) (r : Receiver) (s : Sender) (rest u : List Word) (b : Box
     all = λ u' k o. (
         let a : AtMostAll u' k r s (Gvb c m n ∷ rest) u = x.all u' k o in
         let before : held u' k s.end s.allocation ≡ mine k c (number u' s.allocation) = held_is u' k c s.end s.allocation end in
-        let after : held u' k s.end (counters.given_back s.allocation m n) ≡ mine k c (number u' (counters.given_back s.allocation m n)) = held_is u' k c s.end (counters.given_back s.allocation m n) end in
+        let after : held u' k s.end (counters.given_back s.allocation m n) ≡ mine k c (number u' (counters.given_back s.allocation m n)) = held_is u' k c s.end _ end in
         let less : mine k c (number u' (counters.given_back s.allocation m n)) + mine k c (amount u' (counters.share s.allocation.messages m) (counters.share s.allocation.bits n)) ≡ mine k c (number u' s.allocation)
-        = mine_add k c (number u' (counters.given_back s.allocation m n)) (amount u' (counters.share s.allocation.messages m) (counters.share s.allocation.bits n)) (number u' s.allocation) (number_back u' s.allocation m n) in
+        = mine_add k c _ _ _ (number_back u' s.allocation m n) in
         let g : returned_in u' k (u ++ Ret c (counters.share s.allocation.messages m) (counters.share s.allocation.bits n) ∷ [])
         ≡ returned_in u' k u + (mine k c (amount u' (counters.share s.allocation.messages m) (counters.share s.allocation.bits n)) + 0)
-        = returned_more u' k u (Ret c (counters.share s.allocation.messages m) (counters.share s.allocation.bits n)) in
+        = returned_more u' k u _ in
         omega (arith, a, before, after, less, g));
   }
   exact_gvb_if c m n end x false = record { holds = x.holds; fits = x.fits; all = x.all }
@@ -415,17 +415,17 @@ module _ (lost : Bool) (r : Receiver) (s : Sender) (rest u : List Word) (b : Box
   exact_gvb c m n h x =
       let end : s.end ≡ Some c = sends.asked_of r s rest u b c m n h in
       subst (λ (o : Option ℕ). Exact lost (made r (senders.with_allocation o (λ a. counters.given_back a m n) s) rest (word_queued (senders.returns m n o s) u) b)) (sym end)
-      (exact_gvb_if c m n end x (senders.is_open c s))
+      (exact_gvb_if c m n end x _)
 
   exact_shut_if : (c : ℕ) → s.end ≡ Some c → Exact lost (made r s (Cls c ∷ rest) u b) → (v : Bool) → s.closed c ≡ v → Exact lost (made r (if v then record s { end = None } else record s { shut = true }) rest u b)
   exact_shut_if c end x true closed = record {
     holds = x.holds;
     fits = x.fits;
     all = λ u' k o. (
-        let other : k ≢ c = λ same. unlike (s.closed c) closed (ap s.closed (sym same) ∙ o.sender) in
+        let other : k ≢ c = λ same. unlike _ closed (ap s.closed (sym same) ∙ o.sender) in
         let a : AtMostAll u' k r s (Cls c ∷ rest) u = x.all u' k (record { end = o.end; receiver = o.receiver; sender = o.sender; unshut = λ e. absurd (other (both_are s.end c k end e)); opened = λ g e. absurd (other (both_are s.end c k end e)) }) in
         let before : held u' k s.end s.allocation ≡ mine k c (number u' s.allocation) = held_is u' k c s.end s.allocation end in
-        let none : mine k c (number u' s.allocation) ≡ 0 = mine_other k c (number u' s.allocation) other in
+        let none : mine k c (number u' s.allocation) ≡ 0 = mine_other k c _ other in
         omega (arith, a, before, none));
   }
   exact_shut_if c end x false closed = record {
@@ -440,7 +440,7 @@ module _ (lost : Bool) (r : Receiver) (s : Sender) (rest u : List Word) (b : Box
   exact_cls c h x =
       let view : (s.end ≡ Some c) × (s.shut ≡ false) = unless_some s.shut s.end c h.down.0 in
       subst (λ (o : Option ℕ). Exact lost (made r (senders.shuts c o s) rest u b)) (sym view.0)
-      (subst (λ (v : Bool). Exact lost (made r (if v then (if s.closed c then record s { end = None } else record s { shut = true }) else s) rest u b)) (sym (eq-eqb c c refl)) (exact_shut_if c view.0 x (s.closed c) refl))
+      (subst (λ (v : Bool). Exact lost (made r (if v then (if s.closed c then record s { end = None } else record s { shut = true }) else s) rest u b)) (sym (eq-eqb c c refl)) (exact_shut_if c view.0 x _ refl))
 
 -- ---- all that may happen
 
@@ -473,7 +473,7 @@ exact_kept lost (Receives (receivers.Take z bits)) y m p h x =
     (exact_take lost y.receiver y.sender y.to_sender y.to_receiver m.1.0 z bits) h x
 exact_kept lost (Sends (senders.Ask c z)) y m p h x = exact_asks lost y.receiver y.sender y.to_sender y.to_receiver y.box x c z
 exact_kept lost (Sends (senders.Open c)) y m p h x = exact_opens lost y.receiver y.sender y.to_sender y.to_receiver y.box x c m.0.0 p
-exact_kept lost (Sends (senders.Send c z bits)) y m p h x = exact_sends lost y.receiver y.sender y.to_sender y.to_receiver y.box x c bits (Waiting c z bits) m.0.0 m.0.3
+exact_kept lost (Sends (senders.Send c z bits)) y m p h x = exact_sends lost y.receiver y.sender y.to_sender y.to_receiver y.box x c bits _ m.0.0 m.0.3
 exact_kept lost (Sends (senders.Close c)) y m p h x = exact_closes lost y.receiver y.sender y.to_sender y.to_receiver y.box x c
 exact_kept lost (Sends (senders.Hear w)) y m p h x =
     subst (λ (d : List Word). IsKept lost (Sends (senders.Hear w)) (made y.receiver y.sender d y.to_receiver y.box) → Inv (made y.receiver y.sender d y.to_receiver y.box) → Exact lost (made y.receiver y.sender d y.to_receiver y.box)
@@ -494,7 +494,7 @@ prompt_kept e x p = tt
 exact_run : (events : List Event) → IsRun events → ArePrompt events → Exact false (stream events)
 exact_run [] run prompt = exact_opening false
 exact_run (e ∷ events) run prompt =
-    exact_kept false e (stream events) run.0 (prompt_kept e (stream events) prompt.0) (inv_run events run.1) (exact_run events run.1 prompt.1)
+    exact_kept false e _ run.0 (prompt_kept e _ prompt.0) (inv_run events run.1) (exact_run events run.1 prompt.1)
 
 -- ---- an end that opens
 
@@ -542,15 +542,15 @@ module _ (lost : Bool) (x : Stream) (c : ℕ) (h : Inv x) (e : Exact lost x) (q 
       let up : returned_in u c x.to_receiver ≡ 0 = ap (returned_in u c) q.to_receiver in
       let taken : total u (x.receiver.taken c) ≡ total u (x.sender.sent c) = ap (total u) rest_taken in
       let of : held u c x.sender.end x.sender.allocation ≡ mine c c (number u x.sender.allocation) = held_is u c c x.sender.end x.sender.allocation q.sender in
-      let own : mine c c (number u x.sender.allocation) ≡ number u x.sender.allocation = mine_same c c (number u x.sender.allocation) refl in
+      let own : mine c c (number u x.sender.allocation) ≡ number u x.sender.allocation = mine_same c c _ refl in
       (omega (arith, all, less, down, up, taken, of, own), omega (arith, all, less, left, holds, down, up, taken, of, own))
 
   pub agreed_of : AreAgreed x c
   agreed_of = record {
     taken = rest_taken;
     allocation = same_allocation x.sender.allocation x.receiver.allocation (λ u. (amounts u).1);
-    in_messages = (let n : total Messages (x.receiver.taken c) ≡ length (x.receiver.taken c) = total_messages (x.receiver.taken c) in let a : total Messages (x.receiver.taken c) + (x.receiver.returned c).messages + x.sender.allocation.messages ≡ (x.receiver.granted c).messages = (amounts Messages).0 in omega (arith, n, a));
-    in_bits = (let n : total Bits (x.receiver.taken c) ≡ message_bits (x.receiver.taken c) = total_bits (x.receiver.taken c) in let a : total Bits (x.receiver.taken c) + (x.receiver.returned c).bits + x.sender.allocation.bits ≡ (x.receiver.granted c).bits = (amounts Bits).0 in omega (arith, n, a));
+    in_messages = (let n : total Messages (x.receiver.taken c) ≡ length (x.receiver.taken c) = total_messages _ in let a : total Messages (x.receiver.taken c) + (x.receiver.returned c).messages + x.sender.allocation.messages ≡ (x.receiver.granted c).messages = (amounts Messages).0 in omega (arith, n, a));
+    in_bits = (let n : total Bits (x.receiver.taken c) ≡ message_bits _ = total_bits _ in let a : total Bits (x.receiver.taken c) + (x.receiver.returned c).bits + x.sender.allocation.bits ≡ (x.receiver.granted c).bits = (amounts Bits).0 in omega (arith, n, a));
   }
 
 pub agreed_run : (events : List Event) (c : ℕ) → IsRun events → ArePrompt events → IsAtRest (stream events) c → AreAgreed (stream events) c

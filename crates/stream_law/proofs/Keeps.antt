@@ -102,7 +102,7 @@ all_over x h none k asked = elim (h.ends.known k asked) [
 pub sole : (x : Stream) → Inv x → (c : ℕ) → x.receiver.asked c ≡ true → x.sender.closed c ≡ false → x.receiver.end ≡ Some c
 sole x h c asked none = elim (h.ends.known c asked) [
   | inl e ↦ e
-  | inr o ↦ absurd (unlike (x.sender.closed c) (h.ends.passed c o) none)
+  | inr o ↦ absurd (unlike _ (h.ends.passed c o) none)
 ]
 
 pub waits_for : (x : Stream) → Inv x → (c z : ℕ) (bits : List Bool) → x.box ≡ Waiting c z bits → Waits x.sender (Waiting c z bits)
@@ -144,7 +144,7 @@ affordable : (x : Stream) → Inv x → (u : Counter) (c : ℕ) (bits : List Boo
 affordable x h u c bits end sent =
     let a : Account u c x.receiver x.sender x.to_sender x.to_receiver = h.account u c in
     let l : number u (x.receiver.granted c) ≤ number u x.receiver.allocation + total u (x.receiver.taken c) + number u (x.receiver.returned c) = h.grants.left u c end in
-    let t : total u (x.sender.sent c) ≡ total u (x.receiver.taken c) + cost u bits = ap (λ (ms : List (List Bool)). total u ms) sent ∙ total_of u (x.receiver.taken c) bits in
+    let t : total u (x.sender.sent c) ≡ total u (x.receiver.taken c) + cost u bits = ap (λ (ms : List (List Bool)). total u ms) sent ∙ total_of u _ bits in
     omega (arith, a, l, t)
 
 pub acceptable : (x : Stream) → Inv x → (c z : ℕ) (bits : List Bool) → x.box ≡ Waiting c z bits → x.receiver.closed ≡ false → x.receiver.over c ≡ false
@@ -154,7 +154,7 @@ acceptable x h c z bits e closed over =
     let end : x.receiver.end ≡ Some c = waits_of x h c z bits e in
     let sent : x.sender.sent c ≡ x.receiver.taken c ++ bits ∷ [] = subst (λ (b : Box). x.sender.sent c ≡ x.receiver.taken c ++ waiting_in b) e (h.arrivals.whole c end closed over) in
     let opened : x.receiver.opened ≡ true = opens end sent x.receiver.opened refl in
-    let sized : x.receiver.size c ≡ Some z = only_some (x.receiver.size c) (h.sizes.sized c end opened) z (λ y there. some_is y z (sym (h.sizes.told c y there) ∙ w.3)) in
+    let sized : x.receiver.size c ≡ Some z = only_some _ (h.sizes.sized c end opened) z (λ y there. some_is y z (sym (h.sizes.told c y there) ∙ w.3)) in
     let right : is_size z (x.receiver.size c) ≡ true = ap (is_size z) sized ∙ eq-eqb z z refl in
     let one : 1 ≤ x.receiver.allocation.messages = affordable x h Messages c bits end sent in
     let room : length bits ≤ x.receiver.allocation.bits = affordable x h Bits c bits end sent in
@@ -166,5 +166,5 @@ acceptable x h c z bits e closed over =
       opens end sent false v =
           let none : number Messages (x.receiver.granted c) ≡ 0 = h.grants.unopened Messages c end v in
           let a : Account Messages c x.receiver x.sender x.to_sender x.to_receiver = h.account Messages c in
-          let t : total Messages (x.sender.sent c) ≡ total Messages (x.receiver.taken c) + 1 = ap (λ (ms : List (List Bool)). total Messages ms) sent ∙ total_of Messages (x.receiver.taken c) bits in
+          let t : total Messages (x.sender.sent c) ≡ total Messages (x.receiver.taken c) + 1 = ap (λ (ms : List (List Bool)). total Messages ms) sent ∙ total_of Messages _ bits in
           absurd (omega (arith, none, a, t))

@@ -37,7 +37,7 @@ none_closed : (x : Stream) → Inv x → (c : ℕ) → x.receiver.end ≡ Some c
 none_closed x h c end closed Empty e = refl
 none_closed x h c end closed (Waiting k z bits) e =
     let same : k ≡ c = both_are x.receiver.end c k end (waits_of x h k z bits e) in
-    absurd (unlike (x.sender.closed k) (ap x.sender.closed same ∙ closed) (waits_for x h k z bits e).2)
+    absurd (unlike _ (ap x.sender.closed same ∙ closed) (waits_for x h k z bits e).2)
 none_closed x h c end closed Taken e = refl
 
 -- ---- whose CLS was first
@@ -57,9 +57,9 @@ first_less c k r first = by (r.over c) first where
 
 -- where the sender's CLS comes to be heard first, all that was sent was taken
 settled_heard : (x : Stream) → Inv x → (c : ℕ) → x.sender.closed c ≡ true → x.receiver.first c ≡ false → x.receiver.taken c ≡ x.sender.sent c
-settled_heard x h c closed first = by_over (x.receiver.over c) refl where
+settled_heard x h c closed first = by_over _ refl where
   open_whole : x.receiver.end ≡ Some c → x.receiver.over c ≡ false → (v : Bool) → x.receiver.closed ≡ v → x.receiver.taken c ≡ x.sender.sent c
-  open_whole end over true e = absurd (unlike (x.receiver.first c) (h.arrivals.firsts c end e over) first)
+  open_whole end over true e = absurd (unlike _ (h.arrivals.firsts c end e over) first)
   open_whole end over false e =
       let sent : x.sender.sent c ≡ x.receiver.taken c ++ waiting_in x.box = h.arrivals.whole c end e over in
       let none : waiting_in x.box ≡ [] = none_closed x h c end closed x.box refl in
@@ -68,15 +68,15 @@ settled_heard x h c closed first = by_over (x.receiver.over c) refl where
   by_asked : x.receiver.over c ≡ false → (v : Bool) → x.receiver.asked c ≡ v → x.receiver.taken c ≡ x.sender.sent c
   by_asked over true e = elim (h.ends.known c e) [
     | inl end ↦ open_whole end over x.receiver.closed refl
-    | inr o ↦ absurd (unlike (x.receiver.over c) o over)
+    | inr o ↦ absurd (unlike _ o over)
   ]
   by_asked over false e =
       let unsent : x.sender.sent c ≡ [] = h.arrivals.unsent c e in
-      no_front (x.receiver.taken c) (subst (λ (l : List (List Bool)). IsPrefix (x.receiver.taken c) l) unsent (h.arrivals.fronts c)) ∙ sym unsent
+      no_front _ (subst (λ (l : List (List Bool)). IsPrefix (x.receiver.taken c) l) unsent (h.arrivals.fronts c)) ∙ sym unsent
 
   by_over : (v : Bool) → x.receiver.over c ≡ v → x.receiver.taken c ≡ x.sender.sent c
   by_over true e = h.arrivals.settled c e first
-  by_over false e = by_asked e (x.receiver.asked c) refl
+  by_over false e = by_asked e _ refl
 
 module _ (r : Receiver) (s : Sender) (d u : List Word) (b : Box) (h : Inv (made r s d u b)) where
   pub kept_ask : (c : ℕ) → r.end ≡ None → r.asked c ≡ false → Inv (made (receivers.asks c r) s (d ++ Rts c ∷ []) u b)
@@ -88,13 +88,13 @@ module _ (r : Receiver) (s : Sender) (d u : List Word) (b : Box) (h : Inv (made 
       heard = λ k e. for_more c r.asked k (h.ends.heard k e);
       half = h.ends.half;
     };
-    down = down_asked r.over r.asked (for c true r.asked) c over (for_more c r.asked) (for_here c true r.asked) (unless s.shut s.end) d before;
-    still = λ k e f. (let both : None ≡ Some k = sym none ∙ sole (made r s d u b) h k (h.ends.heard k e) f in absurd (cc));
-    up = up_more r.asked s.closed (for c true r.asked) s.closed s.size s.size (for_more c r.asked) (λ k e. e) (λ k z e. e) r.over u h.up;
+    down = down_asked r.over r.asked _ c over (for_more c r.asked) (for_here c true r.asked) _ d before;
+    still = λ k e f. (let both : None ≡ Some k = sym none ∙ sole _ h k (h.ends.heard k e) f in absurd (cc));
+    up = up_more r.asked s.closed _ s.closed s.size s.size (for_more c r.asked) (λ k e. e) (λ k z e. e) r.over u h.up;
     sizes = record { told = h.sizes.told; sized = λ k e f. absurd (cc) };
     waiting = h.waiting;
     arrivals = record {
-      whole = λ k e f g. subst (λ (j : ℕ). s.sent j ≡ r.taken j ++ waiting_in b) (some_is c k e) (h.arrivals.unsent c fresh ∙ sym (ap (λ (l : List (List Bool)). l ++ waiting_in b) untaken ∙ none_waits (made r s d u b) h none b refl));
+      whole = λ k e f g. subst (λ (j : ℕ). s.sent j ≡ r.taken j ++ waiting_in b) (some_is c k e) (h.arrivals.unsent c fresh ∙ sym (ap (λ (l : List (List Bool)). l ++ waiting_in b) untaken ∙ none_waits _ h none b refl));
       firsts = λ k e f g. absurd (cc);
       settled = h.arrivals.settled;
       fronts = h.arrivals.fronts;
@@ -109,7 +109,7 @@ module _ (r : Receiver) (s : Sender) (d u : List Word) (b : Box) (h : Inv (made 
     };
   } where
     over : (k : ℕ) → r.asked k ≡ true → r.over k ≡ true
-    over = all_over (made r s d u b) h none
+    over = all_over _ h none
 
     before : DownFits r.over r.asked (unless s.shut s.end) d None
     before = subst (λ (o : Option ℕ). DownFits r.over r.asked (unless s.shut s.end) d o) (ap (λ (o : Option ℕ). unless r.closed o) none ∙ unless_none r.closed) h.down
@@ -118,7 +118,7 @@ module _ (r : Receiver) (s : Sender) (d u : List Word) (b : Box) (h : Inv (made 
     ungranted u' k e = subst (λ (j : ℕ). number u' (r.granted j) ≡ 0) (some_is c k e) (h.grants.ungranted u' c fresh)
 
     untaken : r.taken c ≡ []
-    untaken = no_front (r.taken c) (subst (λ (l : List (List Bool)). IsPrefix (r.taken c) l) (h.arrivals.unsent c fresh) (h.arrivals.fronts c))
+    untaken = no_front _ (subst (λ (l : List (List Bool)). IsPrefix (r.taken c) l) (h.arrivals.unsent c fresh) (h.arrivals.fronts c))
 
   pub kept_open : (c : ℕ) → r.end ≡ Some c → is_some (r.size c) ≡ true → Inv (made (record r { opened = true }) s d u b)
   kept_open c end size = record {
@@ -140,22 +140,22 @@ module _ (r : Receiver) (s : Sender) (d u : List Word) (b : Box) (h : Inv (made 
       → Inv (made (receivers.grants c m n r) s (d ++ All c m n ∷ []) u b)
   kept_grant c m n end is_open messages bits = record {
     ends = h.ends;
-    down = down_said r.over r.asked (All c m n) (unless r.closed r.end) (unless r.closed r.end) tt (λ view e. (e ∙ last, e)) (unless s.shut s.end) d h.down;
-    still = λ k e f. no_rts_said (All c m n) d tt (h.still k e f);
+    down = down_said r.over r.asked _ _ _ tt (λ view e. (e ∙ last, e)) _ d h.down;
+    still = λ k e f. no_rts_said _ d tt (h.still k e f);
     up = h.up;
     sizes = h.sizes;
     waiting = h.waiting;
     arrivals = h.arrivals;
     account = λ u' k. (
         let a : Account u' k r s d u = h.account u' k in
-        let g : granted_in u' k (d ++ All c m n ∷ []) ≡ granted_in u' k d + (mine k c (amount u' m n) + 0) = granted_more u' k d (All c m n) in
+        let g : granted_in u' k (d ++ All c m n ∷ []) ≡ granted_in u' k d + (mine k c (amount u' m n) + 0) = granted_more u' k d _ in
         let f : number u' (for c (counters.added (r.granted c) m n) r.granted k) ≡ number u' (r.granted k) + mine k c (amount u' m n) = number_for u' k c m n r.granted in
         omega (arith, a, g, f));
     grants = record {
       left = λ u' k e. (
           let l : number u' (r.granted k) ≤ number u' r.allocation + total u' (r.taken k) + number u' (r.returned k) = h.grants.left u' k e in
           let f : number u' (for c (counters.added (r.granted c) m n) r.granted k) ≡ number u' (r.granted k) + mine k c (amount u' m n) = number_for u' k c m n r.granted in
-          let most : mine k c (amount u' m n) ≤ amount u' m n = mine_most k c (amount u' m n) in
+          let most : mine k c (amount u' m n) ≤ amount u' m n = mine_most k c _ in
           let all : number u' (counters.granted r.allocation m n) ≡ number u' r.allocation + amount u' m n = number_all u' r.allocation m n messages bits in
           omega (arith, l, f, most, all));
       unopened = λ u' k e f. absurd (unlike r.opened (opens c r is_open).0 f);
@@ -171,13 +171,13 @@ module _ (r : Receiver) (s : Sender) (d u : List Word) (b : Box) (h : Inv (made 
   pub kept_ask_back : (c m n : ℕ) → r.end ≡ Some c → receivers.is_open c r ≡ true → Inv (made r s (d ++ Gvb c m n ∷ []) u b)
   kept_ask_back c m n end is_open = record {
     ends = h.ends;
-    down = down_said r.over r.asked (Gvb c m n) (unless r.closed r.end) (unless r.closed r.end) tt (λ view e. (e ∙ last, e)) (unless s.shut s.end) d h.down;
-    still = λ k e f. no_rts_said (Gvb c m n) d tt (h.still k e f);
+    down = down_said r.over r.asked _ _ _ tt (λ view e. (e ∙ last, e)) _ d h.down;
+    still = λ k e f. no_rts_said _ d tt (h.still k e f);
     up = h.up;
     sizes = h.sizes;
     waiting = h.waiting;
     arrivals = h.arrivals;
-    account = λ u' k. (let a : Account u' k r s d u = h.account u' k in let g : granted_in u' k (d ++ Gvb c m n ∷ []) ≡ granted_in u' k d + 0 = granted_more u' k d (Gvb c m n) in omega (arith, a, g));
+    account = λ u' k. (let a : Account u' k r s d u = h.account u' k in let g : granted_in u' k (d ++ Gvb c m n ∷ []) ≡ granted_in u' k d + 0 = granted_more u' k d _ in omega (arith, a, g));
     grants = h.grants;
   } where
     last : unless r.closed r.end ≡ Some c
@@ -186,7 +186,7 @@ module _ (r : Receiver) (s : Sender) (d u : List Word) (b : Box) (h : Inv (made 
   pub kept_close : (c : ℕ) → r.end ≡ Some c → r.closed ≡ false → Inv (made (receivers.closes c r) s (d ++ Cls c ∷ []) u b)
   kept_close c end closed = record {
     ends = h.ends;
-    down = down_said r.over r.asked (Cls c) (unless r.closed r.end) None tt (λ view e. (e ∙ last_of r c end closed, refl)) (unless s.shut s.end) d h.down;
+    down = down_said r.over r.asked (Cls c) _ None tt (λ view e. (e ∙ last_of r c end closed, refl)) _ d h.down;
     still = λ k e f. no_rts_said (Cls c) d tt (h.still k e f);
     up = h.up;
     sizes = h.sizes;
@@ -269,7 +269,7 @@ module _ (r : Receiver) (s : Sender) (d rest : List Word) (b : Box) where
       heard = h.ends.heard;
       half = h.ends.half;
     };
-    down = down_more r.over (for c true r.over) r.asked (for_more c r.over) (unless s.shut s.end) d (unless r.closed r.end) h.down;
+    down = down_more r.over _ r.asked (for_more c r.over) _ d _ h.down;
     still = h.still;
     up = h.up.1;
     sizes = h.sizes;
@@ -278,7 +278,7 @@ module _ (r : Receiver) (s : Sender) (d rest : List Word) (b : Box) where
       whole = λ k e f g. h.arrivals.whole k e f (for_less c r.over k g);
       firsts = λ k e f g. h.arrivals.firsts k e f (for_less c r.over k g);
       settled = λ k e f. elim (at c true r.over k) [
-        | inl t ↦ subst (λ (j : ℕ). r.taken j ≡ s.sent j) (sym t.0) (settled_heard (made r s d (Cls c ∷ rest) b) h c h.up.0 (ap r.first (sym t.0) ∙ f))
+        | inl t ↦ subst (λ (j : ℕ). r.taken j ≡ s.sent j) (sym t.0) (settled_heard _ h c h.up.0 (ap r.first (sym t.0) ∙ f))
         | inr t ↦ h.arrivals.settled k (sym t.1 ∙ e) f
       ];
       fronts = h.arrivals.fronts;
@@ -307,7 +307,7 @@ module _ (r : Receiver) (s : Sender) (d rest : List Word) (b : Box) where
       left = λ u' k i. (
           let l : number u' (r.granted k) ≤ number u' r.allocation + total u' (r.taken k) + number u' (r.returned k) = h.grants.left u' k i in
           let f : number u' (for c (counters.added (r.returned c) m n) r.returned k) ≡ number u' (r.returned k) + mine k c (amount u' m n) = number_for u' k c m n r.returned in
-          let same : mine k c (amount u' m n) ≡ amount u' m n = mine_same k c (amount u' m n) (both_are r.end c k end i) in
+          let same : mine k c (amount u' m n) ≡ amount u' m n = mine_same k c _ (both_are r.end c k end i) in
           let less : number u' (record { messages = r.allocation.messages - m; bits = r.allocation.bits - n }) + amount u' m n ≡ number u' r.allocation
           = number_less u' r.allocation m n (and_parts (receivers.is_open c r) (holds r.allocation m n) e).1 in
           omega (arith, l, f, same, less));
@@ -330,17 +330,17 @@ module _ (r : Receiver) (s : Sender) (d rest : List Word) (b : Box) where
   pub returned_to : (c m n : ℕ) → Inv (made r s d (Ret c m n ∷ rest) b) → r.end ≡ Some c
   returned_to c m n h = elim (h.ends.known c h.up.1) [
     | inl e ↦ e
-    | inr o ↦ absurd (unlike (r.over c) o h.up.0)
+    | inr o ↦ absurd (unlike _ o h.up.0)
   ]
 
   pub kept_ret : (c m n : ℕ) → Inv (made r s d (Ret c m n ∷ rest) b) → Inv (made (receivers.takes_back m n r.end r) s d rest b)
   kept_ret c m n h =
-      subst (λ (o : Option ℕ). Inv (made (receivers.takes_back m n o r) s d rest b)) (sym (returned_to c m n h)) (taken_back c m n (returned_to c m n h) h (receivers.is_open c r && holds r.allocation m n) refl)
+      subst (λ (o : Option ℕ). Inv (made (receivers.takes_back m n o r) s d rest b)) (sym (returned_to c m n h)) (taken_back c m n (returned_to c m n h) h _ refl)
 
 -- it takes data
 module _ (r : Receiver) (s : Sender) (d u : List Word) (c z : ℕ) (bits : List Bool) (h : Inv (made r s d u (Waiting c z bits))) where
   end_is : r.end ≡ Some c
-  end_is = waits_of (made r s d u (Waiting c z bits)) h c z bits refl
+  end_is = waits_of _ h c z bits refl
 
   came_one : (k : ℕ) → length (s.sent k) ≡ for c (suc (r.came c)) r.came k + 0
   came_one k = by (k == c) refl (h.arrivals.came k) where
@@ -376,7 +376,7 @@ module _ (r : Receiver) (s : Sender) (d u : List Word) (c z : ℕ) (bits : List 
       left = λ u' k i. (
           let l : number u' (r.granted k) ≤ number u' r.allocation + total u' (r.taken k) + number u' (r.returned k) = h.grants.left u' k i in
           let f : total u' (for c (r.taken c ++ bits ∷ []) r.taken k) ≡ total u' (r.taken k) + mine k c (cost u' bits) = total_for u' k c bits r.taken in
-          let own : mine k c (cost u' bits) ≡ cost u' bits = mine_same k c (cost u' bits) (both_are r.end c k end_is i) in
+          let own : mine k c (cost u' bits) ≡ cost u' bits = mine_same k c _ (both_are r.end c k end_is i) in
           let less : number u' (counters.spent r.allocation (length bits)) + cost u' bits ≡ number u' r.allocation = number_spent u' r.allocation bits covered in
           omega (arith, l, f, own, less));
       unopened = h.grants.unopened;
@@ -393,7 +393,7 @@ module _ (r : Receiver) (s : Sender) (d u : List Word) (c z : ℕ) (bits : List 
     opened = opens c r (and_parts (receivers.is_open c r) (is_size z (r.size c)) fits.0).0
 
     same : (k : ℕ) → k ≡ c → s.sent k ≡ for c (r.taken c ++ bits ∷ []) r.taken k
-    same k e = subst (λ (j : ℕ). s.sent j ≡ for c (r.taken c ++ bits ∷ []) r.taken j) (sym e) (h.arrivals.whole c end_is opened.1 opened.2 ∙ sym (for_here c (r.taken c ++ bits ∷ []) r.taken))
+    same k e = subst (λ (j : ℕ). s.sent j ≡ for c (r.taken c ++ bits ∷ []) r.taken j) (sym e) (h.arrivals.whole c end_is opened.1 opened.2 ∙ sym (for_here c _ r.taken))
   taken_if false e = record {
     ends = h.ends;
     down = h.down;
@@ -403,7 +403,7 @@ module _ (r : Receiver) (s : Sender) (d u : List Word) (c z : ℕ) (bits : List 
     waiting = tt;
     arrivals = record {
       whole = λ k i f g. absurd (unlike (receivers.is_open c r && is_size z (r.size c) && covers r.allocation (length bits))
-          (acceptable (made r s d u (Waiting c z bits)) h c z bits refl f (ap r.over (sym (both_are r.end c k end_is i)) ∙ g)) e);
+          (acceptable _ h c z bits refl f (ap r.over (sym (both_are r.end c k end_is i)) ∙ g)) e);
       firsts = h.arrivals.firsts;
       settled = h.arrivals.settled;
       fronts = h.arrivals.fronts;
@@ -416,4 +416,4 @@ module _ (r : Receiver) (s : Sender) (d u : List Word) (c z : ℕ) (bits : List 
 
   pub kept_take : Inv (made (receivers.moved (receivers.Take z bits) r) s d u Taken)
   kept_take =
-      subst (λ (o : Option ℕ). Inv (made (record (receivers.takes z bits o r) { came = receivers.one_more o r.came }) s d u Taken)) (sym end_is) (taken_if (receivers.is_open c r && is_size z (r.size c) && covers r.allocation (length bits)) refl)
+      subst (λ (o : Option ℕ). Inv (made (record (receivers.takes z bits o r) { came = receivers.one_more o r.came }) s d u Taken)) (sym end_is) (taken_if _ refl)

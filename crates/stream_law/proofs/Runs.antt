@@ -88,7 +88,7 @@ kept (Sends senders.Told) x m h =
 
 pub inv_run : (events : List Event) → IsRun events → Inv (stream events)
 inv_run [] run = inv_opening
-inv_run (e ∷ events) run = kept e (stream events) run.0 (inv_run events run.1)
+inv_run (e ∷ events) run = kept e _ run.0 (inv_run events run.1)
 
 -- ---- the law
 
@@ -106,12 +106,12 @@ pub safe_inv : (x : Stream) → Inv x → (c : ℕ) → IsSafe x c
 safe_inv x h c = record {
   front = h.arrivals.fronts c;
   whole = h.arrivals.settled c;
-  taken = granted_as x h c (x.receiver.taken c) (λ u. total_front u (x.receiver.taken c) (x.sender.sent c) (h.arrivals.fronts c));
-  sent = granted_as x h c (x.sender.sent c) (λ u. omega arith);
+  taken = granted_as x h c _ (λ u. total_front u _ _ (h.arrivals.fronts c));
+  sent = granted_as x h c _ (λ u. omega arith);
 }
 
 pub safe_run : (events : List Event) (c : ℕ) → IsRun events → IsSafe (stream events) c
-safe_run events c run = safe_inv (stream events) (inv_run events run) c
+safe_run events c run = safe_inv _ (inv_run events run) c
 
 pub fresh_run : (x : Stream) → Inv x → x.receiver.end ≡ None → NothingLeft x
 fresh_run x h none = record {
@@ -125,7 +125,7 @@ pub accepted_run : (x : Stream) → Inv x → (c z : ℕ) (bits : List Bool) →
 accepted_run x h c z bits there end closed over =
     subst (λ (o : Option ℕ). (receivers.takes z bits o x.receiver).taken c ≡ x.receiver.taken c ++ bits ∷ []) (sym end)
     (let good : (receivers.is_open c x.receiver && is_size z (x.receiver.size c) && covers x.receiver.allocation (length bits)) ≡ true = acceptable x h c z bits here closed over in
-    rw good (for_here c (x.receiver.taken c ++ bits ∷ []) x.receiver.taken)) where
+    rw good (for_here c _ x.receiver.taken)) where
       same : there.0 ≡ c
       same = same_end (sym (waits_of x h there.0 z bits there.1) ∙ end) where
         same_end : Some there.0 ≡ Some c → there.0 ≡ c

@@ -41,7 +41,7 @@ goes_by false own k e = (some_is own k e, refl)
 goes_some : (c : ℕ) (v : Bool) (o : Option ℕ) (k : ℕ) → senders.goes c v o ≡ Some k → (o ≡ Some k) × ((k == c && v) ≡ false)
 goes_some c v None k e = absurd (cc)
 goes_some c v (Some own) k e =
-    let t : (own ≡ k) × ((own == c && v) ≡ false) = goes_by (own == c && v) own k e in
+    let t : (own ≡ k) × ((own == c && v) ≡ false) = goes_by _ own k e in
     (ap (λ (n : ℕ). Some n) t.0, subst (λ (n : ℕ). (n == c && v) ≡ false) t.0 t.1)
 
 pub goes_other : (c : ℕ) (v : Bool) (o : Option ℕ) (k : ℕ) → k ≢ c → o ≡ Some k → senders.goes c v o ≡ Some k
@@ -61,14 +61,14 @@ held_by false u k own a = omega arith
 
 held_goes : (u : Counter) (k c : ℕ) (v : Bool) (o : Option ℕ) (a : Allocation) → held u k (senders.goes c v o) a ≤ held u k o a
 held_goes u k c v None a = omega arith
-held_goes u k c v (Some own) a = held_by (own == c && v) u k own a
+held_goes u k c v (Some own) a = held_by _ u k own a
 
 none_by : (v : Bool) → (if v then 0 else 0) ≤ 0
 none_by true = omega arith
 none_by false = omega arith
 
 none_mine : (k c : ℕ) → mine k c 0 ≤ 0
-none_mine k c = none_by (k == c)
+none_mine k c = none_by _
 
 -- ---- what waits
 
@@ -99,7 +99,7 @@ waits_begun s t Taken none w = tt
 
 waits_over : (s t : Sender) (c : ℕ) (b : Box) → s.end ≡ Some c → s.closed c ≡ true → Waits s b → Waits t b
 waits_over s t c Empty end closed w = tt
-waits_over s t c (Waiting k y bits) end closed w = absurd (unlike (s.closed k) (ap s.closed (both_are s.end c k end w.0) ∙ closed) w.2)
+waits_over s t c (Waiting k y bits) end closed w = absurd (unlike _ (ap s.closed (both_are s.end c k end w.0) ∙ closed) w.2)
 waits_over s t c Taken end closed w = tt
 
 module _ (r : Receiver) (s : Sender) (d u : List Word) (b : Box) (h : Inv (made r s d u b)) where
@@ -108,12 +108,12 @@ module _ (r : Receiver) (s : Sender) (d u : List Word) (b : Box) (h : Inv (made 
     ends = h.ends;
     down = h.down;
     still = h.still;
-    up = up_said r.asked s.closed (for c (Some z) s.size) (Str c z) (λ over f. (for_here c (Some z) s.size, tt)) r.over u h.ends.passed
-        (up_more r.asked s.closed r.asked s.closed s.size (for c (Some z) s.size) (λ k e. e) (λ k e. e) (size_more c z s.size none) r.over u h.up);
+    up = up_said r.asked s.closed _ _ (λ over f. (for_here c _ s.size, tt)) r.over u h.ends.passed
+        (up_more r.asked s.closed r.asked s.closed s.size _ (λ k e. e) (λ k e. e) (size_more c z s.size none) r.over u h.up);
     sizes = record { told = λ k y e. size_more c z s.size none k y (h.sizes.told k y e); sized = h.sizes.sized };
     waiting = waits_sized s c z none b h.waiting;
     arrivals = h.arrivals;
-    account = λ u' k. (let a : Account u' k r s d u = h.account u' k in let g : returned_in u' k (u ++ Str c z ∷ []) ≡ returned_in u' k u + 0 = returned_more u' k u (Str c z) in omega (arith, a, g));
+    account = λ u' k. (let a : Account u' k r s d u = h.account u' k in let g : returned_in u' k (u ++ Str c z ∷ []) ≡ returned_in u' k u + 0 = returned_more u' k u _ in omega (arith, a, g));
     grants = h.grants;
   }
 
@@ -142,21 +142,21 @@ module _ (r : Receiver) (s : Sender) (d u : List Word) (b : Box) (h : Inv (made 
         | inl t ↦ (
             let gone : (k == c && s.shut) ≡ false = (goes_some c s.shut s.end k e).1 in
             let there : (k == c && s.shut) ≡ true = (let same : (k == c) ≡ true = eq-eqb k c t.0 in rw (same, f) refl) in
-            absurd (unlike (k == c && s.shut) there gone))
+            absurd (unlike _ there gone))
         | inr t ↦ (t.1 ∙ h.ends.half k (goes_some c s.shut s.end k e).0 f)
       ];
     };
     down = subst (λ (o : Option ℕ). DownFits r.over r.asked o d (unless r.closed r.end)) (sym (view_same c s.shut s.end)) h.down;
     still = λ k e f. h.still k (goes_some c s.shut s.end k e).0 (for_less c s.closed k f);
-    up = up_said r.asked (for c true s.closed) s.size (Cls c) (λ over f. (for_here c true s.closed, tt)) r.over u passed
-        (up_more r.asked s.closed r.asked (for c true s.closed) s.size s.size (λ k e. e) (for_more c s.closed) (λ k y e. e) r.over u h.up);
+    up = up_said r.asked _ s.size (Cls c) (λ over f. (for_here c true s.closed, tt)) r.over u passed
+        (up_more r.asked s.closed r.asked _ s.size s.size (λ k e. e) (for_more c s.closed) (λ k y e. e) r.over u h.up);
     sizes = h.sizes;
     waiting = waits_closed s c b drained h.waiting;
     arrivals = h.arrivals;
     account = λ u' k. (
         let a : Account u' k r s d u = h.account u' k in
         let g : returned_in u' k (u ++ Cls c ∷ []) ≡ returned_in u' k u + 0 = returned_more u' k u (Cls c) in
-        let l : held u' k (senders.goes c s.shut s.end) s.allocation ≤ held u' k s.end s.allocation = held_goes u' k c s.shut s.end s.allocation in
+        let l : held u' k _ s.allocation ≤ held u' k s.end s.allocation = held_goes u' k c s.shut s.end s.allocation in
         omega (arith, a, g, l));
     grants = h.grants;
   } where
@@ -185,7 +185,7 @@ module _ (r : Receiver) (s : Sender) (d u : List Word) (h : Inv (made r s d u Em
         | inr t ↦ (h.arrivals.settled k e f ∙ sym t.1)
       ];
       fronts = λ k. elim (at c (s.sent c ++ bits ∷ []) s.sent k) [
-        | inl t ↦ subst (λ (l : List (List Bool)). IsPrefix (r.taken k) l) (ap (λ (j : ℕ). s.sent j ++ bits ∷ []) t.0 ∙ sym t.1) (front_more (r.taken k) (s.sent k) bits (h.arrivals.fronts k))
+        | inl t ↦ subst (λ (l : List (List Bool)). IsPrefix (r.taken k) l) (ap (λ (j : ℕ). s.sent j ++ bits ∷ []) t.0 ∙ sym t.1) (front_more _ _ bits (h.arrivals.fronts k))
         | inr t ↦ subst (λ (l : List (List Bool)). IsPrefix (r.taken k) l) (sym t.1) (h.arrivals.fronts k)
       ];
       unsent = λ k e. elim (at c (s.sent c ++ bits ∷ []) s.sent k) [
@@ -198,9 +198,9 @@ module _ (r : Receiver) (s : Sender) (d u : List Word) (h : Inv (made r s d u Em
         let a : Account u' k r s d u = h.account u' k in
         let f : total u' (for c (s.sent c ++ bits ∷ []) s.sent k) ≡ total u' (s.sent k) + mine k c (cost u' bits) = total_for u' k c bits s.sent in
         let before : held u' k s.end s.allocation ≡ mine k c (number u' s.allocation) = held_is u' k c s.end s.allocation end in
-        let after : held u' k s.end (counters.spent s.allocation (length bits)) ≡ mine k c (number u' (counters.spent s.allocation (length bits))) = held_is u' k c s.end (counters.spent s.allocation (length bits)) end in
+        let after : held u' k s.end (counters.spent s.allocation (length bits)) ≡ mine k c (number u' (counters.spent s.allocation (length bits))) = held_is u' k c s.end _ end in
         let less : mine k c (number u' (counters.spent s.allocation (length bits))) + mine k c (cost u' bits) ≡ mine k c (number u' s.allocation)
-        = mine_add k c (number u' (counters.spent s.allocation (length bits))) (cost u' bits) (number u' s.allocation) (number_spent u' s.allocation bits covered) in
+        = mine_add k c _ _ _ (number_spent u' s.allocation bits covered) in
         omega (arith, a, f, before, after, less));
     grants = h.grants;
   } where
@@ -218,7 +218,7 @@ module _ (r : Receiver) (s : Sender) (d u : List Word) (h : Inv (made r s d u Em
     not_closed = (opens c s is_open).2
 
     there : r.end ≡ Some c
-    there = sole (made r s d u Empty) h c (h.ends.heard c end) not_closed
+    there = sole _ h c (h.ends.heard c end) not_closed
 
 -- it is notified that its message was taken
 pub kept_told : (r : Receiver) (s : Sender) (d u : List Word) → Inv (made r s d u Taken) → Inv (made r s d u Empty)
@@ -265,7 +265,7 @@ module _ (r : Receiver) (s : Sender) (rest u : List Word) (b : Box) where
     down = h.down.3;
     still = λ k e f. elim h.down.2 [
       | inl n ↦ n
-      | inr o ↦ absurd (unlike (s.closed c) (h.ends.passed c o) (ap s.closed (some_is c k e) ∙ f))
+      | inr o ↦ absurd (unlike _ (h.ends.passed c o) (ap s.closed (some_is c k e) ∙ f))
     ];
     up = h.up;
     sizes = h.sizes;
@@ -281,7 +281,7 @@ module _ (r : Receiver) (s : Sender) (rest u : List Word) (b : Box) where
 
   pub kept_rts : (c : ℕ) → Inv (made r s (Rts c ∷ rest) u b) → Inv (made r (senders.begins c s.end s) rest u b)
   kept_rts c h =
-      let none : s.end ≡ None = link_free (made r s (Rts c ∷ rest) u b) c rest h refl in
+      let none : s.end ≡ None = link_free _ c rest h refl in
       subst (λ (o : Option ℕ). Inv (made r (senders.begins c o s) rest u b)) (sym none) (begun c none h)
 
   pub granted_to : (c m n : ℕ) → Inv (made r s (All c m n ∷ rest) u b) → s.end ≡ Some c
@@ -289,21 +289,21 @@ module _ (r : Receiver) (s : Sender) (rest u : List Word) (b : Box) where
 
   granted_if : (c m n : ℕ) → s.end ≡ Some c → Inv (made r s (All c m n ∷ rest) u b) → (v : Bool) → Inv (made r (if v then record s { allocation = counters.granted s.allocation m n } else s) rest u b)
   granted_if c m n end h true =
-      reallocated r s (All c m n ∷ rest) u b h (counters.granted s.allocation m n) rest u h.down.1 (λ q. q) h.up (λ u' k. (
+      reallocated r s _ u b h _ rest u h.down.1 (λ q. q) h.up (λ u' k. (
       let a : Account u' k r s (All c m n ∷ rest) u = h.account u' k in
       let before : held u' k s.end s.allocation ≡ mine k c (number u' s.allocation) = held_is u' k c s.end s.allocation end in
-      let after : held u' k s.end (counters.granted s.allocation m n) ≡ mine k c (number u' (counters.granted s.allocation m n)) = held_is u' k c s.end (counters.granted s.allocation m n) end in
+      let after : held u' k s.end (counters.granted s.allocation m n) ≡ mine k c (number u' (counters.granted s.allocation m n)) = held_is u' k c s.end _ end in
       let more : mine k c (number u' (counters.granted s.allocation m n)) ≤ mine k c (number u' s.allocation) + mine k c (amount u' m n)
-      = mine_within k c (number u' (counters.granted s.allocation m n)) (number u' s.allocation) (amount u' m n) (number_granted u' s.allocation m n) in
+      = mine_within k c _ _ _ (number_granted u' s.allocation m n) in
       omega (arith, a, before, after, more)))
   granted_if c m n end h false =
-      reallocated r s (All c m n ∷ rest) u b h s.allocation rest u h.down.1 (λ q. q) h.up
+      reallocated r s _ u b h s.allocation rest u h.down.1 (λ q. q) h.up
       (λ u' k. (let a : Account u' k r s (All c m n ∷ rest) u = h.account u' k in omega (arith, a)))
 
   pub kept_all : (c m n : ℕ) → Inv (made r s (All c m n ∷ rest) u b) → Inv (made r (senders.with_allocation s.end (λ a. counters.granted a m n) s) rest u b)
   kept_all c m n h =
       let end : s.end ≡ Some c = granted_to c m n h in
-      subst (λ (o : Option ℕ). Inv (made r (senders.with_allocation o (λ a. counters.granted a m n) s) rest u b)) (sym end) (granted_if c m n end h (senders.is_open c s))
+      subst (λ (o : Option ℕ). Inv (made r (senders.with_allocation o (λ a. counters.granted a m n) s) rest u b)) (sym end) (granted_if c m n end h _)
 
   pub asked_of : (c m n : ℕ) → Inv (made r s (Gvb c m n ∷ rest) u b) → s.end ≡ Some c
   asked_of c m n h = (unless_some s.shut s.end c h.down.0).0
@@ -311,13 +311,13 @@ module _ (r : Receiver) (s : Sender) (rest u : List Word) (b : Box) where
   returned_if : (c m n : ℕ) → s.end ≡ Some c → Inv (made r s (Gvb c m n ∷ rest) u b) → (v : Bool) → senders.is_open c s ≡ v
       → Inv (made r (if v then record s { allocation = counters.given_back s.allocation m n } else s) rest (word_queued (if v then Some (Ret c (counters.share s.allocation.messages m) (counters.share s.allocation.bits n)) else None) u) b)
   returned_if c m n end h true e =
-      reallocated r s (Gvb c m n ∷ rest) u b h (counters.given_back s.allocation m n) rest (u ++ share ∷ []) h.down.1 (λ q. q)
+      reallocated r s _ u b h _ rest _ h.down.1 (λ q. q)
       (up_said r.asked s.closed s.size share (λ over f. (never_over over f, h.ends.heard c end, tt)) r.over u h.ends.passed h.up) (λ u' k. (
       let a : Account u' k r s (Gvb c m n ∷ rest) u = h.account u' k in
       let before : held u' k s.end s.allocation ≡ mine k c (number u' s.allocation) = held_is u' k c s.end s.allocation end in
-      let after : held u' k s.end (counters.given_back s.allocation m n) ≡ mine k c (number u' (counters.given_back s.allocation m n)) = held_is u' k c s.end (counters.given_back s.allocation m n) end in
+      let after : held u' k s.end (counters.given_back s.allocation m n) ≡ mine k c (number u' (counters.given_back s.allocation m n)) = held_is u' k c s.end _ end in
       let less : mine k c (number u' (counters.given_back s.allocation m n)) + mine k c (amount u' (counters.share s.allocation.messages m) (counters.share s.allocation.bits n)) ≡ mine k c (number u' s.allocation)
-      = mine_add k c (number u' (counters.given_back s.allocation m n)) (amount u' (counters.share s.allocation.messages m) (counters.share s.allocation.bits n)) (number u' s.allocation) (number_back u' s.allocation m n) in
+      = mine_add k c _ _ _ (number_back u' s.allocation m n) in
       let g : returned_in u' k (u ++ share ∷ [])
       ≡ returned_in u' k u + (mine k c (amount u' (counters.share s.allocation.messages m) (counters.share s.allocation.bits n)) + 0)
       = returned_more u' k u share in
@@ -326,15 +326,15 @@ module _ (r : Receiver) (s : Sender) (rest u : List Word) (b : Box) where
         share = Ret c (counters.share s.allocation.messages m) (counters.share s.allocation.bits n)
 
         never_over : (over : ℕ → Bool) → ((k : ℕ) → over k ≡ true → s.closed k ≡ true) → over c ≡ false
-        never_over over f = false_from_ne_true (over c) (λ o. unlike (s.closed c) (f c o) (opens c s e).2)
-  returned_if c m n end h false e = reallocated r s (Gvb c m n ∷ rest) u b h s.allocation rest u h.down.1 (λ q. q) h.up h.account
+        never_over over f = false_from_ne_true (over c) (λ o. unlike _ (f c o) (opens c s e).2)
+  returned_if c m n end h false e = reallocated r s _ u b h s.allocation rest u h.down.1 (λ q. q) h.up h.account
 
   pub kept_gvb : (c m n : ℕ) → Inv (made r s (Gvb c m n ∷ rest) u b)
       → Inv (made r (senders.with_allocation s.end (λ a. counters.given_back a m n) s) rest (word_queued (senders.returns m n s.end s) u) b)
   kept_gvb c m n h =
       let end : s.end ≡ Some c = asked_of c m n h in
       subst (λ (o : Option ℕ). Inv (made r (senders.with_allocation o (λ a. counters.given_back a m n) s) rest (word_queued (senders.returns m n o s) u) b)) (sym end)
-      (returned_if c m n end h (senders.is_open c s) refl)
+      (returned_if c m n end h _ refl)
 
   shut_if : (c : ℕ) → s.end ≡ Some c → s.shut ≡ false → Inv (made r s (Cls c ∷ rest) u b) → (v : Bool) → s.closed c ≡ v → Inv (made r (if v then record s { end = None } else record s { shut = true }) rest u b)
   shut_if c end shut h true closed = record {
@@ -376,4 +376,4 @@ module _ (r : Receiver) (s : Sender) (rest u : List Word) (b : Box) where
   kept_cls c h =
       let view : (s.end ≡ Some c) × (s.shut ≡ false) = unless_some s.shut s.end c h.down.0 in
       subst (λ (o : Option ℕ). Inv (made r (senders.shuts c o s) rest u b)) (sym view.0)
-      (subst (λ (v : Bool). Inv (made r (if v then (if s.closed c then record s { end = None } else record s { shut = true }) else s) rest u b)) (sym (eq-eqb c c refl)) (shut_if c view.0 view.1 h (s.closed c) refl))
+      (subst (λ (v : Bool). Inv (made r (if v then (if s.closed c then record s { end = None } else record s { shut = true }) else s) rest u b)) (sym (eq-eqb c c refl)) (shut_if c view.0 view.1 h _ refl))

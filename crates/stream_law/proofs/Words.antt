@@ -56,7 +56,7 @@ pub down_said : (over asked : ℕ → Bool) (x : Word) (last next : Option ℕ) 
 down_said over asked x last next q f view [] d = f view d
 down_said over asked x last next q f view (Rts c ∷ w) d =
     let third : NoRts (w ++ x ∷ []) ⊎ (over c ≡ true) = elim d.2 [ inl n ↦ inl (no_rts_said x w q n) | inr o ↦ inr o ] in
-    (d.0, d.1, third, down_said over asked x last next q f (Some c) w d.3)
+    (d.0, d.1, third, down_said over asked x last next q f _ w d.3)
 down_said over asked x last next q f view (All c m b ∷ w) d = (d.0, down_said over asked x last next q f view w d.1)
 down_said over asked x last next q f view (Gvb c m b ∷ w) d = (d.0, down_said over asked x last next q f view w d.1)
 down_said over asked x last next q f view (Cls c ∷ w) d = (d.0, down_said over asked x last next q f None w d.1)
@@ -109,7 +109,7 @@ up_said asked closed size x f over (other ∷ w) g u = absurd u
 pub none_returned : (asked closed : ℕ → Bool) (size : ℕ → Option ℕ) (over : ℕ → Bool) (w : List Word) → ((k : ℕ) → asked k ≡ true → over k ≡ true) → UpFits over asked closed size w → NoneReturned w
 none_returned asked closed size over [] f u = tt
 none_returned asked closed size over (Str c z ∷ w) f u = none_returned asked closed size over w f u.1
-none_returned asked closed size over (Ret c m b ∷ w) f u = unlike (over c) (f c u.1) u.0
+none_returned asked closed size over (Ret c m b ∷ w) f u = unlike _ (f c u.1) u.0
 none_returned asked closed size over (Cls c ∷ w) f u =
     none_returned asked closed size (for c true over) w (λ k a. elim (at c true over k) [ inl t ↦ t.1 | inr t ↦ (t.1 ∙ f k a) ]) u.1
 none_returned asked closed size over (other ∷ w) f u = absurd u
