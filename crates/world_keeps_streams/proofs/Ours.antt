@@ -14,7 +14,7 @@ pub held : (a : Host) (k : ℕ) (hosts : Network) → HaveAddresses hosts.all �
     → Holds a k (program a moments) (kept_in moments)
 held a k hosts addresses plain [] run time = opening_holds a k opening_kept tt
 held a k hosts addresses plain (x ∷ moments) run time =
-    own_moment hosts addresses a plain k x moments (kept_in moments) run time (ordered hosts addresses a plain moments (mail_below hosts.all x moments run) time.1)
+    own_moment hosts addresses a plain k x moments _ run time (ordered hosts addresses a plain moments (mail_below hosts.all x moments run) time.1)
     (fit hosts addresses a plain moments (mail_below hosts.all x moments run) time.1) (idle hosts addresses a plain moments (mail_below hosts.all x moments run) time.1)
     (held a k hosts addresses plain moments (mail_below hosts.all x moments run) time.1)
 
@@ -33,7 +33,7 @@ module _ (hosts : Network) (moments : List Moment) (addresses : HaveAddresses ho
     tied : AllTied hosts (origin_in (crossings_of moments)) moments
     tied =
         let c : Coupled hosts moments = coupled hosts addresses moments run time in
-        all_tied hosts (origin_in (crossings_of moments)) moments (are_origins 0 (crossings_of moments) [] moments refl) c.story c.run (served_in hosts moments time)
+        all_tied hosts _ moments (are_origins 0 _ [] moments refl) c.story c.run (served_in hosts moments time)
 
 -- a life of two such hosts
 pub ours_of : (hosts : Network) (x : Life) (a b : Host) → AreOurs hosts a b → (x.host ≡ a) × (x.peer ≡ b)

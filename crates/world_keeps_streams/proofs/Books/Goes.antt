@@ -29,7 +29,7 @@ since_new a b y ms new = ap (λ (v : Bool). if v then length (lives_in ms) else 
 
 pub since_bound : (a b : Host) (ms : List Moment) → since a b ms ≤ length (lives_in ms)
 since_bound a b [] = omega arith
-since_bound a b (y ∷ ms) = by (stay.begins a b (event_in y) (events_of ms)) (since_bound a b ms) (grown_length (lives_in ms) (lives_in (y ∷ ms)) (grown y ms)) where
+since_bound a b (y ∷ ms) = by (stay.begins a b (event_in y) (events_of ms)) (since_bound a b ms) (grown_length _ _ (grown y ms)) where
   by : (v : Bool) → since a b ms ≤ length (lives_in ms) → length (lives_in ms) ≤ length (lives_in (y ∷ ms)) → (if v then length (lives_in ms) else since a b ms) ≤ length (lives_in (y ∷ ms))
   by true older longer = longer
   by false older longer = omega (arith, longer, older)
@@ -81,7 +81,7 @@ module _ (a b : Host) (Own Heard : List Moment → ℕ → ℕ → ℕ → ℕ �
       → ((x : Life) → IsOf x (present_in a b ms) → x.host ≡ a → x.peer ≡ b → receives x ≡ true → PresentR a b Own Heard ms j x)
       → (x : Life) → IsOf x (present_in a b (y ∷ ms)) → x.host ≡ a → x.peer ≡ b → receives x ≡ true → PresentR a b Own Heard (y ∷ ms) k x
   left_r off away receiving x i f g q =
-      let w : Was a b (since a b ms) (lives_in ms) x = was_there a b (since a b ms) (lives_in ms) (lives_in (y ∷ ms)) (since_bound a b ms) away x (now_in x i) f g in
+      let w : Was a b (since a b ms) (lives_in ms) x = was_there a b _ _ _ (since_bound a b ms) away x (now_in x i) f g in
       let kind : receives w.life ≡ true = ap receives (sym w.is) ∙ q in
       subst (λ (v : Life). PresentR a b Own Heard (y ∷ ms) k v) (sym w.is) (leaving_r w.life off (receiving w.life w.there w.host w.peer kind))
 
@@ -89,14 +89,14 @@ module _ (a b : Host) (Own Heard : List Moment → ℕ → ℕ → ℕ → ℕ �
       → ((s : Life) → IsOf s (present_in a b ms) → s.host ≡ b → s.peer ≡ a → sends s ≡ true → PresentS a b Own Heard ms j s)
       → (s : Life) → IsOf s (present_in a b (y ∷ ms)) → s.host ≡ b → s.peer ≡ a → sends s ≡ true → PresentS a b Own Heard (y ∷ ms) k s
   left_s off away sending x i f g q =
-      let w : Was b a (since a b ms) (lives_in ms) x = was_there b a (since a b ms) (lives_in ms) (lives_in (y ∷ ms)) (since_bound a b ms) away x (now_in x i) f g in
+      let w : Was b a (since a b ms) (lives_in ms) x = was_there b a _ _ _ (since_bound a b ms) away x (now_in x i) f g in
       let kind : sends w.life ≡ true = ap sends (sym w.is) ∙ q in
-      subst (λ (v : Life). PresentS a b Own Heard (y ∷ ms) k v) (sym w.is) (leaving_s w.life (of_drop (since a b ms) w.life (lives_in ms) w.there) w.host w.peer off (sending w.life w.there w.host w.peer kind))
+      subst (λ (v : Life). PresentS a b Own Heard (y ∷ ms) k v) (sym w.is) (leaving_s w.life (of_drop _ w.life _ w.there) w.host w.peer off (sending w.life w.there w.host w.peer kind))
 
   pub left_has_r : stay.stays a b (events_of (y ∷ ms)) ≡ false → Away a b (lives_in ms) (lives_in (y ∷ ms)) → (n c : ℕ) → HasR a b Own Heard ms j n c → HasR a b Own Heard (y ∷ ms) k n c
   left_has_r off away n c h = record {
     life = life_ended h.life;
-    there = in_now (life_ended h.life) (still_there a b (since a b ms) (lives_in ms) (lives_in (y ∷ ms)) (since_bound a b ms) away h.life h.there h.host h.peer);
+    there = in_now _ (still_there a b _ _ _ (since_bound a b ms) away h.life h.there h.host h.peer);
     host = h.host;
     peer = h.peer;
     kind = h.kind;
@@ -108,11 +108,11 @@ module _ (a b : Host) (Own Heard : List Moment → ℕ → ℕ → ℕ → ℕ �
   pub left_has_s : stay.stays b a (events_of (y ∷ ms)) ≡ false → Away b a (lives_in ms) (lives_in (y ∷ ms)) → (n c : ℕ) → HasS a b Own Heard ms j n c → HasS a b Own Heard (y ∷ ms) k n c
   left_has_s off away n c h = record {
     life = life_ended h.life;
-    there = in_now (life_ended h.life) (still_there b a (since a b ms) (lives_in ms) (lives_in (y ∷ ms)) (since_bound a b ms) away h.life h.there h.host h.peer);
+    there = in_now _ (still_there b a _ _ _ (since_bound a b ms) away h.life h.there h.host h.peer);
     host = h.host;
     peer = h.peer;
     kind = h.kind;
-    is = leaving_s h.life (of_drop (since a b ms) h.life (lives_in ms) h.there) h.host h.peer off h.is;
+    is = leaving_s h.life (of_drop _ h.life _ h.there) h.host h.peer off h.is;
     link = h.link;
     name = h.name;
   }

@@ -37,7 +37,7 @@ pub before_later : (xs ys : List Crossing) (place : ℕ) → place ≤ length ys
 before_later [] ys place less = refl
 before_later (x ∷ xs) ys place less =
     let more : length (xs ++ ys) ≡ length xs + length ys = length-append xs ys in
-    before_still place x (xs ++ ys) (omega (arith, less, more)) ∙ before_later xs ys place less
+    before_still place x _ (omega (arith, less, more)) ∙ before_later xs ys place less
 
 pub before_end : (xs ys : List Crossing) → before (length ys) (xs ++ ys) ≡ ys
 before_end xs ys =
@@ -103,7 +103,7 @@ last_since f m [] ys same none = let here : same_flow f m.flow ≡ true =
     subst (λ (h : Flow). same_flow f h ≡ true) same (same_flow-refl f) in rw here refl
 last_since f m (crossing.Out n ∷ since) ys same none =
     let off : (same_flow f n.flow ≡ false) × (went_out f since ≡ false) =
-    or_false (same_flow f n.flow) (went_out f since) none in
+    or_false (same_flow f n.flow) _ none in
     rw off.0 (last_since f m since ys same off.1)
 last_since f m (crossing.In n ∷ since) ys same none = last_since f m since ys same none
 last_since f m (crossing.Answer kind g ∷ since) ys same none = last_since f m since ys same none
@@ -115,7 +115,7 @@ pub none_out : (f : Flow) (xs ys : List Crossing) → went_out f xs ≡ false �
 none_out f [] ys a b = b
 none_out f (crossing.Out n ∷ xs) ys a b =
     let off : (same_flow f n.flow ≡ false) × (went_out f xs ≡ false) =
-    or_false (same_flow f n.flow) (went_out f xs) a in
+    or_false (same_flow f n.flow) _ a in
     rw off.0 (none_out f xs ys off.1 b)
 none_out f (crossing.In n ∷ xs) ys a b = none_out f xs ys a b
 none_out f (crossing.Answer kind g ∷ xs) ys a b = none_out f xs ys a b

@@ -73,7 +73,7 @@ WasTold k s t = ((x : Life) × IsBeside x t k.book.lives k.handed × Named x s) 
 was_where : (k : Kept) (test : Life → Bool) (f : Life → Life) (s : Life) (t : List Bool) → ((z : Life) → Named z (f z)) → IsBeside s t (where_it test f k.book.lives) k.handed → WasTold k s t
 was_where k test f s t names i =
     let w : (x : Life) × IsBeside x t k.book.lives k.handed × (s ≡ changed_when (test x) f x) = was_life test f k.book.lives k.handed s t i in
-    inl (w.0, w.1, named_to w.0 (changed_when (test w.0) f w.0) s (sym w.2) (named_when (test w.0) f w.0 names)) where
+    inl (w.0, w.1, named_to w.0 _ s (sym w.2) (named_when _ f w.0 names)) where
       named_to : (x y z : Life) → y ≡ z → Named x y → Named x z
       named_to x y z e n = record {
         host = ap (λ (v : Life). v.host) (sym e) ∙ n.host;

@@ -191,9 +191,9 @@ module _ (a b : Host) (Own Heard : List Moment → ℕ → ℕ → ℕ → ℕ �
 
 pub was_there : (h p : Host) (n : ℕ) (old new : List Life) → n ≤ length old → (w : Away h p old new) → (x : Life) → IsOf x (drop n new) → x.host ≡ h → x.peer ≡ p → Was h p n old x
 was_there h p n old new less w x i f g =
-    elim (of_either x (map w.change (drop n old)) w.more (subst (λ (l : List Life). IsOf x l) (ap (drop n) w.is ∙ drop_grown w.change n old w.more less) i)) [
+    elim (of_either x _ w.more (subst (λ (l : List Life). IsOf x l) (ap (drop n) w.is ∙ drop_grown w.change n old w.more less) i)) [
       | inl here ↦
-          (let m : (v : Life) × IsOf v (drop n old) × (x ≡ w.change v) = of_mapped w.change x (drop n old) here in
+          (let m : (v : Life) × IsOf v (drop n old) × (x ≡ w.change v) = of_mapped w.change x _ here in
           let host : m.0.host ≡ h = sym (w.names m.0).0 ∙ ap (λ (v : Life). v.host) (sym m.2) ∙ f in
           let peer : m.0.peer ≡ p = sym (w.names m.0).1 ∙ ap (λ (v : Life). v.peer) (sym m.2) ∙ g in
           record { life = m.0; there = m.1; host = host; peer = peer; is = m.2 ∙ w.over m.0 (of_drop n m.0 old m.1) host peer })
@@ -203,4 +203,4 @@ was_there h p n old new less w x i f g =
 pub still_there : (h p : Host) (n : ℕ) (old new : List Life) → n ≤ length old → (w : Away h p old new) → (x : Life) → IsOf x (drop n old) → x.host ≡ h → x.peer ≡ p → IsOf (life_ended x) (drop n new)
 still_there h p n old new less w x i f g =
     subst (λ (l : List Life). IsOf (life_ended x) l) (sym (ap (drop n) w.is ∙ drop_grown w.change n old w.more less))
-    (of_left (life_ended x) (map w.change (drop n old)) w.more (subst (λ (v : Life). IsOf v (map w.change (drop n old))) (w.over x (of_drop n x old i) f g) (of_map w.change x (drop n old) i)))
+    (of_left _ _ w.more (subst (λ (v : Life). IsOf v (map w.change (drop n old))) (w.over x (of_drop n x old i) f g) (of_map w.change x _ i)))

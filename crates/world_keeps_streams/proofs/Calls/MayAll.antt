@@ -49,7 +49,7 @@ call_allowed link q s k n m = m
 
 more_allowed : (number : ℕ → ℕ → ℕ → ℕ) (peer : Host) (link : ℕ) (cs older : List calls.Moment) → HearNoRts cs → AllMay cs → AreAllowed number peer link older → AreAllowed number peer link (cs ++ older)
 more_allowed number peer link [] older n m a = a
-more_allowed number peer link (c ∷ cs) older n m a = (call_allowed link c.pair (sender_now number peer link (cs ++ older)) c.call n.0 m.0, more_allowed number peer link cs older n.1 m.1 a)
+more_allowed number peer link (c ∷ cs) older n m a = (call_allowed link c.pair _ c.call n.0 m.0, more_allowed number peer link cs older n.1 m.1 a)
 
 -- ---- the calls of a moment of a host that doesn't stay
 
@@ -83,20 +83,20 @@ call_if false k q listening n = tt
 
 owner_quiet : (peer : Host) (call : Entry → Call) (q : PairState) (listening : List Listener) (o : Option (Host × Entry)) → ((e : Entry) → HearsNoRts (call e)) → HearNoRts (owner_calls peer call q listening o)
 owner_quiet peer call q listening None n = tt
-owner_quiet peer call q listening (Some (h, e)) n = call_if (same_host peer h) (call e) q listening (n e)
+owner_quiet peer call q listening (Some (h, e)) n = call_if _ _ q listening (n e)
 
 close_quiet : (b : Bool) (cs : List calls.Moment) → HearNoRts cs → HearNoRts (if b then [] else cs)
 close_quiet true cs n = tt
 close_quiet false cs n = n
 
 request_quiet : (peer : Host) (s : NcpState) (r : Request) → HearNoRts (request_calls peer s r)
-request_quiet peer s (request.OpenSend host own foreign size) = call_if (same_host peer host) (OpensSender own foreign size) (pair_with peer s.peers) s.listening tt
-request_quiet peer s (request.OpenReceive host own foreign) = call_if (same_host peer host) (OpensReceiver own foreign) (pair_with peer s.peers) s.listening tt
-request_quiet peer s (request.Send socket bits) = owner_quiet peer (Gives socket bits) (pair_with peer s.peers) s.listening (owner_of socket s.peers) (λ e. tt)
-request_quiet peer s (request.Grant socket m n) = owner_quiet peer (Grants socket m n) (pair_with peer s.peers) s.listening (owner_of socket s.peers) (λ e. tt)
-request_quiet peer s (request.AskBack socket m n) = owner_quiet peer (AsksBack socket m n) (pair_with peer s.peers) s.listening (owner_of socket s.peers) (λ e. tt)
+request_quiet peer s (request.OpenSend host own foreign size) = call_if _ _ _ s.listening tt
+request_quiet peer s (request.OpenReceive host own foreign) = call_if _ _ _ s.listening tt
+request_quiet peer s (request.Send socket bits) = owner_quiet peer _ _ s.listening (owner_of socket s.peers) (λ e. tt)
+request_quiet peer s (request.Grant socket m n) = owner_quiet peer _ _ s.listening (owner_of socket s.peers) (λ e. tt)
+request_quiet peer s (request.AskBack socket m n) = owner_quiet peer _ _ s.listening (owner_of socket s.peers) (λ e. tt)
 request_quiet peer s (request.Close socket) =
-    close_quiet (listens_on socket s.listening) (owner_calls peer (Closes socket) (pair_with peer s.peers) s.listening (owner_of socket s.peers)) (owner_quiet peer (Closes socket) (pair_with peer s.peers) s.listening (owner_of socket s.peers) (λ e. tt))
+    close_quiet _ _ (owner_quiet peer _ _ s.listening (owner_of socket s.peers) (λ e. tt))
 request_quiet peer s r = tt
 
 one_order : (peer : Host) (stamp : ℕ) (c : Command) (os : List Order) (t : TurnState) → NoRts c → os ≡ Legal c ∷ [] → HearNoRts (orders_heard peer stamp os t [])
@@ -107,8 +107,8 @@ message_quiet : (peer : Host) (stamp link : ℕ) (text : List Bool) (t : TurnSta
 message_quiet peer stamp link text t none = by (is_ready t.pair.phase) refl (sort_of link text) where
   by : (r : Bool) → is_ready t.pair.phase ≡ r → Sort link text → HearNoRts (if r then (if link == 0 then orders_heard peer stamp (orders_of text) t [] else called (Takes link text) t.pair t.listening ∷ []) else [])
   by false e x = tt
-  by true e (AnRst zero os is) = rw zero (one_order peer stamp command.Rst (orders_of text) t tt os)
-  by true e (AnRrp zero os is) = rw zero (one_order peer stamp command.Rrp (orders_of text) t tt os)
+  by true e (AnRst zero os is) = rw zero (one_order peer stamp command.Rst _ t tt os)
+  by true e (AnRrp zero os is) = rw zero (one_order peer stamp command.Rrp _ t tt os)
   by true e (AText is) = absurd (none e is)
 
 module _ (hosts : Network) (addresses : HaveAddresses hosts.all) (a b : Host) (ours : AreOurs hosts a b) where

@@ -74,7 +74,7 @@ module _ (s : NcpState) (b : Host) where
     by false t = tt
 
   open_parts : (others : Entry → Option NcpFault) (g : Host) (e : Entry) → on_open others (Some (g, e)) ≡ None → (is_open e ≡ true) × (others e ≡ None)
-  open_parts others g e h = let r : (not (is_open e) ≡ false) × (others e ≡ None) = not_first (not (is_open e)) _ _ h in (not_false (is_open e) r.0, r.1)
+  open_parts others g e h = let r : (not (is_open e) ≡ false) × (others e ≡ None) = not_first _ _ _ h in (not_false _ r.0, r.1)
 
   if_same : (g : Host) (k : Call) → (b ≡ g → MayCall k (pair_with b s.peers)) → (c : Bool) → same_host b g ≡ c → AllMay (if c then called k (pair_with b s.peers) s.listening ∷ [] else [])
   if_same g k may true e = (may (same_host-true b g e), tt)
@@ -84,7 +84,7 @@ module _ (s : NcpState) (b : Host) where
       → AllMay (if c then [] else owner_calls b (Closes socket) (pair_with b s.peers) s.listening (owner_of socket s.peers))
   closes_may socket order true may = tt
   closes_may socket order false may =
-      owner_may socket (owner_of socket s.peers) (Closes socket) order refl (λ g e f found. (found, (not_first (was_closed e) _ _ (subst (λ (o : Option (Host × Entry)). close_fault o ≡ None) f may)).0))
+      owner_may socket _ _ order refl (λ g e f found. (found, (not_first _ _ _ (subst (λ (o : Option (Host × Entry)). close_fault o ≡ None) f may)).0))
 
   pub request_may : (r : Request) → AreInOrder s.peers → refusal s r ≡ None → AllMay (request_calls b s r)
   unfolding refusal

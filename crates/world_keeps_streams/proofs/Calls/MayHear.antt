@@ -16,8 +16,8 @@ use Rattle.world_keeps_streams.proofs.Calls.MayTurns.{AreSilent, Fits, heard_may
 by_kind : (P : Type 0) (own foreign : ℕ) → ((is_receive_socket own ≡ true) → (is_send_socket foreign ≡ true) → P) → ((is_send_socket own ≡ true) → (is_receive_socket foreign ≡ true) → P) → (IsUnpaired own foreign → P) → P
 by_kind P own foreign first second third = by (is_receive_socket own && is_send_socket foreign) (is_send_socket own && is_receive_socket foreign) refl refl where
   by : (c d : Bool) → (is_receive_socket own && is_send_socket foreign) ≡ c → (is_send_socket own && is_receive_socket foreign) ≡ d → P
-  by true d e f = let k : (is_receive_socket own ≡ true) × (is_send_socket foreign ≡ true) = both (is_receive_socket own) (is_send_socket foreign) e in first k.0 k.1
-  by false true e f = let k : (is_send_socket own ≡ true) × (is_receive_socket foreign ≡ true) = both (is_send_socket own) (is_receive_socket foreign) f in second k.0 k.1
+  by true d e f = let k : (is_receive_socket own ≡ true) × (is_send_socket foreign ≡ true) = both _ _ e in first k.0 k.1
+  by false true e f = let k : (is_send_socket own ≡ true) × (is_receive_socket foreign ≡ true) = both _ _ f in second k.0 k.1
   by false false e f = third (e, f)
 
 -- ---- the ends of any two sockets
@@ -27,7 +27,7 @@ module _ (hosts : Network) (origin : Host → Host → ℕ → ℕ) (moments : L
   pub has_end : (a b : Host) → AreOurs hosts a b → (own foreign : ℕ) → (x : End)
       × HasEnd (origin a b) own foreign (pair_with b (program a moments).peers) x
   has_end a b ours own foreign =
-      by_kind ((x : End) × HasEnd (origin a b) own foreign (pair_with b (program a moments).peers) x) own foreign
+      by_kind _ own foreign
       (λ e f. ((Side_of (record { receive = own; send = foreign }) (e, f) Receiver a b (origin a b) moments).end, (t.tied a b ours).receiver (record { receive = own; send = foreign }) (e, f)))
       (λ e f. ((Side_of (record { receive = foreign; send = own }) (f, e) Sender a b (origin a b) moments).end, (t.tied b a (ours.1, ours.0)).sender (record { receive = foreign; send = own }) (f, e)))
       (λ u. (nothing, (bare.bare a b ours own foreign u).0))
@@ -73,8 +73,8 @@ module _ (hosts : Network) (origin : Host → Host → ℕ → ℕ) (m : HostMes
   control_may zero ready (AnRst z orders is) = subst (λ (os : List Order). Heard os) (sym orders) ((tt, tt, tt, tt), tt)
   control_may zero ready (AnRrp z orders is) = subst (λ (os : List Order). Heard os) (sym orders) ((tt, tt, tt, tt), tt)
   control_may zero ready (AText is) =
-      let joint : AreJoint (orders_of m.text) = plain_joint (orders_of m.text) (subst (λ (n : Message). IsApart m.flow.link.0 m.text n) is (story.0 ours) zero) in
-      heard_may (origin m.flow.destination m.flow.source) m.flow.source (places moments) (orders_of m.text) (turn_of (program m.flow.destination moments) m.flow.source) [] joint (text_good m.text) (silent_orders zero) (free ours ready zero) ready
+      let joint : AreJoint (orders_of m.text) = plain_joint _ (subst (λ (n : Message). IsApart m.flow.link.0 m.text n) is (story.0 ours) zero) in
+      heard_may (origin m.flow.destination m.flow.source) m.flow.source (places moments) _ _ [] joint (text_good m.text) (silent_orders zero) (free ours ready zero) ready
       (fits_all zero ready joint) tt
 
   pub message_may : AllMay (message_calls m.flow.source (places moments) m.flow.link.0 m.text (turn_of (program m.flow.destination moments) m.flow.source))

@@ -25,7 +25,7 @@ module _ (origin : ℕ → ℕ) where
   closing_said : (own foreign : ℕ) (es : List Entry) (words : List Mark) (x : End) → Stand true origin 0 (at own foreign es) (Close ∷ words) x → HasSaid (command.Cls own foreign) es
   closing_said own foreign es words x h = λ e f.
       let g : Found own foreign es e = found_at own foreign es e f in
-      queued_by (standing e) g.rest words x (subst (λ (ss : List Standing). Stand true origin 0 ss (Close ∷ words) x) g.first h)
+      queued_by _ g.rest words x (subst (λ (ss : List Standing). Stand true origin 0 ss (Close ∷ words) x) g.first h)
 
   -- what waits to be said of any two sockets is what their end still has to say
   abbrev pub Waits : List Entry → List Command → List Command → Type 0
@@ -40,7 +40,7 @@ module _ (origin : ℕ → ℕ) where
   said_one stamp (command.Cls own foreign) cs behind q is w =
       let s : (x : End) × Stand true origin 0 (at own foreign q.entries) (mark_of 0 own foreign (command.Cls own foreign) ++ (marks 0 own foreign cs ++ marks 0 own foreign behind)) x =
       parted (command.Cls own foreign) cs behind q.entries w own foreign in (
-        closing_said own foreign q.entries (marks 0 own foreign cs ++ marks 0 own foreign behind) s.0
+        closing_said own foreign q.entries _ s.0
             (subst (λ (b : Bool). Stand true origin 0 (at own foreign q.entries) ((if b then Close ∷ [] else []) ++ (marks 0 own foreign cs ++ marks 0 own foreign behind)) s.0) (same_two own foreign) s.1),
         tt,
       )
@@ -67,7 +67,7 @@ module _ (origin : ℕ → ℕ) where
   first_ask p s [] words x h fit =
       let is : x ≡ plain origin s = h.2 ∙ live_end origin s (h.0.live refl) in
       let fit_plain : fits (Ask p) (plain origin s) ≡ true = subst (λ (y : End). fits (Ask p) y ≡ true) is fit in
-      let parts : (not (is_some (came_from origin s.partner)) ≡ true) × (not s.partner_closed ≡ true) = both (not (is_some (came_from origin s.partner))) (not s.partner_closed) fit_plain in
+      let parts : (not (is_some (came_from origin s.partner)) ≡ true) × (not s.partner_closed ≡ true) = both _ _ fit_plain in
       (none_came s.partner parts.0, not_is s.partner_closed parts.1)
   first_ask p s (t ∷ rest) words x h fit = absurd h
 
@@ -75,13 +75,13 @@ module _ (origin : ℕ → ℕ) where
   first_close s [] words x h fit =
       let is : x ≡ plain origin s = h.2 ∙ live_end origin s (h.0.live refl) in
       let fit_plain : fits Close (plain origin s) ≡ true = subst (λ (y : End). fits Close y ≡ true) is fit in
-      not_is s.partner_closed (both (is_begun (plain origin s)) (not s.partner_closed) fit_plain).1
+      not_is s.partner_closed (both _ _ fit_plain).1
   first_close s (t ∷ rest) words x h fit = absurd h
 
   ask_found : (p own foreign : ℕ) (es : List Entry) (words : List Mark) (x : End) → Stand true origin 0 (at own foreign es) words x → fits (Ask p) x ≡ true → (e : Entry) → entry_at own foreign es ≡ Some e → (e.partner ≡ None) × (e.partner_closed ≡ false)
   ask_found p own foreign es words x h fit e f =
       let g : Found own foreign es e = found_at own foreign es e f in
-      first_ask p (standing e) g.rest words x (subst (λ (ss : List Standing). Stand true origin 0 ss words x) g.first h) fit
+      first_ask p _ g.rest words x (subst (λ (ss : List Standing). Stand true origin 0 ss words x) g.first h) fit
 
   close_found : (own foreign : ℕ) (es : List Entry) (words : List Mark) (x : End) → Stand true origin 0 (at own foreign es) words x → fits Close x ≡ true → (e : Entry) × (entry_at own foreign es ≡ Some e) × (e.partner_closed ≡ false)
   close_found own foreign es words x h fit = by (entry_at own foreign es) refl where
@@ -91,7 +91,7 @@ module _ (origin : ℕ → ℕ) where
         absurd (let no : false ≡ true = subst (λ (y : End). fits Close y ≡ true) none.1 fit in cc)
     by (Some e) f =
         let g : Found own foreign es e = found_at own foreign es e f in
-        (e, f, first_close (standing e) g.rest words x (subst (λ (ss : List Standing). Stand true origin 0 ss words x) g.first h) fit)
+        (e, f, first_close _ g.rest words x (subst (λ (ss : List Standing). Stand true origin 0 ss words x) g.first h) fit)
 
   fit_head : (b : Bool) (m : Mark) (ms : List Mark) (x : End) → b ≡ true → AllFit ((if b then m ∷ [] else []) ++ ms) x → fits m x ≡ true
   fit_head true m ms x e h = h.0

@@ -65,7 +65,7 @@ str_sized_linked own foreign size stamp (Some link) d is h = sized_more d.entrie
 
 str_sized : (own foreign size stamp : ℕ) (l : Option Listener) (d : DeskState) → IsSize (Some size) → AreSized d.entries → AreSized (str_heard own foreign size stamp l d).entries
 str_sized own foreign size stamp None d is h = sized_more d.entries _ h tt
-str_sized own foreign size stamp (Some l) d is h = str_sized_linked own foreign size stamp (free_link d.entries) d is h
+str_sized own foreign size stamp (Some l) d is h = str_sized_linked own foreign size stamp _ d is h
 
 str_sized_by : (peer : Host) (own foreign size stamp : ℕ) (o : Option Entry) (d : DeskState) → IsSize (Some size) → AreSized d.entries → AreSized (str_taken_by peer own foreign size stamp o d).entries
 str_sized_by peer own foreign size stamp None d is h = str_sized own foreign size stamp (listener_on own d.listening) d is h
@@ -103,7 +103,7 @@ arrived_sized link e text (Some header) d h = either (is_acceptable e header) _ 
 data_sized : (link : ℕ) (text : List Bool) (f : Found) (d : DeskState) → AreSized d.entries → AreSized (data_found link text f d).entries
 data_sized link text Unconnected d h = h
 data_sized link text Ending d h = h
-data_sized link text (Open e) d h = arrived_sized link e text (header_of text) d h
+data_sized link text (Open e) d h = arrived_sized link e text _ d h
 
 -- ---- what is said and asked for
 
@@ -115,7 +115,7 @@ gone_sized peer stamp c d h = h
 
 opened_sized : (own foreign : ℕ) (o : Option ℕ) (q : PairState) → AreSized q.entries → AreSized (receiver_requested own foreign o q).entries
 opened_sized own foreign None q h = h
-opened_sized own foreign (Some link) q h = sized_more q.entries (receiving_end own foreign link) h tt
+opened_sized own foreign (Some link) q h = sized_more q.entries _ h tt
 
 -- ---- a call
 
@@ -129,7 +129,7 @@ sized_by peer (Hears stamp said c) q listening is sizes h = taken_sized peer q.b
 sized_by peer (Takes l text) q listening is sizes h = data_sized l text _ _ h
 sized_by peer (Says stamp c) q listening is sizes h = gone_sized peer stamp c _ h
 sized_by peer (Answered l) q listening is sizes h = sized_mapped _ q.entries (λ y k. k) h
-sized_by peer (OpensReceiver own foreign) q listening is sizes h = opened_sized own foreign (free_link q.entries) q h
+sized_by peer (OpensReceiver own foreign) q listening is sizes h = opened_sized own foreign _ q h
 sized_by peer (OpensSender own foreign size) q listening is sizes h = sized_more q.entries _ h is
 sized_by peer (AsksBack socket messages bits e) q listening is sizes h = h
 sized_by peer (Closes socket e) q listening is sizes h = sized_mapped _ _ (λ y k. k) (sized_changed _ _ q.entries (λ y k. k) h)

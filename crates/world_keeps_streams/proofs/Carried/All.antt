@@ -26,7 +26,7 @@ module _ (told next_told : ℕ → ℕ → ℕ → ℕ → Type 0) (grows : (own
   next = carried_next told next_told grows number tells a b gone es r s deed new rr ss lives does received sent old now c
 
   among_next : (x : Life) → Among x lives → Among (life_by a b deed x) (After a b deed lives)
-  among_next x there = among_front (map (λ z. life_by a b deed z) lives) (new_by a b deed) (life_by a b deed x) (among_mapped (λ z. life_by a b deed z) lives x there)
+  among_next x there = among_front _ _ _ (among_mapped _ lives x there)
 
   -- ---- a life of a connection
 
@@ -258,8 +258,8 @@ module _ (told next_told : ℕ → ℕ → ℕ → ℕ → Type 0) (grows : (own
   new_by_deed d act q t x is h = absurd is
 
   all_next : (x : Life) → Among x (After a b deed lives) → x.host ≡ a → x.peer ≡ b → (link : ℕ) × (g : ℕ) × CarriedOn next_told number (gone_by es new gone) new rr ss link g x
-  all_next x there host peer = elim (among_either (map (λ z. life_by a b deed z) lives) (new_by a b deed) x there) [
-    | inl was ↦ from (among_map (λ z. life_by a b deed z) lives x was)
+  all_next x there host peer = elim (among_either _ _ x there) [
+    | inl was ↦ from (among_map _ lives x was)
     | inr is ↦ new_by_deed deed does.1 received sent x is (λ t. now x there host peer t)
   ] where
     from : (y : Life) × Among y lives × (life_by a b deed y ≡ x) → (link : ℕ) × (g : ℕ) × CarriedOn next_told number (gone_by es new gone) new rr ss link g x

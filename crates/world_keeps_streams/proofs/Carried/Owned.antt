@@ -22,7 +22,7 @@ pub owned_now : (hosts : Network) (ms : List Moment) → HaveAddresses hosts.all
     → Happened hosts ms → (a b : Host) → hosts.strange a ≡ false
     → AreOwned a b (pair_with b (program a ms).peers).entries (kept_in ms).book.lives
 owned_now hosts ms addresses run time a b plain x there host peer goes =
-    let h : HasOpenEnd (program x.host ms) x = live hosts ms addresses run time x (subst (λ (g : Host). hosts.strange g ≡ false) (sym host) plain) (among_contains (kept_in ms).book.lives x there) goes in
+    let h : HasOpenEnd (program x.host ms) x = live hosts ms addresses run time x (subst (λ (g : Host). hosts.strange g ≡ false) (sym host) plain) (among_contains _ x there) goes in
     let one : mine_on x.socket (pair_with b (program a ms).peers).entries ≡ h.end ∷ [] =
     subst (λ (g : Host). mine_on x.socket (pair_with b (program g ms).peers).entries ≡ h.end ∷ []) host (subst (λ (g : Host). mine_on x.socket (pair_with g (program x.host ms).peers).entries ≡ h.end ∷ []) peer h.one) in
     record { end = h.end; one = one; foreign = h.foreign; asked = h.own; partner = h.partner }
@@ -51,12 +51,12 @@ owned_of a p es κ listens places x there host peer goes = by (places x.socket).
   by : (m : Place) (ys : List Entry) (l : Bool) → mine_on x.socket es ≡ ys → IsAway p m → At a x.socket m p ys l κ → EndOf es x
   by Near [] l is away h = absurd (among_each a x.socket NoneOf κ.book.lives κ.handed x there at goes h).1
   by Near (e ∷ []) false is away h =
-      let i : (t : List Bool) × IsLifeOf p e x t = among_each a x.socket (IsLifeOf p e) κ.book.lives κ.handed x there at goes h.1 in
+      let i : (t : List Bool) × IsLifeOf p e x t = among_each a x.socket _ κ.book.lives κ.handed x there at goes h.1 in
       record { end = e; one = is; foreign = i.1.foreign; asked = i.1.own; partner = i.1.partner }
   by Near (e ∷ []) true is away h = absurd h
   by Near (e ∷ f ∷ more) l is away h = absurd h
   by (Elsewhere g e) [] false is away h =
-      let i : (t : List Bool) × IsLifeOf g e x t = among_each a x.socket (IsLifeOf g e) κ.book.lives κ.handed x there at goes h in
+      let i : (t : List Bool) × IsLifeOf g e x t = among_each a x.socket _ κ.book.lives κ.handed x there at goes h in
       clash (EndOf es x) (same_host g p) (subst (λ (q : Host). same_host g q ≡ true) (sym i.1.peers ∙ peer) (same_host-refl g)) away
   by (Elsewhere g e) [] true is away h = absurd h
   by (Elsewhere g e) (f ∷ more) l is away h = absurd h
@@ -83,7 +83,7 @@ drop_map f (suc n) (x ∷ xs) new l = drop_map f n xs new (omega (arith, l))
 
 -- a deed does to the later lives what it does to all
 pub after_dropped : (a b : Host) (d : Deed) (n : ℕ) (lives : List Life) → n ≤ length lives → drop n (After a b d lives) ≡ After a b d (drop n lives)
-after_dropped a b d n lives l = drop_map (λ x. life_by a b d x) n lives (new_by a b d) l
+after_dropped a b d n lives l = drop_map _ n lives _ l
 
 pub where_length : (test : Life → Bool) (f : Life → Life) (ls : List Life) → length (where_it test f ls) ≡ length ls
 where_length test f [] = refl
@@ -103,7 +103,7 @@ pub all_longer : (h : Host) (ns : List Notice) (ls : List Life) → length ls �
 all_longer h [] ls = omega arith
 all_longer h (n ∷ ns) ls =
     let one : length ls ≤ length (lives_told h n ls) = told_longer h n ls in
-    let rest : length (lives_told h n ls) ≤ length (all_lives h ns (lives_told h n ls)) = all_longer h ns (lives_told h n ls) in
+    let rest : length (lives_told h n ls) ≤ length (all_lives h ns _) = all_longer h ns (lives_told h n ls) in
     omega (arith, one, rest)
 
 asked_length : (h : Host) (q : Request) (ls : List Life) → length (lives_asked h q ls) ≡ length ls
@@ -111,7 +111,7 @@ asked_length h (request.Grant socket m n) ls = where_length (book.lives_at h soc
 asked_length h q ls = refl
 
 pub by_length : (x : Moment) (k : Kept) → length (kept_by x k).book.lives ≡ length k.book.lives
-by_length (Crossed (crossing.Down h)) k = where_length (book.lives_on h) book.life_ended k.book.lives
+by_length (Crossed (crossing.Down h)) k = where_length _ book.life_ended k.book.lives
 by_length (Crossed c) k = refl
 by_length (Asked h q) k = asked_length h q k.book.lives
 

@@ -139,10 +139,10 @@ ends_hit a p (e ∷ es) x goes t = by e.mine (lives_between a e.own p e.foreign 
 
   by : (v w : Bool) → lives_between a e.own p e.foreign x ≡ w → ((life_ends a p es x).ended ≡ true → Hit es x) → (life_ends a p es (if v then changed_when w life_ended x else x)).ended ≡ true → Hit (e ∷ es) x
   by true true is rest h =
-      let q : (_ ≡ true) × ((x.foreign == e.foreign) ≡ true) = both (lives_at a e.own x && same_host p x.peer) (x.foreign == e.foreign) is in
-      let l : (lives_at a e.own x ≡ true) × (same_host p x.peer ≡ true) = both (lives_at a e.own x) (same_host p x.peer) q.0 in
-      let m : (_ ≡ true) × (not x.ended ≡ true) = both (same_host a x.host && x.socket == e.own) (not x.ended) l.0 in
-      record { end = e; there = inl refl; own = eqb-true x.socket e.own (both (same_host a x.host) (x.socket == e.own) m.0).1; foreign = eqb-true x.foreign e.foreign q.1 }
+      let q : (_ ≡ true) × ((x.foreign == e.foreign) ≡ true) = both _ _ is in
+      let l : (lives_at a e.own x ≡ true) × (same_host p x.peer ≡ true) = both _ _ q.0 in
+      let m : (_ ≡ true) × (not x.ended ≡ true) = both _ _ l.0 in
+      record { end = e; there = inl refl; own = eqb-true x.socket e.own (both _ _ m.0).1; foreign = eqb-true x.foreign e.foreign q.1 }
   by true false is rest h = more (rest h)
   by false w is rest h = more (rest h)
 
@@ -180,7 +180,7 @@ pub by_stamp : (a p : Host) (d : Deed) (x : Life) → (life_by a p d x).partner_
 by_stamp a p deeds.Nothing x = refl
 by_stamp a p (deeds.Opens e u v) x = refl
 by_stamp a p (deeds.Ends es) x = stamp_ends a p es x
-by_stamp a p (deeds.Arrives e bits) x = stamp_when (lives_at a e.own x) (book.carried bits) x (λ y. refl)
-by_stamp a p (deeds.Leaves e bits) x = stamp_when (lives_at a e.own x) (book.carried bits) x (λ y. refl)
-by_stamp a p (deeds.Grants e m n) x = stamp_when (lives_at a e.own x) (book.granted m n) x (λ y. refl)
-by_stamp a p (deeds.Returns e m n) x = stamp_when (lives_at a e.own x) (book.returned m n) x (λ y. refl)
+by_stamp a p (deeds.Arrives e bits) x = stamp_when _ _ x (λ y. refl)
+by_stamp a p (deeds.Leaves e bits) x = stamp_when _ _ x (λ y. refl)
+by_stamp a p (deeds.Grants e m n) x = stamp_when _ _ x (λ y. refl)
+by_stamp a p (deeds.Returns e m n) x = stamp_when _ _ x (λ y. refl)

@@ -64,7 +64,7 @@ module _ (es : List Entry) (x : Life) (h : EndOf es x) where
   end_there = deeds.among_filter (is_mine_on x.socket) es h.end (subst (λ (ys : List Entry). Among h.end ys) (sym h.one) (inl refl))
 
   pub end_own : h.end.own ≡ x.socket
-  end_own = eqb-true h.end.own x.socket (both h.end.mine (h.end.own == x.socket) end_there.1).1
+  end_own = eqb-true h.end.own x.socket (both h.end.mine _ end_there.1).1
 
   pub end_opened : has_opened h.end ≡ true
   end_opened = ap (λ (o : Option ℕ). is_some o && is_some h.end.partner) h.asked ∙ ap is_some h.partner

@@ -265,7 +265,7 @@ pub filtered_stays : (keep : Entry → Bool) (es : List Entry) → Stays es (fil
 filtered_stays keep es e there = record { end = e; there = (among_filter keep es e there).0; becomes = become_same Nothing e }
 
 pub joined_comes : (d : Deed) (new : Entry) (es : List Entry) → IsNew new → Comes d es (es ++ new ∷ [])
-joined_comes d new es n e there = elim (among_either es (new ∷ []) e there) [
+joined_comes d new es n e there = elim (among_either es _ e there) [
   | inl s ↦ inl (record { end = e; there = s; becomes = become_same d e })
   | inr s ↦ one s
 ] where

@@ -94,8 +94,8 @@ below_asked h n r = tt
 
 pub contacts_below : (ms : List Moment) → AllBelow (places ms) (contacts_of ms)
 contacts_below [] = tt
-contacts_below (Crossed c ∷ ms) = below_next (places ms) (contacts_of ms) (contacts_below ms)
-contacts_below (Asked h r ∷ ms) = below_more (places ms) (contacts_of ms) (contacts_asked h (places ms) r) (contacts_below ms) (below_asked h (places ms) r)
+contacts_below (Crossed c ∷ ms) = below_next _ _ (contacts_below ms)
+contacts_below (Asked h r ∷ ms) = below_more _ _ _ (contacts_below ms) (below_asked h _ r)
 
 -- one at another place isn't of this one
 pub not_there : (h p : Host) (place : ℕ) (c : Called) (v : Bool) → (c.place ≡ place → ⊥) → (c.place == place) ≡ v
@@ -110,7 +110,7 @@ pub none_there : (h p : Host) (n place : ℕ) (cs : List Called) → n < place �
     → list_any (is_contact h p place) cs ≡ false
 none_there h p n place [] less b = refl
 none_there h p n place (c ∷ cs) less b =
-    let first : is_contact h p place c ≡ false = not_there h p place c (c.place == place) (λ e. (let l : c.place ≤ n = b.0 in absurd (omega (arith, l, less, e)))) refl in
+    let first : is_contact h p place c ≡ false = not_there h p place c _ (λ e. (let l : c.place ≤ n = b.0 in absurd (omega (arith, l, less, e)))) refl in
     let rest : list_any (is_contact h p place) cs ≡ false = none_there h p n place cs less b.1 in
     rw (first, rest) refl
 
@@ -121,13 +121,13 @@ called_none x n place cs k less b = ap (λ (v : Bool). contacted_if v place k) (
 
 pub any_with : (h p : Host) (place : ℕ) (cs : List Called) (c : Called)
     → list_any (is_contact h p place) (cs ++ c ∷ []) ≡ (list_any (is_contact h p place) cs || is_contact h p place c)
-any_with h p place cs c = list_any-append (is_contact h p place) cs (c ∷ []) ∙ ap (λ (v : Bool). list_any (is_contact h p place) cs || v) (or_nothing (is_contact h p place c))
+any_with h p place cs c = list_any-append (is_contact h p place) cs (c ∷ []) ∙ ap (λ (v : Bool). list_any (is_contact h p place) cs || v) (or_nothing _)
 
 -- before its place it changes nothing
 called_with : (x : Life) (place : ℕ) (cs : List Called) (c : Called) (k : Course) → (c.place ≡ place → ⊥) → called (cs ++ c ∷ []) x place k ≡ called cs x place k
 called_with x place cs c k never =
     ap (λ (v : Bool). contacted_if v place k)
-    (any_with x.host x.peer place cs c ∙ ap (λ (v : Bool). list_any (is_contact x.host x.peer place) cs || v) (not_there x.host x.peer place c (c.place == place) never refl) ∙ or_nothing (list_any (is_contact x.host x.peer place) cs))
+    (any_with x.host x.peer place cs c ∙ ap (λ (v : Bool). list_any (is_contact x.host x.peer place) cs || v) (not_there x.host x.peer place c _ never refl) ∙ or_nothing _)
 
 later_contact : (x : Life) (cs : List Called) (c : Called) (log : List Crossing) → length log < c.place → course (cs ++ c ∷ []) x log ≡ course cs x log
 later_contact x cs c [] less = called_with x 0 cs c begin (λ e. absurd (omega (arith, less, e)))
@@ -163,7 +163,7 @@ added false false place k = refl
 called_more : (x : Life) (place : ℕ) (cs : List Called) (c : Called) (k : Course) → called (cs ++ c ∷ []) x place k ≡ contacted_if (is_contact x.host x.peer place c) place (called cs x place k)
 called_more x place cs c k =
     ap (λ (v : Bool). contacted_if v place k) (any_with x.host x.peer place cs c)
-    ∙ added (list_any (is_contact x.host x.peer place) cs) (is_contact x.host x.peer place c) place k
+    ∙ added _ _ place k
 
 now_contact : (x : Life) (cs : List Called) (c : Called) (log : List Crossing) → c.place ≡ length log → course (cs ++ c ∷ []) x log ≡ contacted_if (is_contact x.host x.peer (length log) c) (length log) (course cs x log)
 now_contact x cs c [] at = called_more x 0 cs c begin
@@ -189,12 +189,12 @@ is_there h p g q n m e = by (n == m) refl where
 pub course_same : (x : Life) (ms : List Moment) → course (contacts_of ms) x (crossings_of ms) ≡ course_in x ms
 course_same x [] = refl
 course_same x (Crossed c ∷ ms) =
-    called_none x (places ms) (length (c ∷ crossings_of ms)) (contacts_of ms) (crosses x (length (crossings_of ms)) c (course (contacts_of ms) x (crossings_of ms))) (let e : places ms ≡ length (crossings_of ms) = places_same ms in omega (arith, e)) (contacts_below ms)
+    called_none x _ _ _ _ (let e : places ms ≡ length (crossings_of ms) = places_same ms in omega (arith, e)) (contacts_below ms)
     ∙ ap (λ (n : ℕ). crosses x n c (course (contacts_of ms) x (crossings_of ms))) (sym (places_same ms))
     ∙ ap (λ (k : Course). crosses x (places ms) c k) (course_same x ms)
 course_same x (Asked h (request.Contact peer) ∷ ms) =
-    now_contact x (contacts_of ms) (record { host = h; place = places ms; peer = peer }) (crossings_of ms) (places_same ms)
-    ∙ ap (λ (v : Bool). contacted_if v (length (crossings_of ms)) (course (contacts_of ms) x (crossings_of ms))) (is_there x.host x.peer h peer (places ms) (length (crossings_of ms)) (places_same ms))
+    now_contact x _ _ _ (places_same ms)
+    ∙ ap (λ (v : Bool). contacted_if v (length (crossings_of ms)) (course (contacts_of ms) x (crossings_of ms))) (is_there x.host x.peer h peer _ _ (places_same ms))
     ∙ ap (λ (n : ℕ). contacted_if (same_host x.host h && same_host x.peer peer) n (course (contacts_of ms) x (crossings_of ms))) (sym (places_same ms))
     ∙ ap (λ (k : Course). contacted_if (same_host x.host h && same_host x.peer peer) (places ms) k) (course_same x ms)
 course_same x (Asked h r ∷ ms) = ap (λ (cs : List Called). course cs x (crossings_of ms)) (append-nil (contacts_of ms)) ∙ course_same x ms

@@ -160,11 +160,11 @@ module _ (hosts : Network) (f : Flow) (ms : List Moment) (ours : AreOurs hosts f
       → is_ready (pair_with f.destination (program f.source ms).peers).phase ≡ true
       → Kind that (Crossed (crossing.Answer kind f)) ms
   ready_kind answer.Rfnm l ready =
-      stays_told answer.Rfnm (told_ends hosts answer.Rfnm f ms l ours socket foreign own partner ∙ if_ready_end _ (end_of that ms) (ap is_ready (sym (phase_is hosts answer.Rfnm f ms l ours socket foreign own partner) ∙ ap (rfnm_phase f.link.0) law_ready) ∙ rfnm_ready f.link.0)) refl
-      (rfnm_notices (program f.source ms) f (places ms)) where
+      stays_told answer.Rfnm (told_ends hosts answer.Rfnm f ms l ours socket foreign own partner ∙ if_ready_end _ _ (ap is_ready (sym (phase_is hosts answer.Rfnm f ms l ours socket foreign own partner) ∙ ap (rfnm_phase f.link.0) law_ready) ∙ rfnm_ready f.link.0)) refl
+      (rfnm_notices _ f _) where
         law_ready : (pair f.source f.destination (events_of ms)).phase ≡ phase.Ready
-        law_ready = (was hosts answer.Rfnm f ms l ours socket foreign own partner).phase ∙ ready_phase (pair_with f.destination (program f.source ms).peers).phase ready
-  ready_kind kind l ready = failed_kind kind l refl refl ready (course_in that ms).owes refl
+        law_ready = (was hosts answer.Rfnm f ms l ours socket foreign own partner).phase ∙ ready_phase _ ready
+  ready_kind kind l ready = failed_kind kind l refl refl ready _ refl
 
   pub told_here : (kind : Answer) (l : Lawful hosts (Crossed (crossing.Answer kind f) ∷ ms))
       → Kind that (Crossed (crossing.Answer kind f)) ms
@@ -177,7 +177,7 @@ module _ (hosts : Network) (f : Flow) (ms : List Moment) (ours : AreOurs hosts f
     by false e = ItIdles (record {
       ends = told_ends hosts kind f ms l ours socket foreign own partner ∙ ap (λ (x : End). kept_in (pair_with f.destination (accepted (program f.source ms) (inbound.Answer kind f) (places ms)).0.peers) x) (none e) ∙ if_nothing _;
       idle = inl (none e);
-      unopened = λ h t. openings_some that (notices_by (Crossed (crossing.Answer kind f)) ms) [] t (answer_other itself socket foreign (program f.source ms) kind f (places ms) []);
+      unopened = λ h t. openings_some that (notices_by (Crossed (crossing.Answer kind f)) ms) [] t (answer_other itself socket foreign _ kind f _ []);
       up = λ d. d;
     })
 

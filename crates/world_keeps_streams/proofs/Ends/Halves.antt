@@ -96,10 +96,10 @@ over_stays x y ms c n is =
       own = λ e k i. ap own_asked i;
       partner = λ e k i. ap partner_asked i;
       own_close = λ k i. ap (own_closed (places ms)) i;
-      partner_close = λ k i. ap (partner_closed (places ms)) i;
-      cuts = λ d k i. ap (cut d (places ms)) i;
+      partner_close = λ k i. ap (partner_closed _) i;
+      cuts = λ d k i. ap (cut d _) i;
       owed = λ v k i. i;
-    }) y (course_in x ms) is
+    }) y _ is
 
 -- ---- and what has begun was early if it was so when it began
 
@@ -113,7 +113,7 @@ Begun k = (is_asking k.stage ≡ false) × (k.early ≡ false)
 
 pub begun_stays : (x : Life) (y : Moment) (ms : List Moment) → is_asking (stage_of x ms) ≡ false
     → (course_in x ms).early ≡ false → (course_in x (y ∷ ms)).early ≡ false
-begun_stays x y ms begun early = (moved_keeps x (places ms) Begun closed y (course_in x ms) (begun, early)).1 where
+begun_stays x y ms begun early = (moved_keeps x (places ms) Begun closed y _ (begun, early)).1 where
   closed : Closed x (places ms) Begun
   closed = record {
     own = λ e k b. (begun_own x (places ms) true k.stage b.0, b.1);
@@ -131,7 +131,7 @@ begun_stays x y ms begun early = (moved_keeps x (places ms) Begun closed y (cour
               (not_half k.stage b.0),
         );
     cuts =
-        λ c k b. (begun_cut c (places ms) k.stage b.0, or_from k.early (is_half k.stage) b.1 (not_half k.stage b.0));
+        λ c k b. (begun_cut c _ k.stage b.0, or_from k.early (is_half k.stage) b.1 (not_half k.stage b.0));
     owed = λ v k b. b;
   }
 
@@ -181,7 +181,7 @@ over_here x y ms o p c n was now = subst (IsAt (places ms)) now
       partner_close = λ k at. partner_closed_at (places ms) k.stage at;
       cuts = λ d k at. cut_at d (places ms) k.stage at;
       owed = λ v k at. at;
-    }) y (course_in x ms) (subst (IsAt (places ms)) (sym was) tt))
+    }) y _ (subst (IsAt (places ms)) (sym was) tt))
 
 -- ---- places
 
@@ -211,13 +211,13 @@ module _ (x : Life) where
           own = λ e k u. absurd (omega (arith, own, e));
           partner = λ e k u. absurd (omega (arith, partner, e));
           own_close = λ k u. ends (own_closed (places ms)) refl k u;
-          partner_close = λ k u. ends (partner_closed (places ms)) refl k u;
-          cuts = λ c k u. ends (cut c (places ms)) refl k u;
+          partner_close = λ k u. ends (partner_closed _) refl k u;
+          cuts = λ c k u. ends (cut c _) refl k u;
           owed = λ v k u. u;
         }
 
         contact : (v : Bool) (k : Course) → Unasked k → Unasked (contacted_if v (places ms) k)
-        contact true k u = ends (cut Dropped (places ms)) refl k u
+        contact true k u = ends (cut Dropped _) refl k u
         contact false k u = u
 
         by : (z : Moment) → places (z ∷ ms) ≤ x.own_stamp → places (z ∷ ms) ≤ x.partner_stamp → Unasked (course_in x ms)
@@ -265,17 +265,17 @@ module _ (x : Life) (hosts : Network)
 
     by : Kind x y ms → ((end_of x ms).partner ≡ Some b → b < places ms) → b < places (y ∷ ms)
     by (ItHears s) before =
-        elim (heard_from x (places ms) s.marks (end_of x ms) b s.here (ap (λ (e : End). e.partner) (sym s.ends) ∙ is)) [
+        elim (heard_from x (places ms) s.marks _ b s.here (ap (λ (e : End). e.partner) (sym s.ends) ∙ is)) [
           | inl at ↦ (let n : places (y ∷ ms) ≡ 1 + places ms = s.next in omega (arith, n, at))
           | inr was ↦ later (before was)
         ]
     by (ItSays s) before =
-        later (before (partner_said x (places ms) s.marks (end_of x ms) b
+        later (before (partner_said x (places ms) s.marks _ b
         (ap (λ (e : End). e.partner) (sym s.ends) ∙ is)))
-    by (ItDrops s) before = no_partner (end_of x (y ∷ ms)) b s.ends is
-    by (ItStops s) before = no_partner (end_of x (y ∷ ms)) b s.ends is
+    by (ItDrops s) before = no_partner _ b s.ends is
+    by (ItStops s) before = no_partner _ b s.ends is
     by (ItStays s) before = later (before (ap (λ (e : End). e.partner) (sym s.ends) ∙ is))
-    by (ItIdles s) before = no_partner (end_of x (y ∷ ms)) b s.ends is
+    by (ItIdles s) before = no_partner _ b s.ends is
 
   -- its stage, and that nothing came too early
   abbrev Half : Stage → List Moment → Type 0
@@ -290,9 +290,9 @@ module _ (x : Life) (hosts : Network)
   same_half : (s : Stage) (y : Moment) (ms : List Moment) → pace (course_in x (y ∷ ms)) ≡ pace (course_in x ms)
       → Half s ms → Half s (y ∷ ms)
   same_half s y ms same h = (
-    first_of (pace (course_in x (y ∷ ms))) (pace (course_in x ms)) same
+    first_of _ _ same
         ∙ h.0,
-    second_of (pace (course_in x (y ∷ ms))) (pace (course_in x ms)) same ∙ h.1,
+    second_of _ _ same ∙ h.1,
   )
 
   -- what is said, or heard, changes a stage

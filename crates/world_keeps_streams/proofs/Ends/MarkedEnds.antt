@@ -84,10 +84,10 @@ module _ (x : Life) (place : ℕ) where
 
   -- in order are a request where there is none and no CLS came, and the first CLS
   fit_ask : (p : ℕ) (e : End) → fits (Ask p) e ≡ true → (is_some e.partner ≡ false) × (e.taken ≡ false)
-  fit_ask p e fit = let k : (not (is_some e.partner) ≡ true) × (not e.taken ≡ true) = both (not (is_some e.partner)) (not e.taken) fit in (not_is (is_some e.partner) k.0, not_is e.taken k.1)
+  fit_ask p e fit = let k : (not (is_some e.partner) ≡ true) × (not e.taken ≡ true) = both _ _ fit in (not_is _ k.0, not_is e.taken k.1)
 
   fit_close : (e : End) → fits Close e ≡ true → e.taken ≡ false
-  fit_close e fit = not_is e.taken (both (is_begun e) (not e.taken) fit).1
+  fit_close e fit = not_is e.taken (both _ _ fit).1
 
   closed_hears : (ms : List Mark) (e : End) → e.taken ≡ true → AllFit ms e → ms ≡ []
   closed_hears [] e closed fit = refl
@@ -405,11 +405,11 @@ module _ (x : Life) (place : ℕ) where
   partner_first [] e at once fit off is on = absurd (off is)
   partner_first (Ask p ∷ ms) e at once fit off is on = (
     ap (λ (ns : List Mark). partner_marks x place ns (partner_mark x place (Ask p) (Asking false false))) rest
-        ∙ begun (place == x.partner_stamp) (eq-eqb place x.partner_stamp at),
+        ∙ begun _ (eq-eqb place x.partner_stamp at),
     ap (λ (ns : List Mark). partner_early x place ns (partner_mark x place (Ask p) (Asking false false))) rest,
   ) where
     rest : ms ≡ []
-    rest = heard_none ms (mark_taken (Ask p) e) x.partner_stamp once fit.1 is on
+    rest = heard_none ms _ x.partner_stamp once fit.1 is on
 
     begun : (v : Bool) → v ≡ true →
         (if v then partner_asked (Asking false false) else Asking false false) ≡ Asking false true

@@ -29,9 +29,9 @@ close_here place true = tt
 close_here place false = tt
 
 mark_here : (place own foreign : ℕ) (c : Command) → AllHere place (mark_of place own foreign c)
-mark_here place own foreign (command.Rts r n l) = ask_here place (r == own && n == foreign)
-mark_here place own foreign (command.Str n r size) = ask_here place (n == own && r == foreign)
-mark_here place own foreign (command.Cls a b) = close_here place (a == own && b == foreign)
+mark_here place own foreign (command.Rts r n l) = ask_here place _
+mark_here place own foreign (command.Str n r size) = ask_here place _
+mark_here place own foreign (command.Cls a b) = close_here place _
 mark_here place own foreign c = tt
 
 pub marks_here : (place own foreign : ℕ) (cs : List Command) → AllHere place (marks place own foreign cs)
@@ -117,9 +117,9 @@ module _ (x : Life) (place : ℕ) where
   own_close false k = refl
 
   own_stage : (c : Command) (k : Course) → (own_step x place c k).stage ≡ own_marks (mark_of place x.socket x.foreign c) k.stage
-  own_stage (command.Rts r n l) k = own_ask (r == x.socket && n == x.foreign) (place == x.own_stamp) k ∙ own_ask_marks (r == x.socket && n == x.foreign) k.stage
-  own_stage (command.Str n r size) k = own_ask (n == x.socket && r == x.foreign) (place == x.own_stamp) k ∙ own_ask_marks (n == x.socket && r == x.foreign) k.stage
-  own_stage (command.Cls a b) k = own_close (a == x.socket && b == x.foreign) k
+  own_stage (command.Rts r n l) k = own_ask _ _ k ∙ own_ask_marks _ k.stage
+  own_stage (command.Str n r size) k = own_ask _ _ k ∙ own_ask_marks _ k.stage
+  own_stage (command.Cls a b) k = own_close _ k
   own_stage c k = refl
 
   partner_ask : (v w : Bool) (k : Course) → (if v && w then record k { stage = partner_asked k.stage } else k).stage ≡ (if v then (if w then partner_asked k.stage else k.stage) else k.stage)
@@ -136,9 +136,9 @@ module _ (x : Life) (place : ℕ) where
   partner_close false k = refl
 
   partner_stage : (c : Command) (k : Course) → (partner_step x place c k).stage ≡ partner_marks (mark_of place x.foreign x.socket c) k.stage
-  partner_stage (command.Rts r n l) k = partner_ask (r == x.foreign && n == x.socket) (place == x.partner_stamp) k ∙ partner_ask_marks (r == x.foreign && n == x.socket) k.stage
-  partner_stage (command.Str n r size) k = partner_ask (n == x.foreign && r == x.socket) (place == x.partner_stamp) k ∙ partner_ask_marks (n == x.foreign && r == x.socket) k.stage
-  partner_stage (command.Cls a b) k = partner_close (a == x.foreign && b == x.socket) k
+  partner_stage (command.Rts r n l) k = partner_ask _ _ k ∙ partner_ask_marks _ k.stage
+  partner_stage (command.Str n r size) k = partner_ask _ _ k ∙ partner_ask_marks _ k.stage
+  partner_stage (command.Cls a b) k = partner_close _ k
   partner_stage c k = refl
 
   pub said_plain : (c : Command) (k : Course) → is_rst c ≡ false → is_rrp c ≡ false → said x place c k ≡ own_step x place c k
@@ -204,14 +204,14 @@ module _ (x : Life) (place : ℕ) where
 
   own_close_early : (v : Bool) (k : Course) → (if v then ended_by (own_closed place) k else k).early ≡
       (k.early || own_early (if v then Close ∷ [] else []) k.stage)
-  own_close_early true k = ap (λ (v : Bool). k.early || v) (sym (or_nothing (is_half k.stage)))
+  own_close_early true k = ap (λ (v : Bool). k.early || v) (sym (or_nothing _))
   own_close_early false k = sym (or_nothing k.early)
 
   own_step_early : (c : Command) (k : Course) → (own_step x place c k).early ≡
       (k.early || own_early (mark_of place x.socket x.foreign c) k.stage)
-  own_step_early (command.Rts r n l) k = own_ask_early (r == x.socket && n == x.foreign) (place == x.own_stamp) k
-  own_step_early (command.Str n r size) k = own_ask_early (n == x.socket && r == x.foreign) (place == x.own_stamp) k
-  own_step_early (command.Cls a b) k = own_close_early (a == x.socket && b == x.foreign) k
+  own_step_early (command.Rts r n l) k = own_ask_early _ _ k
+  own_step_early (command.Str n r size) k = own_ask_early _ _ k
+  own_step_early (command.Cls a b) k = own_close_early _ k
   own_step_early c k = sym (or_nothing k.early)
 
   partner_ask_early : (v w : Bool) (k : Course)
@@ -223,16 +223,16 @@ module _ (x : Life) (place : ℕ) where
 
   partner_close_early : (v : Bool) (k : Course) → (if v then ended_by (partner_closed place) k else k).early ≡
       (k.early || partner_early (if v then Close ∷ [] else []) k.stage)
-  partner_close_early true k = ap (λ (v : Bool). k.early || v) (sym (or_nothing (is_half k.stage)))
+  partner_close_early true k = ap (λ (v : Bool). k.early || v) (sym (or_nothing _))
   partner_close_early false k = sym (or_nothing k.early)
 
   partner_step_early : (c : Command) (k : Course) → (partner_step x place c k).early ≡
       (k.early || partner_early (mark_of place x.foreign x.socket c) k.stage)
   partner_step_early (command.Rts r n l) k =
-      partner_ask_early (r == x.foreign && n == x.socket) (place == x.partner_stamp) k
+      partner_ask_early _ _ k
   partner_step_early (command.Str n r size) k =
-      partner_ask_early (n == x.foreign && r == x.socket) (place == x.partner_stamp) k
-  partner_step_early (command.Cls a b) k = partner_close_early (a == x.foreign && b == x.socket) k
+      partner_ask_early _ _ k
+  partner_step_early (command.Cls a b) k = partner_close_early _ k
   partner_step_early c k = sym (or_nothing k.early)
 
   pub all_said_early : (cs : List Command) (k : Course) → ArePlain cs → (each (said x place) (map Legal cs) k).early ≡
@@ -297,7 +297,7 @@ module _ (x : Life) (place : ℕ) where
 
   pub own_early_begun : (ms : List Mark) (s : Stage) → is_asking s ≡ false → own_early ms s ≡ false
   own_early_begun [] s g = refl
-  own_early_begun (Ask p ∷ ms) s g = own_early_begun ms (own_mark (Ask p) s) (begun_own (place == x.own_stamp) s g)
+  own_early_begun (Ask p ∷ ms) s g = own_early_begun ms (own_mark (Ask p) s) (begun_own _ s g)
   own_early_begun (Close ∷ ms) s g =
       ap (λ (v : Bool). v || own_early ms (own_closed place s)) (not_half s g)
       ∙ own_early_begun ms (own_closed place s) (begun_own_closed s g)
@@ -305,7 +305,7 @@ module _ (x : Life) (place : ℕ) where
   pub partner_early_begun : (ms : List Mark) (s : Stage) → is_asking s ≡ false → partner_early ms s ≡ false
   partner_early_begun [] s g = refl
   partner_early_begun (Ask p ∷ ms) s g =
-      partner_early_begun ms (partner_mark (Ask p) s) (begun_partner (place == x.partner_stamp) s g)
+      partner_early_begun ms (partner_mark (Ask p) s) (begun_partner _ s g)
   partner_early_begun (Close ∷ ms) s g =
       ap (λ (v : Bool). v || partner_early ms (partner_closed place s)) (not_half s g)
       ∙ partner_early_begun ms (partner_closed place s) (begun_partner_closed s g)
@@ -314,7 +314,7 @@ module _ (x : Life) (place : ℕ) where
 
   pub over_said : (ms : List Mark) (b : Bool) → own_marks ms (Over (Closed b) place) ≡ Over (Closed b) place
   over_said [] b = refl
-  over_said (Ask p ∷ ms) b = ap (λ (s : Stage). own_marks ms s) (same_if (place == x.own_stamp)) ∙ over_said ms b where
+  over_said (Ask p ∷ ms) b = ap (λ (s : Stage). own_marks ms s) (same_if _) ∙ over_said ms b where
     same_if : (v : Bool) → (if v then Over (Closed b) place else Over (Closed b) place) ≡ Over (Closed b) place
     same_if true = refl
     same_if false = refl
@@ -322,7 +322,7 @@ module _ (x : Life) (place : ℕ) where
 
   pub over_heard : (ms : List Mark) (b : Bool) → partner_marks ms (Over (Closed b) place) ≡ Over (Closed b) place
   over_heard [] b = refl
-  over_heard (Ask p ∷ ms) b = ap (λ (s : Stage). partner_marks ms s) (same_if (place == x.partner_stamp)) ∙ over_heard ms b where
+  over_heard (Ask p ∷ ms) b = ap (λ (s : Stage). partner_marks ms s) (same_if _) ∙ over_heard ms b where
     same_if : (v : Bool) → (if v then Over (Closed b) place else Over (Closed b) place) ≡ Over (Closed b) place
     same_if true = refl
     same_if false = refl

@@ -28,7 +28,7 @@ pub data Outs (q : PairState) (p : Parcel) (m : HostMessage) : Type 0 where
 module _ (hosts : Network) (ms : List Moment) (l : Lawful hosts ms) (h : Host) (m : HostMessage)
     (n : IsNext (program h ms) m) (ours : AreOurs hosts h n.peer.host) where
   pub pair_is : pair_with n.peer.host (program h ms).peers ≡ n.peer.pair
-  pair_is = next_pair (program h ms).peers n.peer n.parcel n.order n.next
+  pair_is = next_pair _ n.peer n.parcel n.order n.next
 
   agrees : Agrees (pair_with n.peer.host (program h ms).peers) (pair h n.peer.host (events_of ms))
   agrees = story_agrees hosts ms h n.peer.host ours (coupled_in hosts ms l).story
@@ -205,14 +205,14 @@ module _ (hosts : Network) (x : Life) (ours : AreOurs hosts x.host x.peer) where
   owes_law (Crossed (crossing.Out m) ∷ ms) l = out_owed m ms l (owes_law ms (below hosts (Crossed (crossing.Out m)) ms l))
   owes_law (Crossed (crossing.In m) ∷ ms) l = in_owed m ms l (owes_law ms (below hosts (Crossed (crossing.In m)) ms l))
   owes_law (Crossed (crossing.Answer kind f) ∷ ms) l =
-      cut_same (fails kind && (same_host x.host f.source && same_host x.peer f.destination) && not (course_in x ms).owes) (places ms) (course_in x ms) ∙ owes_law ms (below hosts (Crossed (crossing.Answer kind f)) ms l)
-      ∙ sym (told_same (are x.host x.peer f.source f.destination) f.link.0 kind (pair x.host x.peer (events_of ms)))
+      cut_same _ _ _ ∙ owes_law ms (below hosts (Crossed (crossing.Answer kind f)) ms l)
+      ∙ sym (told_same _ f.link.0 kind _)
   owes_law (Crossed (crossing.Down h) ∷ ms) l =
-      stops (same_host x.host h) (record (ended_by (cut Stopped (places ms)) (course_in x ms)) { owes = false }) (course_in x ms) (pair x.host x.peer (events_of ms)) (owes_law ms (below hosts (Crossed (crossing.Down h)) ms l)) refl
+      stops _ _ _ _ (owes_law ms (below hosts (Crossed (crossing.Down h)) ms l)) refl
   owes_law (Crossed (crossing.Up h) ∷ ms) l =
-      stops (same_host x.host h) (record (course_in x ms) { owes = false }) (course_in x ms) (pair x.host x.peer (events_of ms)) (owes_law ms (below hosts (Crossed (crossing.Up h)) ms l)) refl
+      stops _ _ _ _ (owes_law ms (below hosts (Crossed (crossing.Up h)) ms l)) refl
   owes_law (Asked h (request.Contact peer) ∷ ms) l =
-      cut_same (same_host x.host h && same_host x.peer peer) (places ms) (course_in x ms) ∙ owes_law ms (below hosts (Asked h (request.Contact peer)) ms l) ∙ sym (call_same (are x.host x.peer h peer) (pair x.host x.peer (events_of ms)))
+      cut_same _ _ _ ∙ owes_law ms (below hosts (Asked h (request.Contact peer)) ms l) ∙ sym (call_same _ _)
   owes_law (Asked h r ∷ ms) l = owes_law ms (below hosts (Asked h r) ms l)
 
   -- so it is in the program

@@ -68,7 +68,7 @@ none_in origin place (s ∷ []) words x h none = by (is_past s) refl where
   by false e =
       let is : plain origin s ≡ nothing = sym (h.2 ∙ live_end origin s e) ∙ none in
       live_end itself s e
-      ∙ fields s.asked (came_from itself s.partner) (is_sent s.closing) s.partner_closed (ap (λ (y : End). y.asked) is) (came_none origin s.partner (ap (λ (y : End). y.partner) is)) (ap (λ (y : End). y.gone) is) (ap (λ (y : End). y.taken) is)
+      ∙ fields s.asked _ _ s.partner_closed (ap (λ (y : End). y.asked) is) (came_none origin s.partner (ap (λ (y : End). y.partner) is)) (ap (λ (y : End). y.gone) is) (ap (λ (y : End). y.taken) is)
 none_in origin place (s ∷ t ∷ ss) words x h none = absurd h
 
 pub has_in : (origin : ℕ → ℕ) (own foreign : ℕ) (q : PairState) (x : End) → HasEnd origin own foreign q x → HasEnd itself own foreign q (end_in (at own foreign q.entries))
@@ -78,7 +78,7 @@ has_in origin own foreign q x h = record {
 }
 
 pub alike : (origin : ℕ → ℕ) (own foreign : ℕ) (q : PairState) (x : End) → HasEnd origin own foreign q x → Alike x (end_in (at own foreign q.entries))
-alike origin own foreign q x h = alike_in origin 0 (at own foreign q.entries) (marks 0 own foreign q.queue) x (h.ends 0)
+alike origin own foreign q x h = alike_in origin 0 _ _ x (h.ends 0)
 
 -- there is one
 pub once : (own foreign : ℕ) (q : PairState) (x : End) → HasEnd itself own foreign q x → end_in (at own foreign q.entries) ≡ x
@@ -105,15 +105,15 @@ like_when_close true ms ns h = h
 like_when_close false ms ns h = h
 
 like_mark : (p q own foreign : ℕ) (c : Command) (ms ns : List Mark) → LikeMarks ms ns → LikeMarks (mark_of p own foreign c ++ ms) (mark_of q own foreign c ++ ns)
-like_mark p q own foreign (command.Rts r n l) ms ns h = like_when_ask p q (r == own && n == foreign) ms ns h
-like_mark p q own foreign (command.Str n r size) ms ns h = like_when_ask p q (n == own && r == foreign) ms ns h
-like_mark p q own foreign (command.Cls a b) ms ns h = like_when_close (a == own && b == foreign) ms ns h
+like_mark p q own foreign (command.Rts r n l) ms ns h = like_when_ask p q _ ms ns h
+like_mark p q own foreign (command.Str n r size) ms ns h = like_when_ask p q _ ms ns h
+like_mark p q own foreign (command.Cls a b) ms ns h = like_when_close _ ms ns h
 like_mark p q own foreign c ms ns h = h
 
 pub like_marks : (p q own foreign : ℕ) (os : List Order) → LikeMarks (marks_in p own foreign os)
     (marks_in q own foreign os)
 like_marks p q own foreign [] = tt
-like_marks p q own foreign (Legal c ∷ os) = like_mark p q own foreign c (marks_in p own foreign os) (marks_in q own foreign os) (like_marks p q own foreign os)
+like_marks p q own foreign (Legal c ∷ os) = like_mark p q own foreign c _ _ (like_marks p q own foreign os)
 like_marks p q own foreign (Wrong code octets ∷ os) = like_marks p q own foreign os
 
 fit_alike : (ms ns : List Mark) (x y : End) → Alike x y → LikeMarks ms ns → AllFit ms x → AllFit ns y
@@ -140,7 +140,7 @@ fit_alike (Close ∷ ms) (Close ∷ ns) x y a l fit = (
 
 pub fits_here : (origin : ℕ → ℕ) (own foreign : ℕ) (q : PairState) (x : End) (n place : ℕ) (os : List Order) → HasEnd origin own foreign q x → AllFit (marks_in n foreign own os) x → AllFit (marks_in place foreign own os) (end_in (at own foreign q.entries))
 fits_here origin own foreign q x n place os h fit =
-    fit_alike (marks_in n foreign own os) (marks_in place foreign own os) x (end_in (at own foreign q.entries)) (alike origin own foreign q x h) (like_marks n place foreign own os) fit
+    fit_alike _ _ x _ (alike origin own foreign q x h) (like_marks n place foreign own os) fit
 
 -- the end of a life that continues
 pub record IsGoing (x : Life) (e : End) : Type 0 where
@@ -182,10 +182,10 @@ module _ (hosts : Network) (ms : List Moment) (l : Lawful hosts ms) where
     live = ap (λ (e : End). e.gone && e.taken) is ∙ at_it.1;
   } where
     there : Among h.end (pair_with x.peer (program x.host ms).peers).entries × (is_mine_on x.socket h.end ≡ true)
-    there = end_at x (program x.host ms) h
+    there = end_at x _ h
 
     at_it : (law_end x.host x.peer x.socket x.foreign ms ≡ plain itself (standing h.end)) × (is_past (standing h.end) ≡ false)
-    at_it = entry_is x.host x.peer ours x.socket x.foreign h.end there.0 (eqb-true h.end.own x.socket (both h.end.mine (h.end.own == x.socket) there.1).1) h.foreign
+    at_it = entry_is x.host x.peer ours x.socket x.foreign h.end there.0 (eqb-true h.end.own x.socket (both h.end.mine _ there.1).1) h.foreign
 
     is : law_end x.host x.peer x.socket x.foreign ms ≡ plain itself (standing h.end)
     is = at_it.0

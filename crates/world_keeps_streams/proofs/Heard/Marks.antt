@@ -57,8 +57,8 @@ module _ (foreign own : ℕ) where
 
   order_adds : (place stamp said : ℕ) (c : Command) (n : ℕ) → closes_by (Hears stamp said c) foreign own n ≡ adds (mark_of place foreign own c) n
   order_adds place stamp said (command.Cls theirs mine) n = cls_same theirs mine n
-  order_adds place stamp said (command.Rts a b c) n = ask_same (a == foreign && b == own) place n
-  order_adds place stamp said (command.Str a b c) n = ask_same (a == foreign && b == own) place n
+  order_adds place stamp said (command.Rts a b c) n = ask_same _ place n
+  order_adds place stamp said (command.Str a b c) n = ask_same _ place n
   order_adds place stamp said c n = refl
 
   pub orders_add : (place : ℕ) (peer : Host) (stamp : ℕ) (orders : List Order) (t : TurnState) (older : List calls.Moment) (n : ℕ)
@@ -98,7 +98,7 @@ none_if false ms h = tt
 
 pub none_next : (peer : Host) (stamp : ℕ) (listening : List Listener) (o : Option (Peer × Parcel)) → NoneHeard (next_calls peer stamp listening o)
 none_next peer stamp listening None = tt
-none_next peer stamp listening (Some (p, x)) = none_if (same_host peer p.host) (parcel_calls peer stamp x p.pair listening) (none_parcel peer stamp x p.pair listening)
+none_next peer stamp listening (Some (p, x)) = none_if _ _ (none_parcel peer stamp x p.pair listening)
 
 pub none_answer : (link : ℕ) (q : PairState) (listening : List Listener) → NoneHeard (answer_calls link q listening)
 none_answer link q listening = none_if (is_busy q.busy link) (called (Answered link) q listening ∷ []) (λ foreign own n. refl, tt)

@@ -51,9 +51,9 @@ module _ (strange : Host → Bool) where
 
   both_by : (x : Moment) (k m : Kept) → AreAlike k.book.lives m.book.lives
       → AreAlike (kept_by x k).book.lives (kept_by x m).book.lives
-  both_by (Crossed (crossing.Down h)) k m same = both_where (lives_on h) life_ended k.book.lives m.book.lives (λ x. (refl, refl)) same
+  both_by (Crossed (crossing.Down h)) k m same = both_where _ life_ended k.book.lives m.book.lives (λ x. (refl, refl)) same
   both_by (Crossed c) k m same = same
-  both_by (Asked h (request.Grant socket messages bits)) k m same = both_where (lives_at h socket) (granted messages bits) k.book.lives m.book.lives (λ x. (refl, refl)) same
+  both_by (Asked h (request.Grant socket messages bits)) k m same = both_where _ _ k.book.lives m.book.lives (λ x. (refl, refl)) same
   both_by (Asked h r) k m same = same
 
   -- ---- what a stranger's host does changes none of them
@@ -83,11 +83,11 @@ module _ (strange : Host → Bool) where
     aside_told (notice.Opened socket peer foreign own partner) lives =
         filter-append (is_among strange) lives (new_life h socket peer foreign own partner ∷ [])
         ∙ ap (λ (b : Bool). lives_among strange lives ++ (if not b && not (strange peer) then new_life h socket peer foreign own partner ∷ [] else [])) on ∙ append-nil (lives_among strange lives)
-    aside_told (notice.Ended socket peer foreign) lives = aside_where (lives_between h socket peer foreign) life_ended lives (λ x. (refl, refl)) (λ x is. rw (off x is) refl)
-    aside_told (notice.PairReset peer) lives = aside_where (lives_with h peer) life_ended lives (λ x. (refl, refl)) (λ x is. rw (off x is) refl)
-    aside_told (notice.Sent socket bits) lives = aside_where (lives_at h socket) (carried bits) lives (λ x. (refl, refl)) (λ x is. rw (off x is) refl)
-    aside_told (notice.Arrived socket bits) lives = aside_where (lives_at h socket) (carried bits) lives (λ x. (refl, refl)) (λ x is. rw (off x is) refl)
-    aside_told (notice.Returned socket messages bits) lives = aside_where (lives_at h socket) (returned messages bits) lives (λ x. (refl, refl)) (λ x is. rw (off x is) refl)
+    aside_told (notice.Ended socket peer foreign) lives = aside_where _ life_ended lives (λ x. (refl, refl)) (λ x is. rw (off x is) refl)
+    aside_told (notice.PairReset peer) lives = aside_where _ life_ended lives (λ x. (refl, refl)) (λ x is. rw (off x is) refl)
+    aside_told (notice.Sent socket bits) lives = aside_where _ _ lives (λ x. (refl, refl)) (λ x is. rw (off x is) refl)
+    aside_told (notice.Arrived socket bits) lives = aside_where _ _ lives (λ x. (refl, refl)) (λ x is. rw (off x is) refl)
+    aside_told (notice.Returned socket messages bits) lives = aside_where _ _ lives (λ x. (refl, refl)) (λ x is. rw (off x is) refl)
     aside_told n lives = refl
 
     aside_all : (ns : List Notice) (lives : List Life) → AreAlike (all_lives h ns lives) lives
@@ -95,9 +95,9 @@ module _ (strange : Host → Bool) where
     aside_all (n ∷ ns) lives = aside_all ns (lives_told h n lives) ∙ aside_told n lives
 
   aside_by : (x : Moment) (k : Kept) → strange (host_in x) ≡ true → AreAlike (kept_by x k).book.lives k.book.lives
-  aside_by (Crossed (crossing.Down h)) k on = aside_where h on (lives_on h) life_ended k.book.lives (λ x. (refl, refl)) (λ x is. rw (off h on x is) refl)
+  aside_by (Crossed (crossing.Down h)) k on = aside_where h on _ life_ended k.book.lives (λ x. (refl, refl)) (λ x is. rw (off h on x is) refl)
   aside_by (Crossed c) k on = refl
-  aside_by (Asked h (request.Grant socket messages bits)) k on = aside_where h on (lives_at h socket) (granted messages bits) k.book.lives (λ x. (refl, refl)) (λ x is. rw (off h on x is) refl)
+  aside_by (Asked h (request.Grant socket messages bits)) k on = aside_where h on _ _ k.book.lives (λ x. (refl, refl)) (λ x is. rw (off h on x is) refl)
   aside_by (Asked h r) k on = refl
 
   only_aside : (x : Moment) (k : Kept) → strange (host_in x) ≡ true
@@ -147,7 +147,7 @@ module _ (hosts : Network) where
 
   pub among_there : (x : Life) (lives : List Life) → AreOurs hosts x.host x.peer → Contains lives x
       → Contains (lives_among hosts.strange lives) x
-  among_there x lives ours there = contains x (lives_among hosts.strange lives) (of_among hosts.strange x lives (among_ours x ours) (is_of x lives there))
+  among_there x lives ours there = contains x _ (of_among hosts.strange x lives (among_ours x ours) (is_of x lives there))
 
   -- two of them are two among these
   pub two_among : (x y : Life) (lives : List Life) → AreOurs hosts x.host x.peer → AreOurs hosts y.host y.peer
@@ -166,16 +166,16 @@ module _ (hosts : Network) where
   -- one of them is in the network's book, and back
   pub among_now : (ms : List Moment) (x : Life) → AreOurs hosts x.host x.peer → Contains (kept_in ms).book.lives x
       → Contains (lives_among hosts.strange (mixed_kept hosts.strange ms).book.lives) x
-  among_now ms x ours there = subst (λ (ls : List Life). Contains ls x) (among_same hosts.strange ms) (among_there x (kept_in ms).book.lives ours there)
+  among_now ms x ours there = subst (λ (ls : List Life). Contains ls x) (among_same hosts.strange ms) (among_there x _ ours there)
 
   pub kept_there : (ms : List Moment) (x : Life) → AreOurs hosts x.host x.peer → Contains (kept_in ms).book.lives x
       → Contains (mixed_kept hosts.strange ms).book.lives x
-  kept_there ms x ours there = (in_book hosts (mixed_kept hosts.strange ms).book.lives x (among_now ms x ours there)).0
+  kept_there ms x ours there = (in_book hosts _ x (among_now ms x ours there)).0
 
   pub now_kept : (ms : List Moment) (x : Life)
       → Contains (lives_among hosts.strange (mixed_kept hosts.strange ms).book.lives) x
       → Contains (kept_in ms).book.lives x × AreOurs hosts x.host x.peer
-  now_kept ms x there = in_book hosts (kept_in ms).book.lives x (subst (λ (ls : List Life). Contains ls x) (sym (among_same hosts.strange ms)) there)
+  now_kept ms x there = in_book hosts _ x (subst (λ (ls : List Life). Contains ls x) (sym (among_same hosts.strange ms)) there)
 
 -- ---- what is beside them
 
@@ -185,7 +185,7 @@ module _ {A : Type 0} (hosts : Network) (x : Life) (a : A) where
       → IsBeside x a (lives_among hosts.strange lives) (beside_among hosts.strange lives others)
       → IsBeside x a lives others × AreOurs hosts x.host x.peer
   in_beside [] others i = absurd i
-  in_beside (y ∷ lives) [] i = absurd (nothing (lives_among hosts.strange (y ∷ lives)) i) where
+  in_beside (y ∷ lives) [] i = absurd (nothing _ i) where
     nothing : (ls : List Life) → IsBeside x a ls [] → ⊥
     nothing [] j = j
     nothing (z ∷ ls) j = j
@@ -221,6 +221,6 @@ module _ (hosts : Network) (moments : List Moment) (story : IsStory hosts moment
 
   pub safe_partners : SafePartners (crossings_of moments) (lives_among hosts.strange (kept_in moments).book.lives)
   safe_partners =
-      pairing.safe_partners hosts moments story run mails served (lives_among hosts.strange (kept_in moments).book.lives)
+      pairing.safe_partners hosts moments story run mails served (lives_among hosts.strange _)
       (λ x there. in_book hosts (mixed_kept hosts.strange moments).book.lives x (subst (λ (ls : List Life). Contains ls x) (among_same hosts.strange moments) there))
       (λ x y two. two_in_book hosts (mixed_kept hosts.strange moments).book.lives x y (subst (λ (ls : List Life). AreTwo ls x y) (among_same hosts.strange moments) two))

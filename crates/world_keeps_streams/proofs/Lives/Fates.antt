@@ -237,16 +237,16 @@ turned_over h ns false turn x f goes never ends fated how = turned_same h ns x f
 between_at : (h : Host) (socket : ℕ) (peer : Host) (foreign : ℕ) (x : Life) → lives_between h socket peer foreign x ≡ true
     → (lives_at h socket x ≡ true) × IsEnd x (notice.Ended socket peer foreign)
 between_at h socket peer foreign x e =
-    let p : ((lives_at h socket x && same_host peer x.peer) ≡ true) × ((x.foreign == foreign) ≡ true) = both (lives_at h socket x && same_host peer x.peer) (x.foreign == foreign) e in
-    let q : (lives_at h socket x ≡ true) × (same_host peer x.peer ≡ true) = both (lives_at h socket x) (same_host peer x.peer) p.0 in
-    let r : ((same_host h x.host && x.socket == socket) ≡ true) × (not x.ended ≡ true) = both (same_host h x.host && x.socket == socket) (not x.ended) q.0 in
-    let at : (x.socket == socket) ≡ true = (both (same_host h x.host) (x.socket == socket) r.0).1 in
+    let p : ((lives_at h socket x && same_host peer x.peer) ≡ true) × ((x.foreign == foreign) ≡ true) = both _ _ e in
+    let q : (lives_at h socket x ≡ true) × (same_host peer x.peer ≡ true) = both _ _ p.0 in
+    let r : ((same_host h x.host && x.socket == socket) ≡ true) × (not x.ended ≡ true) = both _ _ q.0 in
+    let at : (x.socket == socket) ≡ true = (both _ _ r.0).1 in
     (q.0, (same_host-true peer x.peer q.1, sym (eqb-true x.socket socket at), sym (eqb-true x.foreign foreign p.1)))
 
 at_host : (h : Host) (socket : ℕ) (x : Life) → lives_at h socket x ≡ true → h ≡ x.host
 at_host h socket x e =
-    let p : ((same_host h x.host && x.socket == socket) ≡ true) × (not x.ended ≡ true) = both (same_host h x.host && x.socket == socket) (not x.ended) e in
-    same_host-true h x.host (both (same_host h x.host) (x.socket == socket) p.0).0
+    let p : ((same_host h x.host && x.socket == socket) ≡ true) × (not x.ended ≡ true) = both _ _ e in
+    same_host-true h x.host (both _ _ p.0).0
 
 -- those with a peer
 with_names : (h peer : Host) (x : Life) → lives_with h peer x ≡ true → (h ≡ x.host) × (peer ≡ x.peer)
@@ -255,7 +255,7 @@ with_names h peer x e =
     (same_host-true h x.host p.0, same_host-true peer x.peer p.1)
 
 on_host : (h : Host) (x : Life) → lives_on h x ≡ true → h ≡ x.host
-on_host h x e = same_host-true h x.host (both (same_host h x.host) (not x.ended) e).0
+on_host h x e = same_host-true h x.host (both _ _ e).0
 
 -- ---- fates
 
@@ -326,7 +326,7 @@ lives_come : (h : Host) (ns : List Notice) (test : Life → Bool) (change : Life
     → ((z : Life) → test z ≡ true → z.ended ≡ false) → IsBeside y g (where_it test change lives) fates → Comes h ns lives fates y g
 lives_come h ns test change lives fates y g names keeps goes i =
     let w : (x : Life) × IsBeside x g lives fates × (y ≡ changed_when (test x) change x) = was_life test change lives fates y g i in
-    inl (w.0, g, w.1, subst (λ (z : Life). Turned h ns w.0 g z g) (sym w.2) (turned_life h ns (test w.0) change w.0 g names keeps (goes w.0)))
+    inl (w.0, g, w.1, subst (λ (z : Life). Turned h ns w.0 g z g) (sym w.2) (turned_life h ns _ change w.0 g names keeps (goes w.0)))
 
 over_comes : (h : Host) (ns : List Notice) (test : Life → Bool) (turn : Fate → Fate) (lives : List Life) (fates : List Fate) (y : Life) (g : Fate) → ((z : Life) → test z ≡ true → z.ended ≡ false) → ((k : Fate) → turn k ≡ fate.Open → ⊥)
     → ((x : Life) (k : Fate) → IsBeside x k lives fates → test x ≡ true → turn k ≡ fate.Ended → (k ≡ fate.Open) × (h ≡ x.host) × TellsEnd x ns)
@@ -339,13 +339,13 @@ over_comes h ns test turn lives fates y g goes never ends a how i =
       w.how,
       w.there,
       subst (λ (k : Fate). Turned h ns w.life w.how y k) (sym w.fate_is)
-          (subst (λ (z : Life). Turned h ns w.life w.how z (if test w.life then turn w.how else w.how)) (sym w.is) (turned_over h ns (test w.life) turn w.life w.how (goes w.life) never (ends w.life w.how w.there)
+          (subst (λ (z : Life). Turned h ns w.life w.how z (if test w.life then turn w.how else w.how)) (sym w.is) (turned_over h ns _ turn w.life w.how (goes w.life) never (ends w.life w.how w.there)
           (λ e. sym (beside_over lives fates w.life w.how a w.there) ∙ goes w.life e) (how w.life w.how))),
     )
 
 told_comes : (h : Host) (n : Notice) (lives : List Life) (fates : List Fate) (y : Life) (g : Fate) → AreFated lives fates → IsBeside y g (lives_told h n lives) (fates_told h n lives fates) → Comes h (n ∷ []) lives fates y g
-told_comes h (notice.Opened socket peer foreign own partner) lives fates y g a i = elim (was_more lives fates (new_life h socket peer foreign own partner) fate.Open y g a i) [
-  | inl old ↦ inl (y, g, old, turned_same h (notice.Opened socket peer foreign own partner ∷ []) y g)
+told_comes h (notice.Opened socket peer foreign own partner) lives fates y g a i = elim (was_more lives fates _ fate.Open y g a i) [
+  | inl old ↦ inl (y, g, old, turned_same h _ y g)
   | inr new ↦ inr (record {
     granted = ap (λ (z : Life). z.granted) new.0;
     host = ap (λ (z : Life). z.host) (sym new.0);
@@ -355,23 +355,23 @@ told_comes h (notice.Opened socket peer foreign own partner) lives fates y g a i
   })
 ]
 told_comes h (notice.Ended socket peer foreign) lives fates y g a i =
-    over_comes h (notice.Ended socket peer foreign ∷ []) (lives_between h socket peer foreign) over_by_cls lives fates y g (λ z e. goes_at h socket z (between_at h socket peer foreign z e).0) over_never
+    over_comes h _ _ over_by_cls lives fates y g (λ z e. goes_at h socket z (between_at h socket peer foreign z e).0) over_never
     (λ x k there e turns.
     (let p : (lives_at h socket x ≡ true) × IsEnd x (notice.Ended socket peer foreign) = between_at h socket peer foreign x e in
     let over : is_over k ≡ false = sym (beside_over lives fates x k a there) ∙ goes_at h socket x p.0 in
     (over_open k over turns, at_host h socket x p.0, inl p.1))) a
     (λ x k e. (let p : (lives_at h socket x ≡ true) × IsEnd x (notice.Ended socket peer foreign) = between_at h socket peer foreign x e in inr (inl (over_cls k, at_host h socket x p.0, inl p.1)))) i
 told_comes h (notice.PairReset peer) lives fates y g a i =
-    over_comes h (notice.PairReset peer ∷ []) (lives_with h peer) (λ f. fate.Reset) lives fates y g (goes_with h peer) (λ k e. absurd (let no : fate.Reset ≡ fate.Open = e in cc))
+    over_comes h _ _ _ lives fates y g (goes_with h peer) (λ k e. absurd (let no : fate.Reset ≡ fate.Open = e in cc))
     (λ x k there e turns. absurd (let no : fate.Reset ≡ fate.Ended = turns in cc)) a
     (λ x k e. (let p : (h ≡ x.host) × (peer ≡ x.peer) = with_names h peer x e in inr (inr (refl, p.0, inl p.1)))) i
 told_comes h (notice.Sent socket bits) lives fates y g a i =
-    lives_come h (notice.Sent socket bits ∷ []) (lives_at h socket) (carried bits) lives fates y g (λ z. record { host = refl; socket = refl; peer = refl; foreign = refl; own = refl; partner = refl }) (λ z. refl) (goes_at h socket) i
+    lives_come h _ _ _ lives fates y g (λ z. record { host = refl; socket = refl; peer = refl; foreign = refl; own = refl; partner = refl }) (λ z. refl) (goes_at h socket) i
 told_comes h (notice.Arrived socket bits) lives fates y g a i =
-    lives_come h (notice.Arrived socket bits ∷ []) (lives_at h socket) (carried bits) lives fates y g (λ z. record { host = refl; socket = refl; peer = refl; foreign = refl; own = refl; partner = refl }) (λ z. refl) (goes_at h socket) i
+    lives_come h _ _ _ lives fates y g (λ z. record { host = refl; socket = refl; peer = refl; foreign = refl; own = refl; partner = refl }) (λ z. refl) (goes_at h socket) i
 told_comes h (notice.Returned socket messages bits) lives fates y g a i =
-    lives_come h (notice.Returned socket messages bits ∷ []) (lives_at h socket) (returned messages bits) lives fates y g (λ z. record { host = refl; socket = refl; peer = refl; foreign = refl; own = refl; partner = refl }) (λ z. refl) (goes_at h socket) i
-told_comes h n lives fates y g a i = inl (y, g, i, turned_same h (n ∷ []) y g)
+    lives_come h _ _ _ lives fates y g (λ z. record { host = refl; socket = refl; peer = refl; foreign = refl; own = refl; partner = refl }) (λ z. refl) (goes_at h socket) i
+told_comes h n lives fates y g a i = inl (y, g, i, turned_same h _ y g)
 
 turned_back : (x y : Life) → Named x y → Named y x
 turned_back x y m = record { host = sym m.host; socket = sym m.socket; peer = sym m.peer; foreign = sym m.foreign; own = sym m.own; partner = sym m.partner }
@@ -445,19 +445,19 @@ down_step h true x f goes fated here = record {
   over = λ e. absurd (let no : true ≡ false = sym e ∙ fated refl in cc);
   how = λ e. inr (refl, here refl);
 }
-down_step h false x f goes fated here = same_step (Crossed (crossing.Down h)) x f (λ i. i)
+down_step h false x f goes fated here = same_step _ x f (λ i. i)
 
 crossed_step : (c : Crossing) (lives : List Life) (fates : List Fate) (y : Life) (g : Fate) → AreFated lives fates → IsBeside y g (lives_crossed c lives) (fates_crossed c lives fates) → CameBy (Crossed c) lives fates y g
 crossed_step (crossing.Down h) lives fates y g a i =
-    let w : Was y g lives fates (lives_on h) life_ended (λ f. fate.Stopped) = was_where (lives_on h) life_ended (λ f. fate.Stopped) lives fates y g i in (
+    let w : Was y g lives fates (lives_on h) life_ended (λ f. fate.Stopped) = was_where _ life_ended _ lives fates y g i in (
       w.life,
       w.how,
       w.there,
       subst (λ (k : Fate). Stepped (Crossed (crossing.Down h)) w.life w.how y k) (sym w.fate_is)
-          (subst (λ (z : Life). Stepped (Crossed (crossing.Down h)) w.life w.how z (if lives_on h w.life then fate.Stopped else w.how)) (sym w.is) (down_step h (lives_on h w.life) w.life w.how (goes_on h w.life)
+          (subst (λ (z : Life). Stepped (Crossed (crossing.Down h)) w.life w.how z (if lives_on h w.life then fate.Stopped else w.how)) (sym w.is) (down_step h _ w.life w.how (goes_on h w.life)
           (λ e. sym (beside_over lives fates w.life w.how a w.there) ∙ goes_on h w.life e) (on_host h w.life))),
     )
-crossed_step c lives fates y g a i = (y, g, i, same_step (Crossed c) y g (λ e. e))
+crossed_step c lives fates y g a i = (y, g, i, same_step _ y g (λ e. e))
 
 close_step : (h : Host) (socket : ℕ) (v : Bool) (x : Life) (f : Fate) → lives_at h socket x ≡ v → Stepped (Asked h (request.Close socket)) x f x (if v then closing f else f)
 close_step h socket true x f is = record {
@@ -470,7 +470,7 @@ close_step h socket true x f is = record {
   over = closing_over f;
   how = λ e. inl (closing_goes f e);
 }
-close_step h socket false x f is = same_step (Asked h (request.Close socket)) x f (λ i. absurd (let no : true ≡ false = sym i ∙ is in cc))
+close_step h socket false x f is = same_step _ x f (λ i. absurd (let no : true ≡ false = sym i ∙ is in cc))
 
 grant_step : (h : Host) (socket messages bits : ℕ) (v : Bool) (x : Life) (f : Fate) → (v ≡ true → x.ended ≡ false) → Stepped (Asked h (request.Grant socket messages bits)) x f (changed_when v (granted messages bits) x) f
 grant_step h socket messages bits true x f goes = record {
@@ -483,7 +483,7 @@ grant_step h socket messages bits true x f goes = record {
   over = λ e. refl;
   how = λ e. inl e;
 }
-grant_step h socket messages bits false x f goes = same_step (Asked h (request.Grant socket messages bits)) x f (λ i. i)
+grant_step h socket messages bits false x f goes = same_step _ x f (λ i. i)
 
 asked_step : (h : Host) (r : Request) (lives : List Life) (fates : List Fate) (y : Life) (g : Fate) → IsBeside y g (lives_asked h r lives) (fates_asked h r lives fates) → CameBy (Asked h r) lives fates y g
 asked_step h (request.Close socket) lives fates y g i =

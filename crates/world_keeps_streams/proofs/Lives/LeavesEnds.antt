@@ -65,7 +65,7 @@ module _ (s : NcpState) (stamp : ℕ) where
 
   message_quiet : (m : HostMessage) → AreQuiet (message_taken m.flow.source stamp m.flow.link.0 m.text (turn_of s m.flow.source)).notices → AreQuiet (accepted s (inbound.Message m) stamp).1
   unfolding accepted
-  message_quiet m q = if_quiet (same_host s.own m.flow.destination) (after_turn s m.flow.source (message_taken m.flow.source stamp m.flow.link.0 m.text (turn_of s m.flow.source))) (s, []) q tt
+  message_quiet m q = if_quiet _ _ (s, []) q tt
 
   reset_told : (peer : Host) (ph : Phase) → AreQuiet (reset_notices peer ph)
   reset_told peer phase.Closed = (tt, tt)
@@ -77,10 +77,10 @@ module _ (s : NcpState) (stamp : ℕ) where
   reply_told peer ph = tt
 
   pub reset_quiet : (m : HostMessage) → (m.flow.link.0 == 0) ≡ true → orders_of m.text ≡ Legal command.Rst ∷ [] → AreQuiet (accepted s (inbound.Message m) stamp).1
-  reset_quiet m zero orders = message_quiet m (rw (zero, orders) (reset_told m.flow.source (pair_with m.flow.source s.peers).phase))
+  reset_quiet m zero orders = message_quiet m (rw (zero, orders) (reset_told m.flow.source _))
 
   pub reply_quiet : (m : HostMessage) → (m.flow.link.0 == 0) ≡ true → orders_of m.text ≡ Legal command.Rrp ∷ [] → AreQuiet (accepted s (inbound.Message m) stamp).1
-  reply_quiet m zero orders = message_quiet m (rw (zero, orders) (reply_told m.flow.source (pair_with m.flow.source s.peers).phase))
+  reply_quiet m zero orders = message_quiet m (rw (zero, orders) (reply_told m.flow.source _))
 
   contact_told : (peer : Host) (v : Bool) → AreQuiet (if v then notice.PairReset peer ∷ [] else [])
   contact_told peer true = (tt, tt)
@@ -88,7 +88,7 @@ module _ (s : NcpState) (stamp : ℕ) where
 
   pub request_quiet : (r : Request) → AreQuiet (served_notices s r)
   unfolding served_notices
-  request_quiet (request.Contact peer) = contact_told peer (is_ready (pair_with peer s.peers).phase)
+  request_quiet (request.Contact peer) = contact_told peer _
   request_quiet r = tt
 
 -- ---- a moment
@@ -133,4 +133,4 @@ module _ (hosts : Network) (p : Host) where
   still_stays x y ms ours l before t = by (stay.stays (host_in y) p (events_of (y ∷ ms))) refl where
     by : (v : Bool) → stay.stays (host_in y) p (events_of (y ∷ ms)) ≡ v → stay.stays (host_in y) p (events_of (y ∷ ms)) ≡ true
     by true e = e
-    by false e = absurd (quiet_tells x (notices_by y ms) (quiet y ms ours l e before) t)
+    by false e = absurd (quiet_tells x _ (quiet y ms ours l e before) t)

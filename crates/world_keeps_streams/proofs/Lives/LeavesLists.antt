@@ -94,7 +94,7 @@ module _ (calm : Bool) (h p : Host) where
     host = λ x. k.host (g.change x) ∙ g.host x;
     peer = λ x. k.peer (g.change x) ∙ g.peer x;
     quiet = λ c x e f. twice x (g.change x) (k.change (g.change x)) (g.quiet c x e f) (k.quiet c (g.change x) (g.host x ∙ e) (g.peer x ∙ f));
-    none = λ x i e f. by x e f (of_either x (map k.change g.more) k.more i);
+    none = λ x i e f. by x e f (of_either x _ k.more i);
   } where
     by : (x : Life) → x.host ≡ h → x.peer ≡ p → IsOf x (map k.change g.more) ⊎ IsOf x k.more → ⊥
     by x e f (inl i) =
@@ -137,20 +137,20 @@ module _ (calm : Bool) (h p : Host) where
     at_off socket x e = rw (off x e) refl
 
     elsewhere_told : (n : Notice) (xs : List Life) → Bare calm h p xs (lives_told g n xs)
-    elsewhere_told (notice.Opened socket peer foreign own partner) xs = bare_more xs (new_life g socket peer foreign own partner) (λ e f. clash ⊥ (same_host g h) (ap (same_host g) (sym e) ∙ same_host-refl g) away)
-    elsewhere_told (notice.Ended socket peer foreign) xs = bare_where (lives_between g socket peer foreign) life_ended xs (λ x. (refl, refl)) (λ c x e f. inr refl)
-    elsewhere_told (notice.PairReset peer) xs = bare_where (lives_with g peer) life_ended xs (λ x. (refl, refl)) (λ c x e f. inr refl)
-    elsewhere_told (notice.Sent socket bits) xs = bare_where (lives_at g socket) (carried bits) xs (λ x. (refl, refl)) (λ c x e f. inl (at_off socket x e))
-    elsewhere_told (notice.Arrived socket bits) xs = bare_where (lives_at g socket) (carried bits) xs (λ x. (refl, refl)) (λ c x e f. inl (at_off socket x e))
-    elsewhere_told (notice.Returned socket messages bits) xs = bare_where (lives_at g socket) (returned messages bits) xs (λ x. (refl, refl)) (λ c x e f. inl (at_off socket x e))
+    elsewhere_told (notice.Opened socket peer foreign own partner) xs = bare_more xs _ (λ e f. clash ⊥ (same_host g h) (ap (same_host g) (sym e) ∙ same_host-refl g) away)
+    elsewhere_told (notice.Ended socket peer foreign) xs = bare_where _ life_ended xs (λ x. (refl, refl)) (λ c x e f. inr refl)
+    elsewhere_told (notice.PairReset peer) xs = bare_where _ life_ended xs (λ x. (refl, refl)) (λ c x e f. inr refl)
+    elsewhere_told (notice.Sent socket bits) xs = bare_where _ _ xs (λ x. (refl, refl)) (λ c x e f. inl (at_off socket x e))
+    elsewhere_told (notice.Arrived socket bits) xs = bare_where _ _ xs (λ x. (refl, refl)) (λ c x e f. inl (at_off socket x e))
+    elsewhere_told (notice.Returned socket messages bits) xs = bare_where _ _ xs (λ x. (refl, refl)) (λ c x e f. inl (at_off socket x e))
     elsewhere_told n xs = bare_none xs
 
     elsewhere_all : (ns : List Notice) (k : Kept) → Bare calm h p k.book.lives (all_told g ns k).book.lives
     elsewhere_all [] k = bare_none k.book.lives
-    elsewhere_all (n ∷ ns) k = bare_on k.book.lives (lives_told g n k.book.lives) (all_told g ns (book_told g n k)).book.lives (elsewhere_told n k.book.lives) (elsewhere_all ns (book_told g n k))
+    elsewhere_all (n ∷ ns) k = bare_on k.book.lives _ _ (elsewhere_told n k.book.lives) (elsewhere_all ns (book_told g n k))
 
     elsewhere_asked : (r : Request) (xs : List Life) → Bare calm h p xs (lives_asked g r xs)
-    elsewhere_asked (request.Grant socket messages bits) xs = bare_where (lives_at g socket) (granted messages bits) xs (λ x. (refl, refl)) (λ c x e f. inl (at_off socket x e))
+    elsewhere_asked (request.Grant socket messages bits) xs = bare_where _ _ xs (λ x. (refl, refl)) (λ c x e f. inl (at_off socket x e))
     elsewhere_asked r xs = bare_none xs
 
   -- ---- a notice of the host
@@ -159,31 +159,31 @@ module _ (calm : Bool) (h p : Host) where
   loud f test l c x e g = clash ((test x ≡ false) ⊎ (f x ≡ life_ended x)) calm c l
 
   fine_told : (g : Host) (n : Notice) (xs : List Life) → Fine calm p n → Bare calm h p xs (lives_told g n xs)
-  fine_told g (notice.Opened socket peer foreign own partner) xs t = bare_more xs (new_life g socket peer foreign own partner) (λ e f. t f)
-  fine_told g (notice.Ended socket peer foreign) xs t = bare_where (lives_between g socket peer foreign) life_ended xs (λ x. (refl, refl)) (λ c x e f. inr refl)
-  fine_told g (notice.PairReset peer) xs t = bare_where (lives_with g peer) life_ended xs (λ x. (refl, refl)) (λ c x e f. inr refl)
-  fine_told g (notice.Sent socket bits) xs t = bare_where (lives_at g socket) (carried bits) xs (λ x. (refl, refl)) (loud (carried bits) (lives_at g socket) t)
-  fine_told g (notice.Arrived socket bits) xs t = bare_where (lives_at g socket) (carried bits) xs (λ x. (refl, refl)) (loud (carried bits) (lives_at g socket) t)
-  fine_told g (notice.Returned socket messages bits) xs t = bare_where (lives_at g socket) (returned messages bits) xs (λ x. (refl, refl)) (loud (returned messages bits) (lives_at g socket) t)
+  fine_told g (notice.Opened socket peer foreign own partner) xs t = bare_more xs _ (λ e f. t f)
+  fine_told g (notice.Ended socket peer foreign) xs t = bare_where _ life_ended xs (λ x. (refl, refl)) (λ c x e f. inr refl)
+  fine_told g (notice.PairReset peer) xs t = bare_where _ life_ended xs (λ x. (refl, refl)) (λ c x e f. inr refl)
+  fine_told g (notice.Sent socket bits) xs t = bare_where _ _ xs (λ x. (refl, refl)) (loud _ _ t)
+  fine_told g (notice.Arrived socket bits) xs t = bare_where _ _ xs (λ x. (refl, refl)) (loud _ _ t)
+  fine_told g (notice.Returned socket messages bits) xs t = bare_where _ _ xs (λ x. (refl, refl)) (loud _ _ t)
   fine_told g n xs t = bare_none xs
 
   fine_all : (g : Host) (ns : List Notice) (k : Kept) → AllFine calm p ns → Bare calm h p k.book.lives (all_told g ns k).book.lives
   fine_all g [] k t = bare_none k.book.lives
-  fine_all g (n ∷ ns) k t = bare_on k.book.lives (lives_told g n k.book.lives) (all_told g ns (book_told g n k)).book.lives (fine_told g n k.book.lives t.0) (fine_all g ns (book_told g n k) t.1)
+  fine_all g (n ∷ ns) k t = bare_on k.book.lives _ _ (fine_told g n k.book.lives t.0) (fine_all g ns (book_told g n k) t.1)
 
   fine_asked : (g : Host) (r : Request) (xs : List Life) → IsFineAsked calm r → Bare calm h p xs (lives_asked g r xs)
-  fine_asked g (request.Grant socket messages bits) xs t = bare_where (lives_at g socket) (granted messages bits) xs (λ x. (refl, refl)) (loud (granted messages bits) (lives_at g socket) t)
+  fine_asked g (request.Grant socket messages bits) xs t = bare_where _ _ xs (λ x. (refl, refl)) (loud _ _ t)
   fine_asked g r xs t = bare_none xs
 
   -- ---- a moment
 
   by_elsewhere : (y : Moment) (k : Kept) → same_host (host_in y) h ≡ false → Bare calm h p k.book.lives (kept_by y k).book.lives
-  by_elsewhere (Crossed (crossing.Down g)) k away = bare_where (lives_on g) life_ended k.book.lives (λ x. (refl, refl)) (λ c x e f. inr refl)
+  by_elsewhere (Crossed (crossing.Down g)) k away = bare_where _ life_ended k.book.lives (λ x. (refl, refl)) (λ c x e f. inr refl)
   by_elsewhere (Crossed c) k away = bare_none k.book.lives
   by_elsewhere (Asked g r) k away = elsewhere_asked g away r k.book.lives
 
   by_fine : (y : Moment) (k : Kept) → IsFineBy calm y → Bare calm h p k.book.lives (kept_by y k).book.lives
-  by_fine (Crossed (crossing.Down g)) k fine = bare_where (lives_on g) life_ended k.book.lives (λ x. (refl, refl)) (λ c x e f. inr refl)
+  by_fine (Crossed (crossing.Down g)) k fine = bare_where _ life_ended k.book.lives (λ x. (refl, refl)) (λ c x e f. inr refl)
   by_fine (Crossed c) k fine = bare_none k.book.lives
   by_fine (Asked g r) k fine = fine_asked g r k.book.lives fine
 
@@ -193,7 +193,7 @@ module _ (calm : Bool) (h p : Host) where
 
   pub bare_fine : (y : Moment) (ms : List Moment) → IsFineBy calm y → AllFine calm p (notices_by y ms) → Bare calm h p (kept_in ms).book.lives (kept_in (y ∷ ms)).book.lives
   bare_fine y ms fine all =
-      bare_on (kept_in ms).book.lives (kept_by y (kept_in ms)).book.lives (kept_in (y ∷ ms)).book.lives (by_fine y (kept_in ms) fine) (fine_all (host_in y) (notices_by y ms) (kept_by y (kept_in ms)) all)
+      bare_on _ _ _ (by_fine y _ fine) (fine_all _ _ _ all)
 
 -- ---- a list grows in one way
 
@@ -205,20 +205,20 @@ tail_is x y xs ys e = cc
 
 same_more : (f g : Life → Life) (xs ms ns : List Life) → map f xs ++ ms ≡ map g xs ++ ns → ms ≡ ns
 same_more f g [] ms ns e = e
-same_more f g (x ∷ xs) ms ns e = same_more f g xs ms ns (tail_is (f x) (g x) (map f xs ++ ms) (map g xs ++ ns) e)
+same_more f g (x ∷ xs) ms ns e = same_more f g xs ms ns (tail_is (f x) (g x) _ _ e)
 
 same_change : (f g : Life → Life) (xs ms ns : List Life) → map f xs ++ ms ≡ map g xs ++ ns → (x : Life) → IsOf x xs → f x ≡ g x
 same_change f g [] ms ns e x i = absurd i
-same_change f g (y ∷ xs) ms ns e x (inl is) = ap f is ∙ head_is (f y) (g y) (map f xs ++ ms) (map g xs ++ ns) e ∙ sym (ap g is)
-same_change f g (y ∷ xs) ms ns e x (inr i) = same_change f g xs ms ns (tail_is (f y) (g y) (map f xs ++ ms) (map g xs ++ ns) e) x i
+same_change f g (y ∷ xs) ms ns e x (inl is) = ap f is ∙ head_is (f y) (g y) _ _ e ∙ sym (ap g is)
+same_change f g (y ∷ xs) ms ns e x (inr i) = same_change f g xs ms ns (tail_is (f y) (g y) _ _ e) x i
 
 module _ (calm : Bool) (h p : Host) (y : Moment) (ms : List Moment) (b : Bare calm h p (kept_in ms).book.lives (kept_in (y ∷ ms)).book.lives) where
   one_way : map (grown y ms).change (kept_in ms).book.lives ++ (grown y ms).more ≡ map b.change (kept_in ms).book.lives ++ b.more
   one_way = sym (grown y ms).is ∙ b.is
 
   pub none_of : (x : Life) → IsOf x (grown y ms).more → x.host ≡ h → x.peer ≡ p → ⊥
-  none_of x i e f = b.none x (subst (λ (l : List Life). IsOf x l) (same_more (grown y ms).change b.change (kept_in ms).book.lives (grown y ms).more b.more one_way) i) e f
+  none_of x i e f = b.none x (subst (λ (l : List Life). IsOf x l) (same_more _ b.change _ _ b.more one_way) i) e f
 
   pub quiet_of : calm ≡ true → (x : Life) → IsOf x (kept_in ms).book.lives → x.host ≡ h → x.peer ≡ p → ((grown y ms).change x ≡ x) ⊎ ((grown y ms).change x ≡ life_ended x)
   quiet_of c x i e f =
-      subst (λ (v : Life). (v ≡ x) ⊎ (v ≡ life_ended x)) (sym (same_change (grown y ms).change b.change (kept_in ms).book.lives (grown y ms).more b.more one_way x i)) (b.quiet c x e f)
+      subst (λ (v : Life). (v ≡ x) ⊎ (v ≡ life_ended x)) (sym (same_change _ b.change _ _ b.more one_way x i)) (b.quiet c x e f)

@@ -45,18 +45,18 @@ module _ (calm : Bool) (p : Host) where
 
   fine_endings : (peer : Host) (es : List Entry) → AllFine calm p (flat_map (ending peer) es)
   fine_endings peer [] = tt
-  fine_endings peer (e ∷ es) = fine_both calm p (ending peer e) (flat_map (ending peer) es) (fine_ending peer e) (fine_endings peer es)
+  fine_endings peer (e ∷ es) = fine_both calm p _ _ (fine_ending peer e) (fine_endings peer es)
 
   abbrev Desk : DeskState → Type 0
   Desk d = AllUnasked d.entries × AllFine calm p d.notices
 
   desk_asked : (peer : Host) (stamp own foreign : ℕ) (d : DeskState) → Desk d → Desk (parcel.request_gone peer stamp own foreign d)
   desk_asked peer stamp own foreign d h =
-      let none : AllUnasked (changed_at own foreign (asked_at stamp) d.entries) = unasked_changed (is_at own foreign) (asked_at stamp) d.entries (λ e. refl) h.0 in (
+      let none : AllUnasked (changed_at own foreign _ d.entries) = unasked_changed _ _ d.entries (λ e. refl) h.0 in (
         none,
-        fine_both calm p d.notices (opening_notices peer (entry_at own foreign (changed_at own foreign (asked_at stamp) d.entries))) h.1
-            (subst (λ (ns : List Notice). AllFine calm p ns) (sym (opening_none peer (entry_at own foreign (changed_at own foreign (asked_at stamp) d.entries))
-            (λ e is. unasked_changed (is_at own foreign) (asked_at stamp) d.entries (λ x. refl) h.0 e (found_among (is_at own foreign) (changed_at own foreign (asked_at stamp) d.entries) e is).0))) tt),
+        fine_both calm p d.notices _ h.1
+            (subst (λ (ns : List Notice). AllFine calm p ns) (sym (opening_none peer _
+            (λ e is. unasked_changed (is_at own foreign) (asked_at stamp) d.entries (λ x. refl) h.0 e (found_among _ _ e is).0))) tt),
       )
 
   desk_closed : (peer : Host) (own foreign : ℕ) (d : DeskState) → Desk d → Desk (swept peer (changed (is_at own foreign) cls_sent d))
@@ -108,14 +108,14 @@ module _ (calm : Bool) (p : Host) where
         at : (v : Bool) → same_host g.host p ≡ v → AllFine calm p (offered_by s stamp (next_in s.peers)).1
         at true f =
             let there : pair_with p s.peers ≡ g.pair = ap (λ (h : Host). pair_with h s.peers) (sym (same_host-true g.host p f)) ∙ next_pair s.peers g x order e in
-            rw e (parcel_fine loud g.host stamp g.pair.busy x (desk_of g.pair s.listening) (subst (λ q. AllUnasked q.entries) there none, tt))
-        at false f = all_away loud g.host f (offered s stamp).1 (offer_about s stamp g x e)
+            rw e (parcel_fine loud g.host stamp g.pair.busy x _ (subst (λ q. AllUnasked q.entries) there none, tt))
+        at false f = all_away loud g.host f _ (offer_about s stamp g x e)
 
     -- ---- an answer
 
     module _ (peer : Host) (link : ℕ) (t : TurnState) (told : AllFine calm p t.notices) where
       one_more : (n : Notice) → Fine calm p n → AllFine calm p (t.notices ++ n ∷ [])
-      one_more n f = fine_both calm p t.notices (n ∷ []) told (f, tt)
+      one_more n f = fine_both calm p t.notices _ told (f, tt)
 
       no_more : AllFine calm p (t.notices ++ [])
       no_more = fine_both calm p t.notices [] told tt
@@ -123,9 +123,9 @@ module _ (calm : Bool) (p : Host) where
       fails : (ph : Phase) → AllFine calm p (failed_by peer ph (record t { pair = freed link t.pair })).notices
       fails phase.Closed = told
       fails phase.Want = told
-      fails (phase.Gone early) = one_more (notice.ContactFailed peer) tt
-      fails phase.Heard = one_more (notice.ContactFailed peer) tt
-      fails phase.Ready = one_more (notice.PairReset peer) tt
+      fails (phase.Gone early) = one_more _ tt
+      fails phase.Heard = one_more _ tt
+      fails phase.Ready = one_more _ tt
 
       lost : (v : Bool) → AllFine calm p (if v then failed_by peer t.pair.phase (record t { pair = freed link t.pair }) else settled_turn (record t { pair = freed link t.pair })).notices
       lost true = fails t.pair.phase
@@ -133,7 +133,7 @@ module _ (calm : Bool) (p : Host) where
 
       answer_turn : (kind : Answer) → AllFine calm p (answered_turn peer kind link t).notices
       answer_turn answer.Rfnm = no_more
-      answer_turn kind = lost (is_gone t.pair.phase || not t.pair.owed)
+      answer_turn kind = lost _
 
     if_fine : (v : Bool) (x y : NcpState × List Notice) → AllFine calm p x.1 → AllFine calm p y.1 → AllFine calm p (if v then x else y).1
     if_fine true x y a b = a
@@ -150,7 +150,7 @@ module _ (calm : Bool) (p : Host) where
 
     message_fine : (m : HostMessage) → AllFine calm p (message_taken m.flow.source stamp m.flow.link.0 m.text (turn_of s m.flow.source)).notices → AllFine calm p (accepted s (inbound.Message m) stamp).1
     unfolding accepted
-    message_fine m fine = if_fine (same_host s.own m.flow.destination) (after_turn s m.flow.source (message_taken m.flow.source stamp m.flow.link.0 m.text (turn_of s m.flow.source))) (s, []) fine tt
+    message_fine m fine = if_fine _ _ (s, []) fine tt
 
     reset_told : (peer : Host) (ph : Phase) → AllFine calm p (reset_notices peer ph)
     reset_told peer phase.Closed = (tt, tt)
@@ -163,11 +163,11 @@ module _ (calm : Bool) (p : Host) where
 
     -- an RST is taken
     pub reset_fine : (m : HostMessage) → (m.flow.link.0 == 0) ≡ true → orders_of m.text ≡ Legal command.Rst ∷ [] → AllFine calm p (accepted s (inbound.Message m) stamp).1
-    reset_fine m zero orders = message_fine m (rw (zero, orders) (reset_told m.flow.source (pair_with m.flow.source s.peers).phase))
+    reset_fine m zero orders = message_fine m (rw (zero, orders) (reset_told m.flow.source _))
 
     -- an RRP is taken
     pub reply_fine : (m : HostMessage) → (m.flow.link.0 == 0) ≡ true → orders_of m.text ≡ Legal command.Rrp ∷ [] → AllFine calm p (accepted s (inbound.Message m) stamp).1
-    reply_fine m zero orders = message_fine m (rw (zero, orders) (reply_told m.flow.source (pair_with m.flow.source s.peers).phase))
+    reply_fine m zero orders = message_fine m (rw (zero, orders) (reply_told m.flow.source _))
 
     -- any other is taken by a pair that isn't ready
     order_idle : (peer : Host) (o : Order) (t : TurnState) → IsPlain o → is_ready t.pair.phase ≡ false → order_taken peer stamp o t ≡ t
@@ -183,16 +183,16 @@ module _ (calm : Bool) (p : Host) where
     text_idle : (peer : Host) (link : ℕ) (text : List Bool) (t : TurnState) → ((link == 0) ≡ true → AllPlain (orders_of text)) → is_ready t.pair.phase ≡ false → message_taken peer stamp link text t ≡ t
     text_idle peer link text t plain idle = by (link == 0) refl where
       by : (z : Bool) → (link == 0) ≡ z → message_taken peer stamp link text t ≡ t
-      by true e = rw e (orders_idle peer (orders_of text) t (plain e) idle)
+      by true e = rw e (orders_idle peer _ t (plain e) idle)
       by false e = rw (e, idle) refl
 
     pub idle_fine : (m : HostMessage) → ((m.flow.link.0 == 0) ≡ true → AllPlain (orders_of m.text)) → is_ready (pair_with m.flow.source s.peers).phase ≡ false → AllFine calm p (accepted s (inbound.Message m) stamp).1
     idle_fine m plain idle =
-        message_fine m (subst (λ (t : TurnState). AllFine calm p t.notices) (sym (text_idle m.flow.source m.flow.link.0 m.text (turn_of s m.flow.source) plain idle)) tt)
+        message_fine m (subst (λ (t : TurnState). AllFine calm p t.notices) (sym (text_idle m.flow.source m.flow.link.0 m.text _ plain idle)) tt)
 
     -- a message of another peer
     pub away_message : calm ≡ false → (m : HostMessage) → same_host m.flow.source p ≡ false → AllFine calm p (accepted s (inbound.Message m) stamp).1
-    away_message loud m away = all_away loud m.flow.source away (accepted s (inbound.Message m) stamp).1 (message_about s m stamp)
+    away_message loud m away = all_away loud m.flow.source away _ (message_about s m stamp)
 
     -- ---- what a user asks for
 
@@ -202,5 +202,5 @@ module _ (calm : Bool) (p : Host) where
 
     pub request_fine : (r : Request) → AllFine calm p (served_notices s r)
     unfolding served_notices
-    request_fine (request.Contact peer) = contact_told peer (is_ready (pair_with peer s.peers).phase)
+    request_fine (request.Contact peer) = contact_told peer _
     request_fine r = tt

@@ -221,27 +221,27 @@ with_off h peer x e = rw e (by (same_host h x.host) (same_host peer x.peer)) whe
   by false w = refl
 
 on_off : (h : Host) (x : Life) → x.ended ≡ true → lives_on h x ≡ false
-on_off h x e = and_off (same_host h x.host) x.ended e
+on_off h x e = and_off _ x.ended e
 
 grown_told : (h : Host) (n : Notice) (xs : List Life) → Grown xs (lives_told h n xs)
-grown_told h (notice.Opened socket peer foreign own partner) xs = grown_more xs (new_life h socket peer foreign own partner ∷ [])
-grown_told h (notice.Ended socket peer foreign) xs = grown_where (lives_between h socket peer foreign) life_ended xs (λ x. record { host = refl; socket = refl; peer = refl; foreign = refl; own = refl; partner = refl }) (λ x. omega arith) (between_off h socket peer foreign)
-grown_told h (notice.PairReset peer) xs = grown_where (lives_with h peer) life_ended xs (λ x. record { host = refl; socket = refl; peer = refl; foreign = refl; own = refl; partner = refl }) (λ x. omega arith) (with_off h peer)
-grown_told h (notice.Sent socket bits) xs = grown_where (lives_at h socket) (carried bits) xs (λ x. record { host = refl; socket = refl; peer = refl; foreign = refl; own = refl; partner = refl }) (λ x. omega arith) (at_off h socket)
-grown_told h (notice.Arrived socket bits) xs = grown_where (lives_at h socket) (carried bits) xs (λ x. record { host = refl; socket = refl; peer = refl; foreign = refl; own = refl; partner = refl }) (λ x. omega arith) (at_off h socket)
-grown_told h (notice.Returned socket messages bits) xs = grown_where (lives_at h socket) (returned messages bits) xs (λ x. record { host = refl; socket = refl; peer = refl; foreign = refl; own = refl; partner = refl }) (λ x. omega arith) (at_off h socket)
+grown_told h (notice.Opened socket peer foreign own partner) xs = grown_more xs _
+grown_told h (notice.Ended socket peer foreign) xs = grown_where _ life_ended xs (λ x. record { host = refl; socket = refl; peer = refl; foreign = refl; own = refl; partner = refl }) (λ x. omega arith) (between_off h socket peer foreign)
+grown_told h (notice.PairReset peer) xs = grown_where _ life_ended xs (λ x. record { host = refl; socket = refl; peer = refl; foreign = refl; own = refl; partner = refl }) (λ x. omega arith) (with_off h peer)
+grown_told h (notice.Sent socket bits) xs = grown_where _ _ xs (λ x. record { host = refl; socket = refl; peer = refl; foreign = refl; own = refl; partner = refl }) (λ x. omega arith) (at_off h socket)
+grown_told h (notice.Arrived socket bits) xs = grown_where _ _ xs (λ x. record { host = refl; socket = refl; peer = refl; foreign = refl; own = refl; partner = refl }) (λ x. omega arith) (at_off h socket)
+grown_told h (notice.Returned socket messages bits) xs = grown_where _ _ xs (λ x. record { host = refl; socket = refl; peer = refl; foreign = refl; own = refl; partner = refl }) (λ x. omega arith) (at_off h socket)
 grown_told h n xs = grown_none xs
 
 grown_all_told : (h : Host) (ns : List Notice) (k : Kept) → Grown k.book.lives (all_told h ns k).book.lives
 grown_all_told h [] k = grown_none k.book.lives
-grown_all_told h (n ∷ ns) k = grown_on k.book.lives (lives_told h n k.book.lives) (all_told h ns (book_told h n k)).book.lives (grown_told h n k.book.lives) (grown_all_told h ns (book_told h n k))
+grown_all_told h (n ∷ ns) k = grown_on k.book.lives _ _ (grown_told h n k.book.lives) (grown_all_told h ns (book_told h n k))
 
 grown_crossed : (c : Crossing) (xs : List Life) → Grown xs (lives_crossed c xs)
-grown_crossed (crossing.Down h) xs = grown_where (lives_on h) life_ended xs (λ x. record { host = refl; socket = refl; peer = refl; foreign = refl; own = refl; partner = refl }) (λ x. omega arith) (on_off h)
+grown_crossed (crossing.Down h) xs = grown_where _ life_ended xs (λ x. record { host = refl; socket = refl; peer = refl; foreign = refl; own = refl; partner = refl }) (λ x. omega arith) (on_off h)
 grown_crossed c xs = grown_none xs
 
 grown_asked : (h : Host) (r : Request) (xs : List Life) → Grown xs (lives_asked h r xs)
-grown_asked h (request.Grant socket messages bits) xs = grown_where (lives_at h socket) (granted messages bits) xs (λ x. record { host = refl; socket = refl; peer = refl; foreign = refl; own = refl; partner = refl }) (λ x. omega arith) (at_off h socket)
+grown_asked h (request.Grant socket messages bits) xs = grown_where _ _ xs (λ x. record { host = refl; socket = refl; peer = refl; foreign = refl; own = refl; partner = refl }) (λ x. omega arith) (at_off h socket)
 grown_asked h r xs = grown_none xs
 
 grown_by : (y : Moment) (k : Kept) → Grown k.book.lives (kept_by y k).book.lives

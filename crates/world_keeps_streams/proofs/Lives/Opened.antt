@@ -55,10 +55,10 @@ stays_there : (hosts : Network) (y : Moment) (ms : List Moment) (x : Life) → h
     → ((e : Entry) → Among e (pair_with x.peer (program (host_in y) ms).peers).entries → e.own ≡ x.socket → e.foreign ≡ x.foreign → is_ending e ≡ false)
     → TellsEnd x (notices_by y ms) → ⊥
 stays_there hosts (Crossed (crossing.Out m)) ms x plain story ok goes t =
-    no_endings x _ (said_lasts x.peer x.socket x.foreign (program m.flow.source ms) (places ms) (story.0 plain).peer (story.0 plain).parcel (story.0 plain).order (story.0 plain).next
+    no_endings x _ (said_lasts x.peer x.socket x.foreign _ _ _ _ (story.0 plain).order (story.0 plain).next
     (ok m.flow.source (story.0 plain).peer.host plain) (λ e i own foreign. (or_false (has_cls e.closing) e.partner_closed (goes e i own foreign)).1)) t
 stays_there hosts (Crossed (crossing.In m)) ms x plain story ok goes t =
-    no_endings x _ (heard_lasts x.peer x.socket x.foreign (program m.flow.destination ms) m (places ms)
+    no_endings x _ (heard_lasts x.peer x.socket x.foreign _ m _
     (λ e i own foreign. not_sent e.closing (or_false (has_cls e.closing) e.partner_closed (goes e i own foreign)).0)) t
 stays_there hosts (Crossed (crossing.Answer kind f)) ms x plain story ok goes t = quiet_tells x _ (answer_quiet (program f.source ms) (places ms) kind f) t
 stays_there hosts (Crossed (crossing.Down g)) ms x plain story ok goes t = t
@@ -103,11 +103,11 @@ module _ (hosts : Network) (y : Moment) (ms : List Moment) (l : Lawful hosts (y 
     with e there own foreign true t = absurd (not_shut (λ f i is at. ap is_ending (only f e i there is at own foreign) ∙ t))
 
     by : (o : Option Entry) → entry_at x.socket x.foreign (pair_with x.peer (program x.host ms).peers).entries ≡ o → Before
-    by None none = absurd (not_shut (λ f i is at. absurd (none_found (is_at x.socket x.foreign) (pair_with x.peer (program x.host ms).peers).entries f none i (at_it x.socket x.foreign f is at))))
+    by None none = absurd (not_shut (λ f i is at. absurd (none_found (is_at x.socket x.foreign) _ f none i (at_it x.socket x.foreign f is at))))
     by (Some e) found =
-        let f : Among e (pair_with x.peer (program x.host ms).peers).entries × (is_at x.socket x.foreign e ≡ true) = found_among (is_at x.socket x.foreign) (pair_with x.peer (program x.host ms).peers).entries e found in
-        let parts : ((e.own == x.socket) ≡ true) × ((e.foreign == x.foreign) ≡ true) = both (e.own == x.socket) (e.foreign == x.foreign) f.1 in
-        with e f.0 (eqb-true e.own x.socket parts.0) (eqb-true e.foreign x.foreign parts.1) (is_ending e) refl
+        let f : Among e (pair_with x.peer (program x.host ms).peers).entries × (is_at x.socket x.foreign e ≡ true) = found_among _ _ e found in
+        let parts : ((e.own == x.socket) ≡ true) × ((e.foreign == x.foreign) ≡ true) = both _ _ f.1 in
+        with e f.0 (eqb-true e.own x.socket parts.0) (eqb-true e.foreign x.foreign parts.1) _ refl
 
   -- no end of its sockets was ending
   pub was_open : (e : Entry) → Among e (pair_with x.peer (program x.host ms).peers).entries → e.own ≡ x.socket → e.foreign ≡ x.foreign → is_ending e ≡ false

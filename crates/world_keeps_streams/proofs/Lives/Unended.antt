@@ -37,7 +37,7 @@ module _ (p : Host) (own foreign : ℕ) where
     }
 
     all_off : (s : NcpState) → ((e : Entry) → Among e (pair_with p s.peers).entries → e.own ≡ own → e.foreign ≡ foreign → test e ≡ false) → Each IsOff (pair_with g s.peers).entries
-    all_off s off = each_among IsOff (pair_with g s.peers).entries (λ e i at. off e (subst (λ (h : Host). Among e (pair_with h s.peers).entries) at i))
+    all_off s off = each_among IsOff _ (λ e i at. off e (subst (λ (h : Host). Among e (pair_with h s.peers).entries) at i))
 
   -- ---- what comes in: a CLS of the own queue doesn't go out by it
 
@@ -46,7 +46,7 @@ module _ (p : Host) (own foreign : ℕ) where
     sent e = is_sent e.closing
 
     over_sent : (e : Entry) → is_over e ≡ true → sent e ≡ true
-    over_sent e over = (both (is_sent e.closing) e.partner_closed over).0
+    over_sent e over = (both _ e.partner_closed over).0
 
     still_unsent : (e f : Entry) → Plain e f → sent e ≡ false → sent f ≡ false
     still_unsent e f q = q.unsent
@@ -73,7 +73,7 @@ module _ (p : Host) (own foreign : ℕ) where
     heard e = e.partner_closed
 
     over_heard : (e : Entry) → is_over e ≡ true → heard e ≡ true
-    over_heard e over = (both (is_sent e.closing) e.partner_closed over).1
+    over_heard e over = (both _ e.partner_closed over).1
 
     still_unheard : (e f : Entry) → Plain e f → heard e ≡ false → heard f ≡ false
     still_unheard e f q = q.unheard

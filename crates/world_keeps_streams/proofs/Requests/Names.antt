@@ -40,23 +40,23 @@ module _ (hosts : Network) (ms : List Moment) (l : Lawful hosts ms) where
       → IsIn (life_of (origin_or none (newer ++ crossings_of ms) x.host x.peer) x) (openings x.host x.peer x.socket x.foreign ms)
   opening_by none newer x ours there =
       let c : Coupled hosts ms = coupled_in hosts ms l in
-      in_among (life_of (origin_or none (newer ++ crossings_of ms) x.host x.peer) x) (with_lives (origin_or none (newer ++ crossings_of ms) x.host x.peer) x.host x.peer x.socket x.foreign (mixed_kept hosts.strange ms).book.lives [])
-      (openings x.host x.peer x.socket x.foreign ms)
-      (pairing_lives hosts (origin_or none (newer ++ crossings_of ms)) ms (are_origins none (newer ++ crossings_of ms) newer ms refl) c.story c.run l.1 (served_in hosts ms l.2) x.host x.peer ours x.socket x.foreign)
-      (told_in (origin_or none (newer ++ crossings_of ms) x.host x.peer) x.host x.peer x.socket x.foreign x (mixed_kept hosts.strange ms).book.lives (kept_there hosts ms x ours there) (between_itself x))
+      in_among _ _
+      _
+      (pairing_lives hosts (origin_or none (newer ++ crossings_of ms)) ms (are_origins none _ newer ms refl) c.story c.run l.1 (served_in hosts ms l.2) x.host x.peer ours x.socket x.foreign)
+      (told_in (origin_or none (newer ++ crossings_of ms) x.host x.peer) x.host x.peer x.socket x.foreign x _ (kept_there hosts ms x ours there) (between_itself x))
 
   out_place : (x : book.Life) → AreOurs hosts x.host x.peer → Contains (lives_in ms) x
       → (p : ℕ) × (last_out (control_flow x.peer x.host) (before x.partner_stamp (crossings_of ms)) ≡ Some p)
   out_place x ours there =
       let c : Coupled hosts ms = coupled_in hosts ms l in
-      some_place x (last_out (control_flow x.peer x.host) (before x.partner_stamp (crossings_of ms))) (partner_named hosts ms c.story c.run l.1 (served_in hosts ms l.2) x ours there)
+      some_place x _ (partner_named hosts ms c.story c.run l.1 (served_in hosts ms l.2) x ours there)
 
   last_grows : (newer : List Crossing) (x : book.Life) → AreOurs hosts x.host x.peer → Contains (lives_in ms) x
       → last_out (control_flow x.peer x.host) (before x.partner_stamp (newer ++ crossings_of ms)) ≡ last_out (control_flow x.peer x.host) (before x.partner_stamp (crossings_of ms))
   last_grows newer x ours there =
-      same_place (last_out (control_flow x.peer x.host) (before x.partner_stamp (crossings_of ms))) (last_out (control_flow x.peer x.host) (before x.partner_stamp (newer ++ crossings_of ms)))
+      same_place _ _
       (λ none. ap (λ (v : Life). v.partner)
-      (one_own (life_of (origin_or none (newer ++ crossings_of ms) x.host x.peer) x) (life_of (origin_or none (crossings_of ms) x.host x.peer) x) (openings x.host x.peer x.socket x.foreign ms)
+      (one_own _ _ (openings x.host x.peer x.socket x.foreign ms)
       (owns x.host x.peer ours x.socket x.foreign) (opening_by none newer x ours there) (opening_by none [] x ours there) refl)) (out_place x ours there)
 
   pub request_grows : (newer : List Crossing) (x : book.Life) → AreOurs hosts x.host x.peer → Contains (lives_in ms) x

@@ -12,7 +12,7 @@ use Rattle.world_keeps_streams.proofs.Ours.{ours_of}
 -- an opened end whose partner's request of connection `g` was heard in this stay asked for `g` itself
 stood_own : (a b : Side) (x : law.Life) (g : ℕ) → Joined a b → IsIn x a.lives → Asks g x.partner a.heard → Asks g x.own a.said
 stood_own a b x g j i heard =
-    by (every_in (Stands j.floor j.other a.said a.heard a.end) x a.lives j.here.lived.stands i).stood where
+    by (every_in _ x a.lives j.here.lived.stands i).stood where
       said : Asks g x.partner b.said
       said = asks_said g x.partner a.heard b.said j.here.older heard
 
@@ -40,9 +40,9 @@ module _ (hosts : Network) (ms : List Moment) (l : Lawful hosts ms) where
       → Own x.host x.peer ms x.socket x.foreign x.own_stamp g
   own_at x g ours there r took =
       let c : Coupled hosts ms = coupled_in hosts ms l in
-      stood_own (receiver (record { receive = x.socket; send = x.foreign }) (steps x.host x.peer (law_events ms))) (sender (record { receive = x.socket; send = x.foreign }) (steps x.host x.peer (law_events ms)))
-      (life_of (origin_in (crossings_of ms) x.host x.peer) x) g (law_joined hosts ms l x.host x.peer ours (record { receive = x.socket; send = x.foreign }))
-      (receiver_in (life_of (origin_in (crossings_of ms) x.host x.peer) x) x ms r (other_sends x r (life_paired hosts ms c.story c.run l.1 (served_in hosts ms l.2) x ours there))
+      stood_own _ _
+      _ g (law_joined hosts ms l x.host x.peer ours _)
+      (receiver_in _ x ms r (other_sends x r (life_paired hosts ms c.story c.run l.1 (served_in hosts ms l.2) x ours there))
       (life_in hosts ms c.story c.run l.1 (served_in hosts ms l.2) 0 x ours there)) took
 
   pub own_of : (a b : Host) → AreOurs hosts a b → (x : Life) (g : ℕ) → Contains (lives_in ms) x
@@ -58,4 +58,4 @@ module _ (hosts : Network) (ms : List Moment) (l : Lawful hosts ms) where
   pub own_is_of : (a b : Host) → AreOurs hosts a b → (x : Life) (g : ℕ) → IsOf x (lives_in ms)
       → (x.host ≡ a) × (x.peer ≡ b) → receives x ≡ true → Took a b ms x.socket x.foreign x.partner_stamp g
       → Own a b ms x.socket x.foreign x.own_stamp g
-  own_is_of a b ours x g i of_a r took = own_of a b ours x g (contains x (lives_in ms) i) of_a r took
+  own_is_of a b ours x g i of_a r took = own_of a b ours x g (contains x _ i) of_a r took

@@ -32,4 +32,4 @@ module _ (hosts : Network) (a b : Host) (ours : AreOurs hosts a b) where
   pub matched_law : (ms : List Moment) → Lawful hosts ms → (x s : Life) (g : ℕ) → IsOf x (lives_in ms) → IsOf s (lives_in ms) → (x.host ≡ a) × (x.peer ≡ b) → (s.host ≡ b) × (s.peer ≡ a) → (x.socket ≡ s.foreign) × (x.foreign ≡ s.socket)
       → receives x ≡ true → sides.Own a b ms x.socket x.foreign x.own_stamp g → sides.Heard a b ms s.foreign s.socket s.partner_stamp g → Match (crossings_of ms) x s
   matched_law ms l x s g i j of_a of_b ends receiving own heard =
-      matched hosts ms l a b ours x s g (contains x (lives_in ms) i) (contains s (lives_in ms) j) of_a of_b ends receiving own heard
+      matched hosts ms l a b ours x s g (contains x _ i) (contains s _ j) of_a of_b ends receiving own heard

@@ -137,6 +137,6 @@ pub same_request : (hosts : Network) (ms : List Moment) → Lawful hosts ms → 
     → origin_in (crossings_of ms) b a taken ≡ stamp
 same_request hosts ms l a b ours receive send stamp taken g o h =
     let s : Sockets = record { receive = receive; send = send } in
-    let j : Joined (receiver s (steps a b (law_events ms))) (sender s (steps a b (law_events ms))) = law_joined hosts ms l a b ours (record { receive = receive; send = send }) in
+    let j : Joined (receiver s (steps a b (law_events ms))) (sender s (steps a b (law_events ms))) = law_joined hosts ms l a b ours _ in
     j.here.balanced.single g (origin_in (crossings_of ms) b a taken) stamp
-    (asks_said g (origin_in (crossings_of ms) b a taken) (sender s (steps a b (law_events ms))).heard (receiver s (steps a b (law_events ms))).said j.there.older h) o
+    (asks_said g _ _ _ j.there.older h) o

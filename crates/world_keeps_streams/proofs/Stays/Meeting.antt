@@ -52,7 +52,7 @@ module _ (link : ℕ) (off : (link == 0) ≡ false) where
     rest_b = queue_of b a moments;
     joint = subst (λ (p : Party). Joint numbered numbered_by_peer numbered_tells turned_tells link t.y t.x p (party b a link (queue_of b a moments) moments)) (as_party a b moments h)
         (subst (λ (p : Party). Joint numbered numbered_by_peer numbered_tells turned_tells link t.y t.x (made a b moments) p) (as_party b a moments k)
-        (mirror numbered_by_peer numbered turned_tells numbered_tells link t.x t.y (made b a moments) (made a b moments) t.joint));
+        (mirror numbered_by_peer numbered turned_tells numbered_tells link t.x t.y _ _ t.joint));
     queue_a = λ s. refl;
     queue_b = λ s. refl;
     received_a = λ s. (t.receiver ∙ r.received);
@@ -65,13 +65,13 @@ module _ (link : ℕ) (off : (link == 0) ≡ false) where
 
   first : (a b : Host) (moments : List Moment) → Alone a b link moments → First a b moments
   first a b moments h =
-      reach numbered numbered_by_peer numbered_tells turned_tells link steps b opening_stream opening_stream (nothing a) (own_calls a b moments) (queue_of a b moments) h.solo
+      reach numbered numbered_by_peer numbered_tells turned_tells link steps b opening_stream opening_stream (nothing a) _ _ h.solo
       (opened numbered numbered_by_peer numbered_tells turned_tells link (nothing b) (nothing a) refl refl refl refl (λ own foreign. refl) (λ own foreign. refl) refl refl) refl refl
 
   second : (a b : Host) (moments : List Moment) → Alone b a link moments → (r : First a b moments) → Second a b moments r
   second a b moments k r =
-      reach numbered_by_peer numbered turned_tells numbered_tells link back a r.y r.x (made a b moments) (own_calls b a moments) (queue_of b a moments) k.solo
-      (mirror numbered numbered_by_peer numbered_tells turned_tells link r.x r.y (made a b moments) (nothing a) r.joint) r.receiver r.sender
+      reach numbered_by_peer numbered turned_tells numbered_tells link back a r.y r.x (made a b moments) _ _ k.solo
+      (mirror numbered numbered_by_peer numbered_tells turned_tells link r.x r.y _ _ r.joint) r.receiver r.sender
 
   pub met : (a b : Host) (moments : List Moment) → Alone a b link moments → Alone b a link moments → Joined a b link moments
   met a b moments h k = both a b moments h k (first a b moments h) (second a b moments k (first a b moments h))

@@ -31,20 +31,20 @@ abbrev OwesSilent : Host → Host → List Event → Type 0
 OwesSilent a b events = (pair a b events).owed ≡ true → NoPlain (boxes a b events)
 
 owes_step : (hosts : Network) (e : Event) (events : List Event) → IsRun hosts (e ∷ events) → (a b : Host) → AreOurs hosts a b → takes_reset a b e ≡ false → OwesSilent a b events → OwesSilent a b (e ∷ events)
-owes_step hosts (Contact x y) events r a b ours none h owed = h (owed_call (are a b x y) (pair a b events) owed)
+owes_step hosts (Contact x y) events r a b ours none h owed = h (owed_call _ _ owed)
 owes_step hosts (Out x y l m) events r a b ours none h owed =
-    let old : (pair a b events).owed ≡ true = (owed_sent (are a b x y) l m (pair a b events) owed).0 in
-    plain_if (are a b x y) (Put l m) (place events) (boxes a b events)
-    (λ e. plain_put (boxes a b events) l (place events) m (sends_signal l m (pair a b events) old (carry (λ v w. AreOurs hosts v w → MaySend (pair v w events) l m) a b x y e r.1 ours)) (h old)) (h old)
+    let old : (pair a b events).owed ≡ true = (owed_sent _ l m _ owed).0 in
+    plain_if (are a b x y) _ _ _
+    (λ e. plain_put (boxes a b events) l (place events) m (sends_signal l m _ old (carry (λ v w. AreOurs hosts v w → MaySend (pair v w events) l m) a b x y e r.1 ours)) (h old)) (h old)
 owes_step hosts (In x y l m) events r a b ours none h owed =
-    let old : (pair a b events).owed ≡ true = owed_taken (are a b y x) m (pair a b events) (not_taken a b x y l m none) owed in
-    plain_if (are a b x y) (Fetch l) (place events) (boxes a b events) (λ e. plain_fetched (boxes a b events) l (h old)) (h old)
+    let old : (pair a b events).owed ≡ true = owed_taken _ m _ (not_taken a b x y l m none) owed in
+    plain_if (are a b x y) _ _ _ (λ e. plain_fetched (boxes a b events) l (h old)) (h old)
 owes_step hosts (Told x y l k) events r a b ours none h owed =
-    let old : (pair a b events).owed ≡ true = owed_told (are a b x y) l k (pair a b events) owed in
-    plain_if (are a b x y) (Clear l) (place events) (boxes a b events) (λ e. plain_cleared (boxes a b events) l (h old)) (h old)
-owes_step hosts (Down x) events r a b ours none h owed = h (owed_begin (same_host a x) (pair a b events) owed)
+    let old : (pair a b events).owed ≡ true = owed_told _ l k _ owed in
+    plain_if (are a b x y) _ _ _ (λ e. plain_cleared (boxes a b events) l (h old)) (h old)
+owes_step hosts (Down x) events r a b ours none h owed = h (owed_begin _ _ owed)
 owes_step hosts (Up x) events r a b ours none h owed =
-    plain_if (same_host a x) ClearAll (place events) (boxes a b events) (λ e k plain. absurd (cc)) (h (owed_begin (same_host a x) (pair a b events) owed))
+    plain_if (same_host a x) ClearAll _ _ (λ e k plain. absurd (cc)) (h (owed_begin _ _ owed))
 owes_step hosts Idle events r a b ours none h owed = h owed
 
 owes_silent : (hosts : Network) (events : List Event) → IsRun hosts events → (a b : Host) → AreOurs hosts a b → stays a b events ≡ true → (pair a b events).owed ≡ true → NoPlain (boxes a b events)
@@ -54,7 +54,7 @@ owes_silent hosts (e ∷ events) r a b ours s owed = by (begins a b e events) re
   by true begun rest = (begin_quiet hosts e events r a b ours begun).0
   by false old rest =
       let kept : (keeps a b e events ≡ true) × (stays a b events ≡ true) = stays_on a b e events s old in
-      owes_step hosts e events r a b ours (not_both (ready a b (e ∷ events)) (takes_reset a b e) kept.0) (rest kept.1) owed
+      owes_step hosts e events r a b ours (not_both _ _ kept.0) (rest kept.1) owed
 
 -- ---- answers
 
@@ -76,7 +76,7 @@ told_owed false l k p is e = absurd (cc)
 -- an answer about a text after which its sender is still ready is the RFNM
 pub told_rfnm : (hosts : Network) (x y : Host) (l : ℕ) (k : Answer) (events : List Event) → IsRun hosts (Told x y l k ∷ events) → (a b : Host) → AreOurs hosts a b → are a b x y ≡ true → stays a b events ≡ true
     → ready a b (Told x y l k ∷ events) ≡ true → kind_in (boxes a b events l) ≡ Some Plain → k ≡ answer.Rfnm
-told_rfnm hosts x y l k events r a b ours same s now plain = elim (told_owed (are a b x y) l k (pair a b events) same now) [
+told_rfnm hosts x y l k events r a b ours same s now plain = elim (told_owed _ l k _ same now) [
   | inl is ↦ is
   | inr owed ↦ absurd (owes_silent hosts events r.2 a b ours s owed l plain)
 ]

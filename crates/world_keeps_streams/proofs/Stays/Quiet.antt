@@ -54,7 +54,7 @@ more_more xs ys zs h k = record {
 
 pub solo_more : (peer : Host) (ms : List calls.Moment) (ys zs : List Command) → IsSolo peer ms ys → IsMore ys zs → IsSolo peer ms zs
 solo_more peer [] ys zs h k = more_more [] ys zs h k
-solo_more peer (m ∷ ms) ys zs h k = (h.0, h.1, h.2, more_more (queue_by peer m.call m.pair m.listening) ys zs h.3 k)
+solo_more peer (m ∷ ms) ys zs h k = (h.0, h.1, h.2, more_more _ ys zs h.3 k)
 
 -- each of them may be made
 quiet_allowed : (link : ℕ) (k : Call) (q : PairState) (s : Sender) → Quiet k q → IsAllowed link k q s
@@ -64,7 +64,7 @@ quiet_allowed link k q s (Replied stamp is) = subst (λ (c : Call). IsAllowed li
 
 pub solo_allowed : (number : ℕ → ℕ → ℕ → ℕ) (peer : Host) (link : ℕ) (ms : List calls.Moment) (queue : List Command) → IsSolo peer ms queue → AreAllowed number peer link ms
 solo_allowed number peer link [] queue h = tt
-solo_allowed number peer link (m ∷ ms) queue h = (quiet_allowed link m.call m.pair (sender_now number peer link ms) h.0, solo_allowed number peer link ms m.pair.queue h.2)
+solo_allowed number peer link (m ∷ ms) queue h = (quiet_allowed link m.call m.pair _ h.0, solo_allowed number peer link ms m.pair.queue h.2)
 
 -- ---- an answer about a message of before: the law's box is free, and is so afterwards
 
@@ -121,7 +121,7 @@ module _ (number other : ℕ → ℕ → ℕ → ℕ) (tells : IsTelling number)
         record {
           new = t.new;
           queue = t.queue;
-          joint = subst (λ (z : Stream). J (x_after number link (Answered l) q listening a x) z (after a peer (Answered l) q listening t.new Free) b) (same (l == link) is) t.joint;
+          joint = subst (λ (z : Stream). J (x_after number link (Answered l) q listening a x) z (after a peer (Answered l) q listening t.new Free) b) (same _ is) t.joint;
         }
       where
         rest : List senders.Move
@@ -166,7 +166,7 @@ module _ (number other : ℕ → ℕ → ℕ → ℕ) (tells : IsTelling number)
       reached_more ms ys zs h r = record {
         x = r.x;
         y = r.y;
-        joint = joint_more r.x r.y (alone peer ms ys) b zs h r.joint;
+        joint = joint_more r.x r.y _ b zs h r.joint;
         received = r.received;
         sent = r.sent;
         sender = r.sender;
@@ -220,4 +220,4 @@ module _ (number other : ℕ → ℕ → ℕ → ℕ) (tells : IsTelling number)
       reach [] queue h j e f = reached_more [] [] queue h (record { x = before_x; y = before_y; joint = j; received = e; sent = f; sender = refl; receiver = refl })
       reach (m ∷ ms) queue h j e f =
           let r : R ms m.pair.queue = reach ms m.pair.queue h.2 j e f in
-          reached_more (m ∷ ms) (queue_by peer m.call m.pair m.listening) queue h.3 (stepped m ms r h.1 (quiet_step m ms r h.1 h.0))
+          reached_more _ _ queue h.3 (stepped m ms r h.1 (quiet_step m ms r h.1 h.0))

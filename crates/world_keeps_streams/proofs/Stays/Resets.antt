@@ -17,7 +17,7 @@ out_alone hosts a b ours l text events r left = by (stays b a events) refl where
   by : (v : Bool) → stays b a events ≡ v → stays b a events ≡ false
   by false e = e
   by true e =
-      let both : joint a b events ≡ true = rw (phase_ready (pair a b events).phase (r.1 ours).0, stays_ready events b a e) refl in
+      let both : joint a b events ≡ true = rw (phase_ready _ (r.1 ours).0, stays_ready events b a e) refl in
       absurd (contradicts (stays a b events) (joint_stays hosts events r.2 a b ours both) left)
 
 -- ---- events with which a stay continues, or ends
@@ -30,7 +30,7 @@ stays_parts false false k s e f = absurd (cc)
 
 -- a stay that continues was one before, and is kept
 pub stays_on : (a b : Host) (e : Event) (events : List Event) → stays a b (e ∷ events) ≡ true → begins a b e events ≡ false → (keeps a b e events ≡ true) × (stays a b events ≡ true)
-stays_on a b e events s old = stays_parts (begins a b e events) (ready a b (e ∷ events)) (takes_reset a b e) (stays a b events) s old
+stays_on a b e events s old = stays_parts _ _ _ _ s old
 
 pub goes_on : (a b : Host) (e : Event) (events : List Event) → keeps a b e events ≡ true → stays a b events ≡ true → stays a b (e ∷ events) ≡ true
 goes_on a b e events k s = by (begins a b e events) (ready a b (e ∷ events)) (takes_reset a b e) (stays a b events) k s where
@@ -72,7 +72,7 @@ no_commands (Taken p m) none = refl
 
 -- on a connection's link nothing is outstanding but texts
 away_empty : (hosts : Network) (events : List Event) → IsRun hosts events → (a b : Host) → AreOurs hosts a b → (l : ℕ) → (l == 0) ≡ false → kind_in (boxes a b events l) ≢ Some Plain → boxes a b events l ≡ Empty
-away_empty hosts events r a b ours l off none = empty_kind (boxes a b events l) (by (kind_in (boxes a b events l)) refl) where
+away_empty hosts events r a b ours l off none = empty_kind _ (by (kind_in (boxes a b events l)) refl) where
   signal : (k : Kind) → is_signal (Some k) ≡ true → kind_in (boxes a b events l) ≡ Some k → ⊥
   signal k is e = contradicts (l == 0) (eq-eqb l 0 ((alone_run hosts events r a b ours).on_zero l (ap is_signal e ∙ is))) off
 
@@ -92,12 +92,12 @@ pub free_control : (hosts : Network) (e : Event) (events : List Event) → IsRun
     → (commands_in (boxes a b (e ∷ events) 0) ≡ []) × (commands_in (boxes b a (e ∷ events) 0) ≡ [])
 free_control hosts e events r a b ours begun =
     let q : NoPlain (boxes a b (e ∷ events)) × NoPlain (boxes b a (e ∷ events)) = begin_quiet hosts e events r a b ours begun in
-    (no_commands (boxes a b (e ∷ events) 0) (q.0 0), no_commands (boxes b a (e ∷ events) 0) (q.1 0))
+    (no_commands _ (q.0 0), no_commands _ (q.1 0))
 
 -- ---- what a host that is up knows of its boxes
 
 box_free : (hosts : Network) (events : List Event) → IsRun hosts events → (a b : Host) → AreOurs hosts a b → is_up hosts.all a events ≡ true → (l : ℕ) → (pair a b events).out l ≡ None → boxes a b events l ≡ Empty
-box_free hosts events r a b ours up l none = empty_kind (boxes a b events l) (sym ((sound_run hosts events r a b ours up).outstanding.boxed l) ∙ none)
+box_free hosts events r a b ours up l none = empty_kind _ (sym ((sound_run hosts events r a b ours up).outstanding.boxed l) ∙ none)
 
 -- the same, by its program
 pub box_busy : (hosts : Network) (events : List Event) → IsRun hosts events → (a b : Host) → AreOurs hosts a b → is_up hosts.all a events ≡ true → (q : PairState) → Agrees q (pair a b events) → (l : ℕ) → is_busy q.busy l ≡ false → boxes a b events l ≡ Empty
@@ -108,4 +108,4 @@ box_busy hosts events r a b ours up q agrees l free = box_free hosts events r a 
 
 -- a host that is ready is up
 pub up_ready : (hosts : Network) (events : List Event) → IsRun hosts events → (a b : Host) → AreOurs hosts a b → ready a b events ≡ true → is_up hosts.all a events ≡ true
-up_ready hosts events r a b ours e = ready_up hosts events r a b ours (ready_phase (pair a b events).phase e)
+up_ready hosts events r a b ours e = ready_up hosts events r a b ours (ready_phase _ e)

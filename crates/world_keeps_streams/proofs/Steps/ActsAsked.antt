@@ -19,7 +19,7 @@ kept_contact false u q k e = absurd (let no : false ≡ true = e in cc)
 pub no_contact : (h p g : Host) (r : Request) (events : List Event) → keeps h p (event_by g r) events ≡ true → same_host h g ≡ true → (peer : Host) → r ≡ request.Contact peer → same_host p peer ≡ false
 no_contact h p g r events k e peer is =
     let kept : keeps h p (Contact g peer) events ≡ true = subst (λ (y : Request). keeps h p (event_by g y) events ≡ true) is k in
-    kept_contact (same_host h g) (same_host p peer) (pair h p events) kept e
+    kept_contact _ _ _ kept e
 
 pub kept_stop : (t : Bool) (q : Pair) → (phases.is_ready (pair_moved (when t Begin) q).phase && not false) ≡ true → t ≡ false
 kept_stop true q k = absurd (let no : false ≡ true = k in cc)
@@ -32,7 +32,7 @@ module _ (number other : ℕ → ℕ → ℕ → ℕ) (tells : IsTelling number)
       → Acted number other tells others link h p (m ∷ moments) front post b x y
   act_none m old none =
       act number other tells others link steps h p m moments front rest post b x y old held
-      (λ k s here. rw ((none k).0, (none k).1) (stays_as number other tells others link p (own_calls h p moments) (pair_with p (program h moments).peers) front post b x y here))
+      (λ k s here. rw ((none k).0, (none k).1) (stays_as number other tells others link p _ _ front post b x y here))
 
   pub act_asked : (g : Host) (r : Request) → stay.begins h p (event_by g r) (events_of moments) ≡ false
       → (stay.stays h p (events_of moments) ≡ true → is_busy (pair_with p (program h moments).peers).busy link ≡ false → post ≡ Free)
@@ -51,4 +51,4 @@ module _ (number other : ℕ → ℕ → ℕ → ℕ) (tells : IsTelling number)
   stopped false e = refl
 
   pub act_down : (g : Host) → stay.begins h p (event_in (Crossed (crossing.Down g))) (events_of moments) ≡ false → Acted number other tells others link h p (Crossed (crossing.Down g) ∷ moments) front post b x y
-  act_down g old = act_none (Crossed (crossing.Down g)) old (λ k. (refl, stopped (same_host h g) (kept_stop (same_host h g) (pair h p (events_of moments)) k)))
+  act_down g old = act_none _ old (λ k. (refl, stopped _ (kept_stop _ _ k)))

@@ -37,8 +37,8 @@ module _ (s : Sender) (c : ℕ) (o : s.closed c ≡ true) where
 
   kept_hears : (w : Word) → Kept s (senders.hears w s) c
   kept_hears (Rts k) = kept_begins k s.end
-  kept_hears (All k m n) = kept_allocated s.end (λ a. counters.granted a m n)
-  kept_hears (Gvb k m n) = kept_allocated s.end (λ a. counters.given_back a m n)
+  kept_hears (All k m n) = kept_allocated s.end _
+  kept_hears (Gvb k m n) = kept_allocated s.end _
   kept_hears (Cls k) = kept_shuts k s.end
   kept_hears w = itself
 
@@ -52,7 +52,7 @@ module _ (s : Sender) (c : ℕ) (o : s.closed c ≡ true) where
   not_sent : (k : ℕ) (bits : List Bool) → senders.is_open k s ≡ true → for k (s.sent k ++ bits ∷ []) s.sent c ≡ s.sent c
   not_sent k bits opened = by (c == k) refl where
     by : (v : Bool) → (c == k) ≡ v → (if v then s.sent k ++ bits ∷ [] else s.sent c) ≡ s.sent c
-    by true e = absurd (let no : true ≡ false = sym o ∙ ap s.closed (eqb-true c k e) ∙ last_off s.opened s.shut (s.closed k) opened in cc)
+    by true e = absurd (let no : true ≡ false = sym o ∙ ap s.closed (eqb-true c k e) ∙ last_off s.opened s.shut _ opened in cc)
     by false e = refl
 
   kept_move : (m : senders.Move) → senders.May m s → Kept s (senders.moved m s) c
@@ -77,9 +77,9 @@ kept_calls number tells peer link c [] own i a o = itself (sender_now number pee
 kept_calls number tells peer link c (m ∷ more) own i a o =
     let before : Kept (sender_now number peer link own) (sender_now number peer link (more ++ own)) c = kept_calls number tells peer link c more own i.1 a.1 o in
     let holds : Holds number tells link (gone_now peer (more ++ own)) m.pair.entries (receiver_now number peer link (more ++ own)) (sender_now number peer link (more ++ own)) =
-    subst (λ (es : List Entry). Holds number tells link (gone_now peer (more ++ own)) es (receiver_now number peer link (more ++ own)) (sender_now number peer link (more ++ own))) (sym i.0) (holds_now number tells peer link (more ++ own) i.1 a.1) in
-    let may : MayAllSend (sent_at (name_now number peer (more ++ own)) link m.call m.pair m.listening (sender_now number peer link (more ++ own))) (sender_now number peer link (more ++ own)) =
+    subst (λ (es : List Entry). Holds number tells link (gone_now peer (more ++ own)) es (receiver_now number peer link (more ++ own)) (sender_now number peer link (more ++ own))) (sym i.0) (holds_now number tells peer link _ i.1 a.1) in
+    let may : MayAllSend (sent_at _ link m.call m.pair m.listening (sender_now number peer link (more ++ own))) (sender_now number peer link (more ++ own)) =
     (step_sent number tells peer link (gone_now peer (more ++ own)) m.call m.pair m.listening (receiver_now number peer link (more ++ own)) (sender_now number peer link (more ++ own)) a.0 holds).may in
     let last : Kept (sender_now number peer link (more ++ own)) (sender_now number peer link (m ∷ (more ++ own))) c =
-    kept_moves (sent_at (name_now number peer (more ++ own)) link m.call m.pair m.listening (sender_now number peer link (more ++ own))) (sender_now number peer link (more ++ own)) c may before.closed in
+    kept_moves _ _ c may before.closed in
     record { closed = last.closed; sent = last.sent ∙ before.sent }

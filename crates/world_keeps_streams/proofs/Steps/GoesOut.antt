@@ -38,8 +38,8 @@ module _ (number other : ℕ → ℕ → ℕ → ℕ) (tells : IsTelling number)
   pub out_cleared : (old new old_link new_link : Box) (rest : List Command) → IsCleared old new → IsCleared old_link new_link → OutJoint (commands_in old ++ rest) (post_in old_link)
       → Acted number other tells others link h p moments (commands_in new) (post_in new_link) b x y
   out_cleared old new old_link new_link rest (inl is) c j =
-      acted_out number other tells others link h p moments (commands_in new) rest (post_in new_link) b x y left
-      (subst (λ (k : Box). OutJoint (commands_in k ++ rest) (post_in new_link)) (sym is) (posted_out (commands_in old ++ rest) (post_in old_link) (post_in new_link) j (cleared_post old_link new_link c)))
+      acted_out number other tells others link h p moments _ rest _ b x y left
+      (subst (λ (k : Box). OutJoint (commands_in k ++ rest) (post_in new_link)) (sym is) (posted_out _ _ _ j (cleared_post old_link new_link c)))
   out_cleared old new old_link new_link rest (inr is) c j =
-      acted_out number other tells others link h p moments (commands_in new) (commands_in old ++ rest) (post_in new_link) b x y left
-      (subst (λ (k : Box). OutJoint (commands_in k ++ (commands_in old ++ rest)) (post_in new_link)) (sym is) (posted_out (commands_in old ++ rest) (post_in old_link) (post_in new_link) j (cleared_post old_link new_link c)))
+      acted_out number other tells others link h p moments _ _ _ b x y left
+      (subst (λ (k : Box). OutJoint (commands_in k ++ (commands_in old ++ rest)) (post_in new_link)) (sym is) (posted_out _ _ _ j (cleared_post old_link new_link c)))

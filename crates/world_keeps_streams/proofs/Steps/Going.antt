@@ -89,7 +89,7 @@ module _ (number other : ℕ → ℕ → ℕ → ℕ) (tells : IsTelling number)
     went_as : (k : Call) (listening : List Listener) (post' : Post) (b' : Party) → Stepped number other tells others link x y (standing p own q front post) p k q listening post' b' → IsAllowed link k q (sender_now number p link own)
         → (next : PairState) → ends_by p k q listening ≡ next.entries → queue_by p k q listening ≡ next.queue → Goes p (called k q listening ∷ own) next front post' b' x y
     went_as k listening post' b' s may next same waits =
-        went k k listening may refl (λ r. refl) (λ u. refl) next ((front ++ q.queue) ++ s.new) front post' b' same (more_waits s.new k listening next s.queue waits) s.joint
+        went k k listening may refl (λ r. refl) (λ u. refl) next _ front post' b' same (more_waits s.new k listening next s.queue waits) s.joint
 
     module _ (steps : Steps number other tells others link) (listening : List Listener) where
       pub asks_here : (k : Call) → IsAsking k → ((l : ℕ) (s : Sender) → IsAllowed l k q s) → IsPairedCall k → (is_out link k q ≡ false → post ≡ Free)
@@ -99,21 +99,21 @@ module _ (number other : ℕ → ℕ → ℕ → ℕ) (tells : IsTelling number)
 
       pub answered_here : (l : ℕ) → (l == link) ≡ true → post ≡ Fetched
           → (next : PairState) → ends_by p (Answered l) q listening ≡ next.entries → queue_by p (Answered l) q listening ≡ next.queue → Goes p (called (Answered l) q listening ∷ own) next front Free b x y
-      answered_here l on fetched next same waits = went_as (Answered l) listening Free b (steps.answered x y me b h.joint refl p q refl listening l on fetched) tt next same waits
+      answered_here l on fetched next same waits = went_as _ listening Free b (steps.answered x y me b h.joint refl p q refl listening l on fetched) tt next same waits
 
       pub elsewhere_here : (l : ℕ) → (l == link) ≡ false → (is_out link (Answered l) q ≡ false → post ≡ Free)
           → (next : PairState) → ends_by p (Answered l) q listening ≡ next.entries → queue_by p (Answered l) q listening ≡ next.queue → Goes p (called (Answered l) q listening ∷ own) next front post b x y
-      elsewhere_here l on room next same waits = went_as (Answered l) listening post b (steps.elsewhere x y me b h.joint refl p q refl listening l on room) tt next same waits
+      elsewhere_here l on room next same waits = went_as _ listening post b (steps.elsewhere x y me b h.joint refl p q refl listening l on room) tt next same waits
 
       pub takes_here : (l : ℕ) (text : List Bool) → (l == link) ≡ true → b.post ≡ Lies text
           → (next : PairState) → ends_by p (Takes l text) q listening ≡ next.entries → queue_by p (Takes l text) q listening ≡ next.queue
           → Goes p (called (Takes l text) q listening ∷ own) next front post (record b { post = Fetched }) x y
-      takes_here l text on lies next same waits = went_as (Takes l text) listening post (record b { post = Fetched }) (steps.takes x y me b h.joint refl p q refl listening l text on lies) tt next same waits
+      takes_here l text on lies next same waits = went_as _ listening post _ (steps.takes x y me b h.joint refl p q refl listening l text on lies) tt next same waits
 
       pub passes_here : (l : ℕ) (text : List Bool) → (l == link) ≡ false
           → (next : PairState) → ends_by p (Takes l text) q listening ≡ next.entries → queue_by p (Takes l text) q listening ≡ next.queue
           → Goes p (called (Takes l text) q listening ∷ own) next front post b x y
-      passes_here l text on next same waits = went_as (Takes l text) listening post b (steps.passes x y me b h.joint refl p q refl listening l text on) tt next same waits
+      passes_here l text on next same waits = went_as _ listening post b (steps.passes x y me b h.joint refl p q refl listening l text on) tt next same waits
 
       pub hears_here : (stamp : ℕ) (c : Command) (more : List Command) → b.pending ≡ c ∷ more → IsCommand c → IsPaired c → IsFirst c q.entries → IsHeard c q.entries → (is_busy q.busy link ≡ false → post ≡ Free)
           → (next : PairState) → ends_by p (Hears stamp 0 c) q listening ≡ next.entries → queue_by p (Hears stamp 0 c) q listening ≡ next.queue

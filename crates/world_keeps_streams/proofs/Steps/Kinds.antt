@@ -27,7 +27,7 @@ not_closing name link c k n i = i
 
 closed_before : (peer : Host) (link c : ℕ) (more own : List calls.Moment) → NoneClose more → HasClosed numbered peer link c (more ++ own) → HasClosed numbered peer link c own
 closed_before peer link c [] own n h = h
-closed_before peer link c (m ∷ more) own n (inl here) = absurd (not_closing (name_now numbered peer (more ++ own)) link c m.call n.0 here)
+closed_before peer link c (m ∷ more) own n (inl here) = absurd (not_closing _ link c m.call n.0 here)
 closed_before peer link c (m ∷ more) own n (inr older) = closed_before peer link c more own n.1 older
 
 none_orders : (peer : Host) (stamp : ℕ) (orders : List Order) (t : TurnState) (older : List calls.Moment) → NoneClose older → NoneClose (orders_heard peer stamp orders t older)
@@ -100,7 +100,7 @@ parcel_hears peer stamp (parcel.Bytes e size count) q listening = (tt, tt)
 
 next_hears : (peer : Host) (stamp : ℕ) (listening : List Listener) (o : Option (Peer × Parcel)) → AllHearNone (next_calls peer stamp listening o)
 next_hears peer stamp listening None = tt
-next_hears peer stamp listening (Some (p, x)) = hear_if (same_host peer p.host) (parcel_calls peer stamp x p.pair listening) (parcel_hears peer stamp x p.pair listening)
+next_hears peer stamp listening (Some (p, x)) = hear_if _ _ (parcel_hears peer stamp x p.pair listening)
 
 owner_hears : (peer : Host) (call : Entry → Call) (q : PairState) (listening : List Listener) (o : Option (Host × Entry)) → ((e : Entry) → HearsNone (call e)) → AllHearNone (owner_calls peer call q listening o)
 owner_hears peer call q listening None n = tt

@@ -136,7 +136,7 @@ shut_here : (name : ℕ → ℕ → ℕ) (link c : ℕ) (k : Call) (q : PairStat
     → IsShut (all_received (received_at name link k q listening) r) c
 shut_here name link c (Closes socket e) q listening r known may i = by (receives_on link e) i.0 may where
   by : (v : Bool) → v ≡ true → MayAllReceive (if v then receivers.Close (named name e) ∷ [] else []) r → IsShut (all_received (if v then receivers.Close (named name e) ∷ [] else []) r) c
-  by true t m = record { asked = subst (λ (j : ℕ). r.asked j ≡ true) i.1 (known (named name e) m.0.0); closed = λ f. refl }
+  by true t m = record { asked = subst (λ (j : ℕ). r.asked j ≡ true) i.1 (known _ m.0.0); closed = λ f. refl }
   by false t m = absurd (let no : false ≡ true = t in cc)
 shut_here name link c k q listening r known may i = absurd i
 
@@ -160,12 +160,12 @@ module _ (number : ℕ → ℕ → ℕ → ℕ) (tells : IsTelling number) (peer
   end_back c [] own i a h e = e
   end_back c (m ∷ more) own i a h e =
       end_back c more own i.1 a.1 h
-      (back_moves (received_at (name_now number peer (more ++ own)) link m.call m.pair m.listening) (receiver_now number peer link (more ++ own)) c (may_call m (more ++ own) i a) (asked_calls c more own h) e)
+      (back_moves _ _ c (may_call m _ i a) (asked_calls c more own h) e)
 
   -- once a user has closed it
   pub closed_shut : (c : ℕ) (own : List calls.Moment) → IsHistory peer own → AreAllowed number peer link own → HasClosed number peer link c own → IsShut (receiver_now number peer link own) c
   closed_shut c [] i a h = absurd h
   closed_shut c (m ∷ own) i a (inl here) =
-      shut_here (name_now number peer own) link c m.call m.pair m.listening (receiver_now number peer link own) (known_calls own) (may_call m own i a) here
+      shut_here _ link c m.call m.pair m.listening _ (known_calls own) (may_call m own i a) here
   closed_shut c (m ∷ own) i a (inr older) =
-      shut_moves (received_at (name_now number peer own) link m.call m.pair m.listening) (receiver_now number peer link own) c (may_call m own i a) (closed_shut c own i.1 a.1 older)
+      shut_moves _ _ c (may_call m own i a) (closed_shut c own i.1 a.1 older)

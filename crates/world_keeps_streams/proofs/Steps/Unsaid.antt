@@ -117,12 +117,12 @@ module _ (name : ℕ → ℕ → ℕ) (link : ℕ) (es : List Entry) (r : Receiv
     found = found_among (is_at own foreign) es e f
 
     parts : ((e.own == own) ≡ true) × ((e.foreign == foreign) ≡ true)
-    parts = both (e.own == own) (e.foreign == foreign) found.1
+    parts = both _ _ found.1
 
     by : (v : Bool) → (is_receiving e && not e.partner_closed) ≡ v → IsHere (all_received (if v then receivers.Hear (Cls (name own foreign)) ∷ closes_on link (name own foreign) e else []) r) c
     by false t = h
     by true t =
-        closes_on_it own foreign e found.0 (eqb-true e.own own parts.0) (eqb-true e.foreign foreign parts.1) (not_is e.partner_closed (both (is_receiving e) (not e.partner_closed) t).1) (receives_on link e) refl
+        closes_on_it own foreign e found.0 (eqb-true e.own own parts.0) (eqb-true e.foreign foreign parts.1) (not_is e.partner_closed (both _ _ t).1) _ refl
 
 hear_here : (name : ℕ → ℕ → ℕ) (link said : ℕ) (w : Command) (d : DeskState) (r : Receiver) (c : ℕ) → HasReceiver name link d.entries r → MayAllReceive (received_by name link said w d) r → IsHere r c
     → IsHere (all_received (received_by name link said w d) r) c
@@ -146,7 +146,7 @@ AllHear (m ∷ ms) = HearsOne m.call × AllHear ms
 
 call_here : (name : ℕ → ℕ → ℕ) (link : ℕ) (k : Call) (q : PairState) (listening : List Listener) (r : Receiver) (c : ℕ) → HearsOne k → HasReceiver name link q.entries r → MayAllReceive (received_at name link k q listening) r → IsHere r c
     → IsHere (all_received (received_at name link k q listening) r) c
-call_here name link (Hears stamp said w) q listening r c one has may h = hear_here name link said w (desk_of q listening) r c has may h
+call_here name link (Hears stamp said w) q listening r c one has may h = hear_here name link said w _ r c has may h
 call_here name link k q listening r c one has may h = absurd one
 
 pub here_calls : (number : ℕ → ℕ → ℕ → ℕ) (tells : IsTelling number) (peer : Host) (link c : ℕ) (more own : List calls.Moment) → AllHear more → IsHistory peer (more ++ own) → AreAllowed number peer link (more ++ own)
@@ -154,7 +154,7 @@ pub here_calls : (number : ℕ → ℕ → ℕ → ℕ) (tells : IsTelling numbe
 here_calls number tells peer link c [] own all i a h = h
 here_calls number tells peer link c (m ∷ more) own all i a h =
     let holds : Holds number tells link (gone_now peer (more ++ own)) m.pair.entries (receiver_now number peer link (more ++ own)) (sender_now number peer link (more ++ own)) =
-    subst (λ (es : List Entry). Holds number tells link (gone_now peer (more ++ own)) es (receiver_now number peer link (more ++ own)) (sender_now number peer link (more ++ own))) (sym i.0) (holds_now number tells peer link (more ++ own) i.1 a.1) in
+    subst (λ (es : List Entry). Holds number tells link (gone_now peer (more ++ own)) es (receiver_now number peer link (more ++ own)) (sender_now number peer link (more ++ own))) (sym i.0) (holds_now number tells peer link _ i.1 a.1) in
     let may : MayAllReceive (received_at (name_now number peer (more ++ own)) link m.call m.pair m.listening) (receiver_now number peer link (more ++ own)) =
     (step_received number tells peer link (gone_now peer (more ++ own)) m.call m.pair m.listening (receiver_now number peer link (more ++ own)) (sender_now number peer link (more ++ own)) a.0 holds).0 in
-    call_here (name_now number peer (more ++ own)) link m.call m.pair m.listening (receiver_now number peer link (more ++ own)) c all.0 holds.received may (here_calls number tells peer link c more own all.1 i.1 a.1 h)
+    call_here _ link m.call m.pair m.listening _ c all.0 holds.received may (here_calls number tells peer link c more own all.1 i.1 a.1 h)

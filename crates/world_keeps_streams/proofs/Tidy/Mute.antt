@@ -49,7 +49,7 @@ lowest_found busy (e ∷ es) link is = by (may_send busy e) refl is (λ l f. fou
 
   first : may_send busy e ≡ true → (o : Option ℕ) → Some (lower (link_of e.link) o) ≡ Some link → ((l : ℕ) → o ≡ Some l → (x : Entry) × (find (may_send_on busy l) (e ∷ es) ≡ Some x)) → (x : Entry) × (find (may_send_on busy link) (e ∷ es) ≡ Some x)
   first t None f rest = let same : link_of e.link ≡ link = cc in here t same
-  first t (Some other) f rest = let least : min (link_of e.link) other ≡ link = cc in pick (link_of e.link == link) refl least where
+  first t (Some other) f rest = let least : min (link_of e.link) other ≡ link = cc in pick _ refl least where
     pick : (b : Bool) → (link_of e.link == link) ≡ b → min (link_of e.link) other ≡ link → (x : Entry) × (find (may_send_on busy link) (e ∷ es) ≡ Some x)
     pick true same least = here t (eqb-true (link_of e.link) link same)
     pick false apart least = rest link (ap (λ (n : ℕ). Some n) (omega (arith, least, eqb-false (link_of e.link) link apart)))

@@ -45,10 +45,10 @@ open_if e opened unsaid unheard = rw (unsaid, unheard) (by (is_some e.asked) (is
 module _ (mine theirs : List ℕ) (taker giver : Entry) (tidy : IsTidy mine taker) (other : IsTidy theirs giver) (receiving : is_receiving taker ≡ true) (answered : is_answered theirs giver.link ≡ true)
     (unqueued : taker.closing ≡ closing.Queued → ⊥) (live : is_over taker ≡ false) (taker_heard : has_cls giver.closing ≡ taker.partner_closed) (giver_heard : has_cls taker.closing ≡ giver.partner_closed) where
   taker_undue : is_due taker.closing ≡ false
-  taker_undue = undue (is_due taker.closing) (is_receiving taker) (length taker.bits == 0 && is_answered mine taker.link) receiving tidy.0
+  taker_undue = undue _ _ _ receiving tidy.0
 
   giver_undue : giver.bits ≡ [] → is_due giver.closing ≡ false
-  giver_undue none = drained (is_due giver.closing) (is_receiving giver) (length giver.bits == 0) (is_answered theirs giver.link) (ap (λ (bs : List Bool). length bs == 0) none) answered other.0
+  giver_undue none = drained _ _ _ _ (ap (λ (bs : List Bool). length bs == 0) none) answered other.0
 
   taker_unheard : taker.partner_closed ≡ false
   taker_unheard = by taker.partner_closed refl where
