@@ -1,6 +1,7 @@
 -- What a safe book asks of all lives. Main lemmas: All `source` (what a receiving life took has a source), All `sent` (what was sent is granted), All
 -- `world_source` and `world_sent` (of every world), Given `given` (two hosts, by their lives), Run `below` (beside their streams).
 pub mod All
+pub mod AllOut
 pub mod Agree
 pub mod Answered
 pub mod Arrives
