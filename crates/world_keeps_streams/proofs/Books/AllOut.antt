@@ -138,7 +138,7 @@ module _ (hosts : Network) (ms : List Moment) (l : Lawful hosts ms) (x : Life) (
       came_as hosts ms l x f in
       omega (arith, all, one, came)
 
-  some_sent : both_ways.x.sender.sent number ≡ [] → ⊥
+  pub some_sent : both_ways.x.sender.sent number ≡ [] → ⊥
   some_sent none =
       let zero_is : length (both_ways.x.sender.sent number) ≡ 0 = ap (λ (ts : List (List Bool)). length ts) none in
       let more : length (both_ways.x.sender.sent number) ≡ length (texts_for x f.link (crossings_of ms)) + 1 =

@@ -1,0 +1,6 @@
+use Rattle.session.specs.Turns.{Prints}
+use Rattle.session.proofs.Laws.{all_printed}
+use Rattle.session.proofs.law.one_session.Goals as goal
+
+pub returns : goal.returns
+returns g c = λ opening turns h. all_printed (Prints g.E.ScriptEvent.spelled g.E.ScriptEvent.is_meant g.S.Stage.replays opening) turns h

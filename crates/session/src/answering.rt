@@ -1,0 +1,85 @@
+//! Answering the lines of a reader, one after the other.
+
+ghost use Rattle.std.specs.Prelude.{◌≡◌, ◌≢◌, ◌≤◌, ◌↔◌, [], Err, IfErr, OnOk, false, length, true};
+ghost use Rattle.session.specs.Turns.{IsAnswered, Prints, Serves};
+
+use crate::hearing::hear;
+use crate::stage::Stage;
+use command_line::{ScriptFault, Source};
+use replay::Output;
+use script::reading::{ScriptEvent, read_events};
+use script::{LineFault, MAX_INPUT};
+use std::alloc::Global;
+
+/// Hears the lines of a script to the end of the input, and answers each before it hears the next: what its event
+/// shows, and an empty line. Octets of the script that were read already are pending; so many of the input were read.
+///
+/// Errors: `CannotRead`, `TooLong` and `OutOfMemory` as in [`hear`]; `BadLine` for the first line that is no event, after
+/// the answers to those before it; `CannotWrite`.
+pub fn answer_lines<E: ScriptEvent, S: Stage<E, W>, R: Source, W: Output>(
+    alloc: Global,
+    stage: &mut S,
+    reader: &mut R,
+    pending: &mut Vec<u8>,
+    read: usize,
+    writer: &mut W,
+) -> Result<(), ScriptFault>
+    requires reads { R.failed reader.old ≡ false }
+    requires more { R.ended reader.old ≡ false }
+    requires writes { W.failed writer.old ≡ false }
+    requires handed { W.flushed writer.old ≡ true }
+    requires pending { length pending.old.items ≤ read }
+    requires short { read ≤ MAX_INPUT }
+
+    // all lines are answered in turn, to the end of the input
+    ensures served { OnOk result (Serves (Prints E.spelled E.is_meant S.replays stage.old) pending.old.items [] (R.remaining reader.old) (R.remaining reader.new) (W.contents writer.old) (W.contents writer.new)) }
+    ensures ended { OnOk result (R.ended reader.new ≡ true) }
+    ensures handed { OnOk result (W.flushed writer.new ≡ true) }
+    ensures cannot_read { (result ≡ Err ScriptFault.CannotRead) ↔ (R.failed reader.new ≡ true) }
+    ensures cannot_write { (result ≡ Err ScriptFault.CannotWrite) ↔ (W.failed writer.new ≡ true) }
+{
+    S::goes_on();
+    stage.opens();
+    let mut read = read;
+    let mut passed = 0;
+    'lines: loop {
+        let heard = hear(alloc, reader, &*writer, pending, read)?;
+        if heard.line.is_empty() {
+            return Ok(());
+        }
+        answer(alloc, stage, &heard.line, passed, writer)?;
+        if !heard.ended {
+            return Ok(());
+        }
+        read = heard.read;
+        passed += 1;
+    }
+}
+
+/// Answers one line, after this many lines: its event happens, if it asks for one, what that shows is written and an
+/// empty line, and all is handed on.
+///
+/// Errors: `BadLine` where it is no event, `OutOfMemory`, `CannotWrite`.
+fn answer<E: ScriptEvent, S: Stage<E, W>, W: Output>(
+    alloc: Global,
+    stage: &mut S,
+    line: &[u8],
+    passed: usize,
+    writer: &mut W,
+) -> Result<(), ScriptFault>
+    requires short { length line.now ≤ MAX_INPUT }
+    requires few { passed ≤ MAX_INPUT }
+    requires writes { W.failed writer.old ≡ false }
+    ensures answered { OnOk result (IsAnswered E.spelled E.is_meant S.replays stage.old stage.new line.now (W.contents writer.old) (W.contents writer.new)) }
+    ensures handed { OnOk result (W.flushed writer.new ≡ true) }
+    ensures fault { IfErr result (λ f. f ≢ ScriptFault.CannotRead) }
+    ensures failed { (result ≡ Err ScriptFault.CannotWrite) ↔ (W.failed writer.new ≡ true) }
+{
+    match read_events::<E>(alloc, line) {
+        Ok(events) => stage.replay(events, writer)?,
+        Err(LineFault::BadLine(_)) => return Err(ScriptFault::BadLine(passed + 1)),
+        Err(LineFault::OutOfMemory) => return Err(ScriptFault::OutOfMemory),
+    }
+    writer.write_all(b"\n")?;
+    Ok(writer.flush()?)
+}
