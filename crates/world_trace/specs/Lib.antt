@@ -3,6 +3,7 @@ pub mod Lasting
 pub mod MixedSteps
 pub mod MixedTraces
 pub mod Reached
+pub mod Seen
 pub mod Steps
 pub mod Texts
 pub mod Told

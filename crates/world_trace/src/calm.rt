@@ -1,11 +1,12 @@
 //! Tracing a calm of a world, event by event.
 
-ghost use Rattle.std.specs.Prelude.{◌≡◌, ◌++◌, [], IfErr, IfOk, IfSome, OnOk, false, length, map, true};
+ghost use Rattle.std.specs.Prelude.{◌≡◌, ◌++◌, [], IfErr, IfOk, IfSome, OnOk, Some, false, length, map, true};
 ghost use Rattle.net_sim.specs.Carriers.{shown};
 ghost use Rattle.replay.specs.Failing.{TellsCannotWrite};
 ghost use Rattle.replay.specs.declared.print.Detail.TheVariants.{Sizes};
 ghost use Rattle.world_replay.specs.Rounds as events;
 ghost use Rattle.world_script.specs.declared.event.WorldEvent.TheVariants as world_event;
+ghost use Rattle.world_trace.specs.Seen.{CalmHandsOn};
 ghost use Rattle.world_trace.specs.Steps as step;
 ghost use Rattle.world_trace.specs.Steps.{AgainEnds, AreTextsOf, EventEnds, IsStill, RoundEnds, ShowsInCalm, StepEnds};
 ghost use Rattle.world_trace.specs.Traces.{MayTell};
@@ -16,7 +17,7 @@ use crate::texts::{Texts, change, known_texts};
 use crate::worlds::Traced;
 use interface::{HostAddr, TAKINGS};
 use net_sim::{Event, OFFERS, Seat};
-use replay::{Output, Printer, ReplayFault};
+use replay::{Output, Printer, ReplayFault, hand_on_round};
 use std::alloc::{AllocError, Global};
 use trace::{Inspect, Spot};
 
@@ -76,6 +77,7 @@ fn turns_in(alloc: Global, seats: &[Seat]) -> Result<Vec<(CalmEvent, u8)>, Alloc
 }
 
 /// Traces a calm round by round, until all have passed or the world rests. The rounds that are left then have no lines.
+/// After each round of a long calm it hands on all that was written, so that it is seen though the calm may never rest.
 /// The texts of the state may be known.
 pub(crate) fn trace_calm<C: Inspect, T: Traced<C>, W: Output>(
     alloc: Global,
@@ -89,6 +91,7 @@ pub(crate) fn trace_calm<C: Inspect, T: Traced<C>, W: Output>(
     requires whole { W.failed writer.old ≡ false }
     requires known { IfSome known.old (AreTextsOf C.inside.members (T.state world.old)) }
     ensures ends { EventEnds (shown C.calls) C.inside.members spot (T.state world.old) (world_event.Calm rounds) result (T.state world.new) (W.contents writer.old) (W.contents writer.new) }
+    ensures seen { OnOk result (CalmHandsOn (shown C.calls) C.inside.members W.contents W.flushed spot (Some rounds) (T.state world.old, writer.old) (T.state world.new, writer.new)) }
     ensures known { OnOk result (IfSome known.new (AreTextsOf C.inside.members (T.state world.new))) }
     ensures strangers { T.strangers world.new ≡ T.strangers world.old }
     ensures failed { TellsCannotWrite result (W.failed writer.new) }
@@ -100,6 +103,7 @@ pub(crate) fn trace_calm<C: Inspect, T: Traced<C>, W: Output>(
     for passed in 0..rounds {
         let before = count_crossings(world);
         trace_round(alloc, world, spot, passed + 1, &mut texts, notes, writer)?;
+        hand_on_round(passed, writer)?;
         if world.has_calmed(before) {
             *known = Some(texts);
             return Ok(());

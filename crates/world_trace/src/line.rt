@@ -1,6 +1,6 @@
 //! The lines of a world's trace.
 
-ghost use Rattle.std.specs.Prelude.{◌≡◌, ◌<◌, ◌≤◌, OnOk, false, length, map, true};
+ghost use Rattle.std.specs.Prelude.{◌≡◌, ◌≤◌, OnOk, false, length, map};
 ghost use Rattle.std.specs.Io.KnownBytes.{Appends};
 ghost use Rattle.replay.specs.Failing.{TellsFailure};
 ghost use Rattle.script.specs.Input.{ended_line};
@@ -18,7 +18,6 @@ use replay::{Output, WriteFailed};
 use topology::Topology;
 use trace::json::print_array;
 use trace::{Inspect, Spot, print_network};
-use world_replay::UNSEEN_ROUNDS;
 
 /// Prints the programs and the services of the hosts, after other members.
 fn print_hosts<C: Inspect, W: Output>(world: &World<C>, writer: &mut W) -> Result<(), WriteFailed>
@@ -91,8 +90,8 @@ pub(crate) struct Passed {
     pub changes: Changes,
 }
 
-/// Prints the line of an event that has just happened.
-fn print_passed<C: Inspect, T: Traced<C>, W: Output>(
+/// Prints the line of an event that has just happened in a world, in this round of a calm, or 0.
+pub(crate) fn print_line<C: Inspect, T: Traced<C>, W: Output>(
     world: &T,
     spot: Spot,
     round: u32,
@@ -109,28 +108,6 @@ fn print_passed<C: Inspect, T: Traced<C>, W: Output>(
     print_outcome(crossings, &passed.printed, writer)?;
     writer.write_all(b",\"parts\":")?;
     print_changes(&passed.changes, writer)
-}
-
-/// Prints the line of an event that has just happened in a world, in this round of a calm, or 0. After many rounds of a
-/// calm it hands on each line, so that it is seen though the calm may never rest.
-pub(crate) fn print_line<C: Inspect, T: Traced<C>, W: Output>(
-    world: &T,
-    spot: Spot,
-    round: u32,
-    passed: &Passed,
-    writer: &mut W,
-) -> Result<(), WriteFailed>
-    requires crossed { passed.now.crossed ≤ length (T.state world.now).kept.book.crossings }
-    requires whole { W.failed writer.old ≡ false }
-    ensures written { OnOk result (Appends (W.contents writer.old) (W.contents writer.new) (ended_line (passed_line spot round (T.state world.now) passed.now))) }
-    ensures seen { 64 < round → OnOk result (W.flushed writer.new ≡ true) }
-    ensures failed { TellsFailure result (W.failed writer.new) }
-{
-    print_passed(world, spot, round, passed, writer)?;
-    if round > UNSEEN_ROUNDS {
-        writer.flush()?;
-    }
-    Ok(())
 }
 
 /// Prints the first line of a trace: the network, and the state of a world.

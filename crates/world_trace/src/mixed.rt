@@ -6,8 +6,10 @@ ghost use Rattle.net_sim.specs.Carriers.{shown};
 ghost use Rattle.replay.specs.Failing.{TellsCannotWrite, TellsFailure};
 ghost use Rattle.replay.specs.declared.events.ReplayFault.TheVariants as fault;
 ghost use Rattle.script.specs.Input.{ended_line};
+ghost use Rattle.world_replay.specs.Kinds.{mixed_rounds};
 ghost use Rattle.world_trace.specs.MixedSteps.{HasPassedMixed, MixedEnds, MixedEventEnds, ShowsMixed, mixed_end, mixed_hosts, mixed_reach};
 ghost use Rattle.world_trace.specs.MixedTraces.{MixedTraceFails, StopsMixed, WritesMixed, WritesMixedPart, mixed_opening, mixed_text};
+ghost use Rattle.world_trace.specs.Seen.{CalmHandsOn, MixedIsSeen};
 ghost use Rattle.world_trace.specs.Steps.{AreTextsOf};
 
 use crate::calm::trace_calm;
@@ -43,6 +45,9 @@ pub fn trace_mixed_world<C: Inspect, W: Output>(
     // first the network with the state and the strangers, and then each event happened as in a replay, those of a calm
     // one by one, and its line was written
     ensures traced { OnOk result (WritesMixed (shown C.calls) C.inside.members network.now world.old events.items world.new (W.contents writer.old) (W.contents writer.new)) }
+
+    // a long calm is seen, as in `trace_world`
+    ensures seen { OnOk result (MixedIsSeen (shown C.calls) C.inside.members W.contents W.flushed network.now events.items (world.old, writer.old) (world.new, writer.new)) }
 
     // memory ran out at one of them: the first line and those before it were written, and nothing else
     ensures memory { result ≡ Err fault.OutOfMemory → WritesMixedPart (shown C.calls) C.inside.members network.now world.old events.items world.new (W.contents writer.old) (W.contents writer.new) }
@@ -114,6 +119,7 @@ pub(crate) fn trace_mixed_event<C: Inspect, W: Output>(
     requires whole { W.failed writer.old ≡ false }
     requires known { IfSome known.old (AreTextsOf C.inside.members world.old.world) }
     ensures ends { MixedEventEnds (shown C.calls) C.inside.members spot world.old event result world.new (W.contents writer.old) (W.contents writer.new) }
+    ensures seen { OnOk result (CalmHandsOn (shown C.calls) C.inside.members W.contents W.flushed spot (mixed_rounds event) (world.old.world, writer.old) (world.new.world, writer.new)) }
     ensures known { OnOk result (IfSome known.new (AreTextsOf C.inside.members world.new.world)) }
     ensures failed { TellsCannotWrite result (W.failed writer.new) }
 {

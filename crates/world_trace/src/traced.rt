@@ -6,7 +6,9 @@ ghost use Rattle.replay.specs.Failing.{TellsCannotWrite};
 ghost use Rattle.replay.specs.declared.print.Detail.TheVariants.{Sizes};
 ghost use Rattle.trace.specs.Traces.{WritesTrace};
 ghost use Rattle.world_replay.specs.Output.{output};
+ghost use Rattle.world_replay.specs.Replay.{rounds_in};
 ghost use Rattle.world_script.specs.declared.event.WorldEvent.TheVariants as world_event;
+ghost use Rattle.world_trace.specs.Seen.{CalmHandsOn, EventsAreSeen, WorldIsSeen};
 ghost use Rattle.world_trace.specs.Steps as step;
 ghost use Rattle.world_trace.specs.Steps.{AreTextsOf, EventEnds, HasPassed, OneEnds, Shows, at_one};
 ghost use Rattle.world_trace.specs.MixedTraces.{AllEnd, AllTell};
@@ -53,6 +55,9 @@ pub fn trace_world<C: Inspect, W: Output>(
     // its line was written
     ensures traced { OnOk result (WritesWorld (shown C.calls) C.inside.members network.now world.old events.items world.new (W.contents writer.old) (W.contents writer.new)) }
 
+    // each round of a calm after the 64th is seen when it has passed: all that was written by then is handed on
+    ensures seen { OnOk result (WorldIsSeen (shown C.calls) C.inside.members W.contents W.flushed network.now events.items (world.old, writer.old) (world.new, writer.new)) }
+
     // memory ran out at one of them: the first line and those before it were written, and nothing else
     ensures memory { result ≡ Err ReplayFault.OutOfMemory → WritesPart (shown C.calls) C.inside.members network.now world.old events.items world.new (W.contents writer.old) (W.contents writer.new) }
 
@@ -75,6 +80,7 @@ pub(crate) fn trace_all<C: Inspect, T: Scripted<C>, W: Output>(
 ) -> Result<(), ReplayFault>
     requires whole { W.failed writer.old ≡ false }
     ensures traced { OnOk result (WritesTrace (AllTell T.tells world.old events.items world.new) (W.contents writer.old) (W.contents writer.new)) }
+    ensures seen { OnOk result (EventsAreSeen (shown C.calls) C.inside.members T.state T.rounds T.tells W.contents W.flushed events.items (world.old, writer.old) (world.new, writer.new)) }
     ensures memory { result ≡ Err ReplayFault.OutOfMemory → WritesTrace (AllEnd T.tells T.stops world.old events.items world.new) (W.contents writer.old) (W.contents writer.new) }
     ensures failed { TellsCannotWrite result (W.failed writer.new) }
     ensures cannot_write { result ≡ Err ReplayFault.CannotWrite → (lines : List (List ℕ)) × AllEnd T.tells T.fails world.old events.items world.new lines }
@@ -106,6 +112,7 @@ pub(crate) fn trace_world_event<C: Inspect, W: Output>(
     requires whole { W.failed writer.old ≡ false }
     requires known { IfSome known.old (AreTextsOf C.inside.members world.old) }
     ensures ends { EventEnds (shown C.calls) C.inside.members spot world.old event result world.new (W.contents writer.old) (W.contents writer.new) }
+    ensures seen { OnOk result (CalmHandsOn (shown C.calls) C.inside.members W.contents W.flushed spot (rounds_in event) (world.old, writer.old) (world.new, writer.new)) }
     ensures known { OnOk result (IfSome known.new (AreTextsOf C.inside.members world.new)) }
     ensures failed { TellsCannotWrite result (W.failed writer.new) }
 {

@@ -1,6 +1,6 @@
 //! What a trace asks of a world, with strangers or without.
 
-ghost use Rattle.std.specs.Prelude.{◌≡◌, List, ℕ, Err, IfSome, OnOk, [], false, true};
+ghost use Rattle.std.specs.Prelude.{◌≡◌, List, ℕ, Err, IfSome, OnOk, Option, [], false, true};
 ghost use Rattle.interface.specs.Host.{Host};
 ghost use Rattle.net_sim.specs.Carriers.{shown};
 ghost use Rattle.net_sim.specs.Rest.{IsAtRest};
@@ -9,9 +9,11 @@ ghost use Rattle.replay.specs.Failing.{TellsCannotWrite};
 ghost use Rattle.replay.specs.InTurn.{Happening};
 ghost use Rattle.replay.specs.declared.print.Detail.TheVariants.{Sizes};
 ghost use Rattle.trace.specs.declared.element.Spot.{Spot};
+ghost use Rattle.world_replay.specs.Kinds.{mixed_rounds};
 ghost use Rattle.world_replay.specs.Output.{Writes};
-ghost use Rattle.world_replay.specs.Replay.{HappensInCalm, MayStep, StopsInCalm};
+ghost use Rattle.world_replay.specs.Replay.{HappensInCalm, MayStep, StopsInCalm, rounds_in};
 ghost use Rattle.world_trace.specs.MixedTraces.{MayTellMixed, MixedEndsAt, StopsMixed, TellsMixedAt};
+ghost use Rattle.world_trace.specs.Seen.{CalmHandsOn};
 ghost use Rattle.world_trace.specs.Steps.{AreTextsOf, EndsAs};
 ghost use Rattle.world_trace.specs.Traces.{EndsAt, MayTell, StopsOne, TellsAt};
 
@@ -140,6 +142,9 @@ pub(crate) trait Scripted<C: Inspect>: Traced<C> {
     /// An event of its scripts.
     type Event: Drop;
 
+    /// How many rounds an event has, if it is a calm.
+    ghost rounds: { Self.Event → Option ℕ };
+
     /// How an event may go, which is at this spot, and which lines it has.
     ghost tells: { Spot → Happening Self Self.Event (List ℕ) };
 
@@ -161,12 +166,15 @@ pub(crate) trait Scripted<C: Inspect>: Traced<C> {
         requires whole { W.failed writer.old ≡ false }
         requires known { IfSome known.old (AreTextsOf C.inside.members (Self.state self.old)) }
         ensures ends { EndsAs (tells spot) (stops spot) (fails spot) self.old event result self.new (W.contents writer.old) (W.contents writer.new) }
+        ensures seen { OnOk result (CalmHandsOn (shown C.calls) C.inside.members W.contents W.flushed spot (rounds event) (Self.state self.old, writer.old) (Self.state self.new, writer.new)) }
         ensures known { OnOk result (IfSome known.new (AreTextsOf C.inside.members (Self.state self.new))) }
         ensures failed { TellsCannotWrite result (W.failed writer.new) };
 }
 
 impl<C: Inspect> Scripted<C> for World<C> {
     type Event = WorldEvent;
+
+    ghost rounds = { rounds_in };
 
     ghost tells = { TellsAt (shown C.calls) C.inside.members };
 
@@ -189,6 +197,8 @@ impl<C: Inspect> Scripted<C> for World<C> {
 
 impl<C: Inspect> Scripted<C> for MixedWorld<C> {
     type Event = MixedWorldEvent;
+
+    ghost rounds = { mixed_rounds };
 
     ghost tells = { TellsMixedAt (shown C.calls) C.inside.members };
 

@@ -1,10 +1,9 @@
 """What a long calm has printed is seen while it lasts, and calms that rest end at once (a second).
 
-Two echo services send one octet to and fro for as long as a calm lasts. From its 65th round on the program has to write
-whole lines after each round, and of a trace each line, so that an interrupt loses none of them. Where something waits
-for a stranger rounds pass that change nothing, and what was printed before them has to be written too (of a trace it is
-not, as no line comes then). A network that rests has to end at once, however many rounds it is given, also where a host
-has more to say than its IMP has room for.
+Two echo services send one octet to and fro for as long as a calm lasts. From its 65th round on the program has to have
+written all lines after each round, of a trace too, so that an interrupt loses none of them. Where something waits for a
+stranger rounds pass that change nothing, and what was printed before them has to be written, too. A network that rests
+has to end at once, however many rounds it is given, also where a host has more to say than its IMP has room for.
 
 ./check seen [PROGRAM]: without one it takes the proved program, or the one that was built without proofs.
 """
@@ -18,6 +17,7 @@ import socket
 import subprocess
 import tempfile
 import time
+from itertools import accumulate
 
 from dorydate.model.topology import Topology, spelled_input
 from workshop.checks.limits import JOINED, PAIR
@@ -75,31 +75,38 @@ def faults_of_dialogue(program: str) -> list[str]:
 
 
 def faults_of_trace(program: str) -> list[str]:
-    """What is wrong with the trace of a dialogue: each line of a round after the first UNSEEN has to be written at once."""
+    """What is wrong with the trace of a dialogue: after each round past the first UNSEEN all its lines have to be written."""
     octets = dialogue(UNSEEN + 100)
     writes, whole = writes_of(program, octets, "--trace"), printed(program, octets, "--trace")
-    late = [it for it in whole.splitlines(keepends=True)[1:] if json.loads(it)["round"] > UNSEEN]
+    written = {*accumulate(map(len, writes))}
+    ends: dict[int, int] = {}
+    at = 0
+    for line in whole.splitlines(keepends=True):
+        at += len(line)
+        ends[json.loads(line).get("round", 0)] = at
+    late = [end for number, end in ends.items() if number > UNSEEN]
     wrong = []
     if b"".join(writes) != whole:
         wrong.append("the writes are not the trace")
-    if len(late) < 100 or writes[1 - len(late) :] != late[1:]:
-        wrong.append(f"{len(late)} lines of late rounds of a trace were written in {len(writes)} writes")
+    if len(late) != 100 or not written.issuperset(late):
+        wrong.append(f"of {len(late)} late rounds of a trace {len(written.intersection(late))} were written when they had passed")
     return wrong
 
 
-def faults_of_waiting(program: str) -> list[str]:
+def faults_of_waiting(program: str, *options: str) -> list[str]:
     """What is wrong with a calm that lasts though nothing changes: what comes before it has to be written."""
     with tempfile.TemporaryFile() as source:
         source.write(WAITING)
         source.seek(0)
-        with subprocess.Popen([program], stdin=source, stdout=subprocess.PIPE) as process:
+        with subprocess.Popen([program, *options], stdin=source, stdout=subprocess.PIPE) as process:
             assert process.stdout
             ready, _, _ = select.select([process.stdout], [], [], WITHIN)
             first = os.read(process.stdout.fileno(), 1 << 16) if ready else b""
             ended = process.poll() is not None
             process.kill()
     good = first.endswith(b"\n") and not ended
-    return [] if good else ["nothing is written before a calm that lasts though nothing changes"]
+    words = " ".join(("nothing is written before a calm that lasts though nothing changes", *options))
+    return [] if good else [words]
 
 
 def faults_of_resting(program: str) -> list[str]:
@@ -124,7 +131,8 @@ def main() -> int:
     if program is None:
         print("check seen: there is no program of these sources")
         return 1
-    wrong = faults_of_dialogue(program) + faults_of_trace(program) + faults_of_waiting(program) + faults_of_resting(program)
+    wrong = faults_of_dialogue(program) + faults_of_trace(program) + faults_of_resting(program)
+    wrong += faults_of_waiting(program) + faults_of_waiting(program, "--trace")
     for it in wrong:
         print(f"check seen: {it}")
     calms = f"a dialogue without end, its trace, a calm that changes nothing, and {len(RESTING)} that rest"

@@ -3,7 +3,7 @@ use Rattle.net_sim.specs.Book.{Kept}
 use Rattle.trace.specs.Texts.{crossing_object}
 use Rattle.world_trace.specs.Texts.{lines_text}
 use Rattle.world_trace.proofs.Lines.{line_printed}
-use Rattle.world_trace.proofs.line.print_passed.Goals as goal
+use Rattle.world_trace.proofs.line.print_line.Goals as goal
 
 pub returns-clause-written : goal.returns-clause-written
 returns-clause-written g c =

@@ -1,7 +1,10 @@
 use Rattle.world_trace.proofs.Common.{◌≡◌, ◌+◌, ◌∷◌, [], Err, ℕ, arith, ap, length, rules, subst, sym, numbered_from}
+use Rattle.world_trace.proofs.Common.{shown}
+use Rattle.replay.specs.Seen.{IsSeen}
 use Rattle.replay.specs.declared.events.ReplayFault.TheVariants as fault
 use Rattle.world_trace.specs.MixedTraces.{AtSpot}
 use Rattle.world_trace.specs.Steps.{EndsAs}
+use Rattle.world_trace.proofs.Rounds.Handing.{Handed, SeenSoFar, event_seen, events_seen}
 use Rattle.world_trace.proofs.Telling.{SoFar, all_done, at_place, ends_so, fails_so, next_at, none_left, none_yet}
 use Rattle.world_trace.proofs.Telling.{one_more}
 use Rattle.world_trace.proofs.traced.trace_all.Goals as goal
@@ -17,6 +20,14 @@ loop-line-init g c =
           (g.W.Output.contents c.args.writer.now)),
       c.requires.whole,
       tt,
+      subst (λ left. SeenSoFar (shown g.C.Carrier.calls) g.C.Inspect.inside.members g.T.Traced.state g.T.Scripted.rounds g.T.Scripted.tells
+          g.W.Output.contents g.W.Output.flushed (c.args.world.now, c.args.writer.now)
+          (numbered_from 1 c.args.events.items) (numbered_from 1 left) (c.args.world.now, c.args.writer.now)) (sym gives)
+          (none_yet (IsSeen (AtSpot g.T.Scripted.tells) (λ line. line) g.W.Output.contents
+          (Handed (shown g.C.Carrier.calls) g.C.Inspect.inside.members g.T.Traced.state g.T.Scripted.rounds g.T.Scripted.tells
+          g.W.Output.contents g.W.Output.flushed))
+          (c.args.world.now, c.args.writer.now) (numbered_from 1 c.args.events.items)
+          (g.W.Output.contents c.args.writer.now)),
     )
 
 pub loop-line-preserved : goal.loop-line-preserved
@@ -35,6 +46,12 @@ loop-line-preserved g c =
           c.loop-line.invariant.1 c.in_ok-trace_event.ensures.ends,
       c.in_ok-trace_event.ensures.failed,
       c.in_ok-trace_event.ensures.known,
+      event_seen (shown g.C.Carrier.calls) g.C.Inspect.inside.members g.T.Traced.state g.T.Scripted.rounds g.T.Scripted.tells
+          g.W.Output.contents g.W.Output.flushed (c.args.world.now, c.args.writer.now)
+          (c.loop-line.world, c.loop-line.writer) (c.trace_event.new.self, c.trace_event.new.writer) all
+          (numbered_from (i + 1) left) (numbered_from (i + 1 + 1) later) (at_place i (c.in-Some.line, c.in-Some.event))
+          (next_at i left later (c.in-Some.line, c.in-Some.event) is) c.loop-line.invariant.4
+          c.in_ok-trace_event.ensures.ends c.in_ok-trace_event.ensures.seen,
     )
 
 pub returns-clause-traced : goal.returns-clause-traced
@@ -45,6 +62,15 @@ returns-clause-traced g c =
     (numbered_from (c.loop-line.passed + 1) c.loop-line.line-iterator.rest.items)
     (g.W.Output.contents c.args.writer.now) (g.W.Output.contents c.loop-line.writer)
     (ap (numbered_from (c.loop-line.passed + 1)) none) c.loop-line.invariant.1
+
+pub returns-clause-seen : goal.returns-clause-seen
+returns-clause-seen g c =
+    let count : length c.loop-line.line-iterator.rest.items ≡ 0 = search rules in
+    let none : c.loop-line.line-iterator.rest.items ≡ [] = none_left c.loop-line.line-iterator.rest.items count in
+    events_seen (shown g.C.Carrier.calls) g.C.Inspect.inside.members g.T.Traced.state g.T.Scripted.rounds g.T.Scripted.tells
+    g.W.Output.contents g.W.Output.flushed (c.args.world.now, c.args.writer.now) (c.loop-line.world, c.loop-line.writer)
+    c.args.events.items (numbered_from (c.loop-line.passed + 1) c.loop-line.line-iterator.rest.items)
+    (ap (numbered_from (c.loop-line.passed + 1)) none) c.loop-line.invariant.4
 
 pub returns-in_err-trace_event-clause-memory : goal.returns-in_err-trace_event-clause-memory
 returns-in_err-trace_event-clause-memory g c = λ e.

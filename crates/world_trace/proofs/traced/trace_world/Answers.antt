@@ -11,6 +11,11 @@ returns-clause-traced g c =
     (g.W.Output.contents c.args.writer.now) (g.W.Output.contents c.print_opening.new.writer) (g.W.Output.contents c.trace_all.new.writer) c.in_ok-print_opening.ensures.written h)
     c.trace_all.ensures.traced
 
+pub returns-clause-seen : goal.returns-clause-seen
+returns-clause-seen g c =
+    on_ok c.trace_all.result (λ seen. (c.print_opening.new.writer, c.in_ok-print_opening.ensures.written, seen))
+    c.trace_all.ensures.seen
+
 pub returns-clause-memory : goal.returns-clause-memory
 returns-clause-memory g c = λ e.
     let calls : Calls g.row.C.Denot = shown g.C.Carrier.calls in
