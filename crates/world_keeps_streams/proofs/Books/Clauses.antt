@@ -56,7 +56,7 @@ pub stays_in : (y : Moment) (ms : List Moment) (x : Life) → IsOf x (lives_in m
 stays_in y ms x i over =
     let g : Grown (lives_in ms) (lives_in (y ∷ ms)) = grown y ms in
     subst (λ (l : List Life). IsOf x l) (sym g.is)
-    (of_left x (map g.change (lives_in ms)) g.more (subst (λ (v : Life). IsOf v (map g.change (lives_in ms))) (g.still x over) (of_map g.change x (lives_in ms) i)))
+    (of_left x _ g.more (subst (λ (v : Life). IsOf v (map g.change (lives_in ms))) (g.still x over) (of_map g.change x _ i)))
 
 settled_r_on : (hosts : Network) (y : Moment) (ms : List Moment) → Lawful hosts ms → (x : Life)
     → AreOurs hosts x.host x.peer → IsOf x (lives_in ms) → SettledR ms x → SettledR (y ∷ ms) x
@@ -97,7 +97,7 @@ pub older : (n : ℕ) (ms : List Moment) (y : Moment) (x : Life) → n ≤ lengt
 older n ms y x less i =
     let g : Grown (lives_in ms) (lives_in (y ∷ ms)) = grown y ms in
     let m : (v : Life) × IsOf v (take n (lives_in ms)) × (x ≡ g.change v) =
-    of_mapped g.change x (take n (lives_in ms)) (subst (λ (l : List Life). IsOf x l) (ap (take n) g.is ∙ take_grown g.change n (lives_in ms) g.more less) i) in
+    of_mapped g.change x _ (subst (λ (l : List Life). IsOf x l) (ap (take n) g.is ∙ take_grown g.change n _ g.more less) i) in
     record {
       life = m.0;
       there = m.1;
@@ -122,7 +122,7 @@ module _ (hosts : Network) (a b : Host) (Own Heard : List Moment → ℕ → ℕ
           over = (w.receiving x i f g q).over fresh.left;
           source = λ some. let o : Sourced a b Own Heard ms w.j x = source_of a b Own Heard ms (given.matched ms (below hosts y ms l)) w x i f g q some in record {
             sender = o.sender;
-            there = of_drop (since a b ms) o.sender (lives_in ms) o.there;
+            there = of_drop _ o.sender _ o.there;
             over = o.is.over fresh.peer_left;
             matches = o.matches;
             front = o.front;
@@ -140,7 +140,7 @@ module _ (hosts : Network) (a b : Host) (Own Heard : List Moment → ℕ → ℕ
           by w (inl none) = inl none
           by w (inr o) = inr (record {
             receiver = o.receiver;
-            there = of_drop (since a b ms) o.receiver (lives_in ms) o.there;
+            there = of_drop _ o.receiver _ o.there;
             over = o.is.over fresh.left;
             matches = o.matches;
             granted = o.granted;
@@ -152,7 +152,7 @@ module _ (hosts : Network) (a b : Host) (Own Heard : List Moment → ℕ → ℕ
   settled_r [] l x i f g q = absurd i
   settled_r (y ∷ ms) l x i f g q = by (stay.begins a b (event_in y) (events_of ms)) refl (settled_r ms (below hosts y ms l)) where
     kept : (n : ℕ) (o : Older n ms y x) → SettledR ms o.life → SettledR (y ∷ ms) x
-    kept n o r = subst (λ (v : Life). SettledR (y ∷ ms) v) (sym (o.same r.over)) (settled_r_on hosts y ms (below hosts y ms l) o.life (ours_of hosts o.life a b given.ours (o.host ∙ f, o.peer ∙ g)) (of_take n o.life (lives_in ms) o.there) r)
+    kept n o r = subst (λ (v : Life). SettledR (y ∷ ms) v) (sym (o.same r.over)) (settled_r_on hosts y ms (below hosts y ms l) o.life (ours_of hosts o.life a b given.ours (o.host ∙ f, o.peer ∙ g)) (of_take n o.life _ o.there) r)
 
     by : (v : Bool) → stay.begins a b (event_in y) (events_of ms) ≡ v → ((x : Life) → IsOf x (take (since a b ms) (lives_in ms)) → x.host ≡ a → x.peer ≡ b → receives x ≡ true → SettledR ms x) → SettledR (y ∷ ms) x
     by false none old =
@@ -161,7 +161,7 @@ module _ (hosts : Network) (a b : Host) (Own Heard : List Moment → ℕ → ℕ
     by true new old =
         let o : Older (length (lives_in ms)) ms y x = older (length (lives_in ms)) ms y x (omega arith) (subst (λ (n : ℕ). IsOf x (take n (lives_in (y ∷ ms)))) (since_new a b y ms new) i) in
         let kind : receives o.life ≡ true = ap is_receive_socket o.socket ∙ q in
-        kept (length (lives_in ms)) o (elim (of_parts (since a b ms) o.life (lives_in ms) (of_take (length (lives_in ms)) o.life (lives_in ms) o.there)) [
+        kept _ o (elim (of_parts _ o.life _ (of_take _ o.life _ o.there)) [
           | inl early ↦ old o.life early (o.host ∙ f) (o.peer ∙ g) kind
           | inr late ↦ settle_r y ms l new o.life late (o.host ∙ f) (o.peer ∙ g) kind
         ])
@@ -170,7 +170,7 @@ module _ (hosts : Network) (a b : Host) (Own Heard : List Moment → ℕ → ℕ
   settled_s [] l x i f g q = absurd i
   settled_s (y ∷ ms) l x i f g q = by (stay.begins a b (event_in y) (events_of ms)) refl (settled_s ms (below hosts y ms l)) where
     kept : (n : ℕ) (o : Older n ms y x) → SettledS ms o.life → SettledS (y ∷ ms) x
-    kept n o r = subst (λ (v : Life). SettledS (y ∷ ms) v) (sym (o.same r.over)) (settled_s_on hosts y ms (below hosts y ms l) o.life (ours_of hosts o.life b a (given.ours.1, given.ours.0) (o.host ∙ f, o.peer ∙ g)) (of_take n o.life (lives_in ms) o.there) r)
+    kept n o r = subst (λ (v : Life). SettledS (y ∷ ms) v) (sym (o.same r.over)) (settled_s_on hosts y ms (below hosts y ms l) o.life (ours_of hosts o.life b a (given.ours.1, given.ours.0) (o.host ∙ f, o.peer ∙ g)) (of_take n o.life _ o.there) r)
 
     by : (v : Bool) → stay.begins a b (event_in y) (events_of ms) ≡ v → ((s : Life) → IsOf s (take (since a b ms) (lives_in ms)) → s.host ≡ b → s.peer ≡ a → sends s ≡ true → SettledS ms s) → SettledS (y ∷ ms) x
     by false none old =
@@ -179,7 +179,7 @@ module _ (hosts : Network) (a b : Host) (Own Heard : List Moment → ℕ → ℕ
     by true new old =
         let o : Older (length (lives_in ms)) ms y x = older (length (lives_in ms)) ms y x (omega arith) (subst (λ (n : ℕ). IsOf x (take n (lives_in (y ∷ ms)))) (since_new a b y ms new) i) in
         let kind : sends o.life ≡ true = ap is_send_socket o.socket ∙ q in
-        kept (length (lives_in ms)) o (elim (of_parts (since a b ms) o.life (lives_in ms) (of_take (length (lives_in ms)) o.life (lives_in ms) o.there)) [
+        kept _ o (elim (of_parts _ o.life _ (of_take _ o.life _ o.there)) [
           | inl early ↦ old o.life early (o.host ∙ f) (o.peer ∙ g) kind
           | inr late ↦ settle_s y ms l new o.life late (o.host ∙ f) (o.peer ∙ g) kind
         ])

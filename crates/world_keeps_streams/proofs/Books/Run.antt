@@ -125,13 +125,13 @@ module _ (hosts : Network) (a b : Host) (Own Heard : List Moment → ℕ → ℕ
 
   pub whole : (ms : List Moment) → Lawful hosts ms → Whole a b Own Heard ms
   whole [] l = whole_none
-  whole (y ∷ ms) l = whole_next y ms l (stay.begins a b (event_in y) (events_of ms)) refl (whole ms (below hosts y ms l))
+  whole (y ∷ ms) l = whole_next y ms l _ refl (whole ms (below hosts y ms l))
 
   -- what is kept of the streams from one moment to the next
   pub whole_keeps : (y : Moment) (ms : List Moment) (l : Lawful hosts (y ∷ ms)) → stay.begins a b (event_in y) (events_of ms) ≡ false → (n : ℕ)
       → Keeps (stay.stays a b (events_of (y ∷ ms))) (stay.stays b a (events_of (y ∷ ms))) ((whole ms (below hosts y ms l)).j n).x ((whole (y ∷ ms) l).j n).x
   unfolding whole whole_next whole_on
-  whole_keeps y ms l none n = by (stay.begins a b (event_in y) (events_of ms)) refl (whole ms (below hosts y ms l)) none where
+  whole_keeps y ms l none n = by (stay.begins a b (event_in y) (events_of ms)) refl (whole ms _) none where
     by : (v : Bool) (e : stay.begins a b (event_in y) (events_of ms) ≡ v) (w : Whole a b Own Heard ms) → v ≡ false → Keeps (stay.stays a b (events_of (y ∷ ms))) (stay.stays b a (events_of (y ∷ ms))) (w.j n).x ((whole_next y ms l v e w).j n).x
     by true e w off = absurd (let no : true ≡ false = off in cc)
     by false e w off = keeps y ms l e w n

@@ -272,7 +272,7 @@ module _ (hosts : Network) where
 
     s_then_all : s_then.messages ≡ out_of older_log
     s_then_all =
-        all_out older before_lawful x_was.life s_then x_ours x_was.there s_then_in x_goes s_then_matches x_link.link x_linked
+        all_out hosts older before_lawful x_was.life s_then x_ours x_was.there s_then_in x_goes s_then_matches x_link.link x_linked
         x_waits.0 m.text x_waits.1
         ∙ ap (λ (o : Option ℕ). length (texts_on s_then o older_log)) s_then_link ∙ texts_are older_log
 

@@ -91,12 +91,12 @@ module _ (number : ℕ → ℕ → ℕ → ℕ) (peer : Host) (link : ℕ) where
   calls_came : (more own : List calls.Moment) → AreUntakenCalls more → (receiver_now number peer link (more ++ own)).came ≡ (receiver_now number peer link own).came
   calls_came [] own u = refl
   calls_came (m ∷ more) own u =
-      all_came (received_at (name_now number peer (more ++ own)) link m.call m.pair m.listening) (receiver_now number peer link (more ++ own)) (call_untaken (name_now number peer (more ++ own)) link m.call m.pair m.listening u.0) ∙ calls_came more own u.1
+      all_came _ _ (call_untaken (name_now number peer (more ++ own)) link m.call m.pair m.listening u.0) ∙ calls_came more own u.1
 
   pub none_came : (own : List calls.Moment) → AreUntakenCalls own → (c : ℕ) → (receiver_now number peer link own).came c ≡ 0
   none_came [] u c = refl
   none_came (m ∷ own) u c =
-      ap (λ (f : ℕ → ℕ). f c) (all_came (received_at (name_now number peer own) link m.call m.pair m.listening) (receiver_now number peer link own) (call_untaken (name_now number peer own) link m.call m.pair m.listening u.0)) ∙ none_came own u.1 c
+      ap (λ (f : ℕ → ℕ). f c) (all_came _ _ (call_untaken (name_now number peer own) link m.call m.pair m.listening u.0)) ∙ none_came own u.1 c
 
 -- what a host does by itself
 solo_call : (k : Call) (q : PairState) → Quiet k q → IsUntakenCall k
@@ -135,7 +135,7 @@ parcel_untaken peer stamp (parcel.Bytes e size count) q listening = (tt, tt)
 
 next_untaken : (peer : Host) (stamp : ℕ) (listening : List Listener) (o : Option (Peer × Parcel)) → AreUntakenCalls (next_calls peer stamp listening o)
 next_untaken peer stamp listening None = tt
-next_untaken peer stamp listening (Some (p, g)) = either_calls (same_host peer p.host) (parcel_calls peer stamp g p.pair listening) (parcel_untaken peer stamp g p.pair listening)
+next_untaken peer stamp listening (Some (p, g)) = either_calls _ _ (parcel_untaken peer stamp g p.pair listening)
 
 owner_untaken : (peer : Host) (call : Entry → Call) → ((e : Entry) → IsUntakenCall (call e)) → (q : PairState) (listening : List Listener) (o : Option (Host × Entry)) → AreUntakenCalls (owner_calls peer call q listening o)
 owner_untaken peer call u q listening None = tt

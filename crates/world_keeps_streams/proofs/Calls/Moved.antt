@@ -78,7 +78,7 @@ module _ (s : NcpState) (b : Host) where
       → Turned b false (pair_with b s.peers) (pair_with b (with_peer s g change).peers) (if same_host b g then cs b else [])
   peer_moved g change cs there = by (same_host b g) refl where
     changed : pair_with b (with_pair g (change (pair_with g s.peers)) s.peers) ≡ cond (same_host b g) (change (pair_with g s.peers)) (pair_with b s.peers)
-    changed = pair_changed g b (change (pair_with g s.peers)) s.peers
+    changed = pair_changed g b _ s.peers
 
     by : (c : Bool) → same_host b g ≡ c → Turned b false (pair_with b s.peers) (pair_with b (with_pair g (change (pair_with g s.peers)) s.peers)) (if c then cs b else [])
     by true e =
@@ -88,7 +88,7 @@ module _ (s : NcpState) (b : Host) where
         (subst (λ (h : Host). Turned h false (pair_with h s.peers) (change (pair_with h s.peers)) (cs h)) (sym is) there)
     by false e =
         let now : pair_with b (with_pair g (change (pair_with g s.peers)) s.peers) ≡ pair_with b s.peers = rw e at changed in
-        same_turned b (pair_with b s.peers) _ (ap (λ (q : PairState). q.entries) (sym now)) (λ i. subst (λ (q : PairState). IsIdle q) (sym now) i)
+        same_turned b _ _ (ap (λ (q : PairState). q.entries) (sym now)) (λ i. subst (λ (q : PairState). IsIdle q) (sym now) i)
 
   none_if : (c : Bool) → (if c then [] else []) ≡ (let none : List calls.Moment = [] in none)
   none_if true = refl
@@ -136,8 +136,8 @@ module _ (s : NcpState) (b : Host) where
   closed_moved : (socket : ℕ) → AreInOrder s.peers → Turned b false (pair_with b s.peers) (pair_with b (closed_socket s socket).peers) (request_calls b s (request.Close socket))
   closed_moved socket order = by (listens_on socket s.listening) refl where
     by : (c : Bool) → listens_on socket s.listening ≡ c → Turned b false (pair_with b s.peers) (pair_with b (closed_socket s socket).peers) (request_calls b s (request.Close socket))
-    by true e = rw e (same_turned b (pair_with b s.peers) (pair_with b s.peers) refl (λ i. i))
-    by false e = rw e (owner_moved socket (owner_of socket s.peers) (λ x. closed_end socket) (Closes socket) order refl (λ x q. refl) (λ g x q. refl))
+    by true e = rw e (same_turned b _ _ refl (λ i. i))
+    by false e = rw e (owner_moved socket _ _ _ order refl (λ x q. refl) (λ g x q. refl))
 
   pub request_moved : (r : Request) → AreInOrder s.peers → refusal s r ≡ None → Turned b false (pair_with b s.peers) (pair_with b (served s r).peers) (request_calls b s r)
   unfolding served refusal

@@ -87,7 +87,7 @@ plain_matches own foreign change es (Some e) = plain_if (is_some e.partner) deed
 
 plain_closings : (busy : List ℕ) (own foreign : ℕ) (es : List Entry) (o : Option Entry) → IsPlain (closings busy own foreign es o)
 plain_closings busy own foreign es None = tt
-plain_closings busy own foreign es (Some e) = plain_if e.partner_closed deeds.Nothing (sweeps (map (λ x. closed_when (must_close busy x) x) (changed_at own foreign closed_by_partner es))) tt tt
+plain_closings busy own foreign es (Some e) = plain_if e.partner_closed deeds.Nothing _ tt tt
 
 -- ---- a receiver
 
@@ -127,7 +127,7 @@ module _ (name : ℕ → ℕ → ℕ) (link : ℕ) where
 
   closed_still : (o : Option Entry) → AreStill (closed_received name link o)
   closed_still None = tt
-  closed_still (Some e) = still_if (receives_on link e) (received_gone e.partner_closed (named name e)) [] (gone_still e.partner_closed (named name e)) tt
+  closed_still (Some e) = still_if _ _ [] (gone_still e.partner_closed _) tt
 
   pub out_still : (c : Command) (es : List Entry) → AreStill (received_out name link c es)
   out_still (command.Rts receive send l) es = asked_still (entry_at receive send es)
@@ -136,8 +136,8 @@ module _ (name : ℕ → ℕ → ℕ) (link : ℕ) where
   out_still c es = tt
 
   plain_says : (stamp : ℕ) (c : Command) (q : PairState) → IsPlain (says stamp c q)
-  plain_says stamp (command.Rts receive send l) q = plain_opens (entry_at receive send (changed_at receive send (asked_at stamp) q.entries))
-  plain_says stamp (command.Str send receive size) q = plain_opens (entry_at send receive (changed_at send receive (asked_at stamp) q.entries))
+  plain_says stamp (command.Rts receive send l) q = plain_opens _
+  plain_says stamp (command.Str send receive size) q = plain_opens _
   plain_says stamp c q = tt
 
   pub asks_still : (c : ℕ) (free : Option ℕ) → AreStill (asks_for link c free)
@@ -145,7 +145,7 @@ module _ (name : ℕ → ℕ → ℕ) (link : ℕ) where
   asks_still c (Some other) = still_if (other == link) (receivers.Ask c ∷ []) [] (tt, tt) tt
 
   by_moves : (d : Deed) (ms : List receivers.Move) (r : Receiver) → IsPlain d → AreStill ms → Receives name link d r (all_received ms r)
-  by_moves d ms r p s = plain_by name link d r (all_received ms r) p (still_all ms r s)
+  by_moves d ms r p s = plain_by name link d r _ p (still_all ms r s)
 
   -- ---- data
 
@@ -236,7 +236,7 @@ module _ (name : ℕ → ℕ → ℕ) (link : ℕ) where
   grant_by m n e r = by (receives_on link e) refl where
     by : (v : Bool) → receives_on link e ≡ v → Receives name link (deeds.Grants e m n) r (all_received (if v then receivers.Grant (named name e) m n ∷ [] else []) r)
     by true on = record { taken = λ k. refl; granted = λ k. for_same e r.granted (λ a. counters.added a m n) on k; returned = λ k. refl }
-    by false on = off_by (deeds.Grants e m n) r on
+    by false on = off_by _ r on
 
   -- ---- each call
 

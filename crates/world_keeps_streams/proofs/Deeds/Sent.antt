@@ -47,8 +47,8 @@ mute_one : (m : senders.Move) (s : Sender) (k : ℕ) → IsMute m → (senders.m
 mute_one (senders.Send c z bits) s k i = absurd i
 mute_one (senders.Hear (words.Rts c)) s k i = mute_begins c s.end s k
 mute_one (senders.Hear (words.Str c z)) s k i = refl
-mute_one (senders.Hear (words.All c m n)) s k i = mute_counts s.end (λ a. counters.granted a m n) s k
-mute_one (senders.Hear (words.Gvb c m n)) s k i = mute_counts s.end (λ a. counters.given_back a m n) s k
+mute_one (senders.Hear (words.All c m n)) s k i = mute_counts s.end _ s k
+mute_one (senders.Hear (words.Gvb c m n)) s k i = mute_counts s.end _ s k
 mute_one (senders.Hear (words.Ret c m n)) s k i = refl
 mute_one (senders.Hear (words.Cls c)) s k i = mute_shuts c s.end s k
 mute_one m s k i = refl
@@ -81,7 +81,7 @@ quiet_matches own foreign change es (Some e) = quiet_if (is_some e.partner) deed
 
 quiet_closings : (busy : List ℕ) (own foreign : ℕ) (es : List Entry) (o : Option Entry) → IsQuiet (closings busy own foreign es o)
 quiet_closings busy own foreign es None = tt
-quiet_closings busy own foreign es (Some e) = quiet_if e.partner_closed deeds.Nothing (sweeps (map (λ x. closed_when (must_close busy x) x) (changed_at own foreign closed_by_partner es))) tt tt
+quiet_closings busy own foreign es (Some e) = quiet_if e.partner_closed deeds.Nothing _ tt tt
 
 -- what is done at the open end that is found, if there is one
 quiet_found : (f : Found → Deed) (o : Option Entry) → IsQuiet (f Unconnected) → IsQuiet (f Ending) → ((e : Entry) → IsQuiet (f (Open e))) → IsQuiet (f (found_in o))
@@ -106,8 +106,8 @@ quiet_hears stamp (command.Ret l m n) q =
 quiet_hears stamp c q = tt
 
 quiet_says : (stamp : ℕ) (c : Command) (q : PairState) → IsQuiet (says stamp c q)
-quiet_says stamp (command.Rts receive send l) q = quiet_opens (entry_at receive send (changed_at receive send (asked_at stamp) q.entries))
-quiet_says stamp (command.Str send receive size) q = quiet_opens (entry_at send receive (changed_at send receive (asked_at stamp) q.entries))
+quiet_says stamp (command.Rts receive send l) q = quiet_opens _
+quiet_says stamp (command.Str send receive size) q = quiet_opens _
 quiet_says stamp c q = tt
 
 -- ---- a sender
@@ -127,7 +127,7 @@ module _ (name : ℕ → ℕ → ℕ) (link : ℕ) where
 
   end_mute : (c : ℕ) (o : Option ℕ) (ms : List senders.Move) → AreMute ms → AreMute (of_end c o ms)
   end_mute c None ms i = tt
-  end_mute c (Some own) ms i = choose (own == c) ms [] i tt
+  end_mute c (Some own) ms i = choose _ ms [] i tt
 
   closes_mute : (busy : List ℕ) (es : List Entry) → AreMute (closes name busy es)
   closes_mute busy [] = tt
@@ -138,10 +138,10 @@ module _ (name : ℕ → ℕ → ℕ) (link : ℕ) where
   rts_mute false c = tt
 
   asks_mute : (here : Bool) (c : ℕ) (l : Option Listener) (o : Option Entry) → AreMute (rts_sent here c l o)
-  asks_mute here c None None = mute_append (hears_rts here c) (senders.Close c ∷ []) (rts_mute here c) (tt, tt)
+  asks_mute here c None None = mute_append _ _ (rts_mute here c) (tt, tt)
   asks_mute here c (Some l) None = (tt, rts_mute here c)
-  asks_mute here c None (Some e) = choose (is_some e.partner) [] (hears_rts here c ++ sent_open (here && is_some e.asked) c) tt (mute_append (hears_rts here c) (sent_open (here && is_some e.asked) c) (rts_mute here c) (open_mute (here && is_some e.asked) c))
-  asks_mute here c (Some l) (Some e) = choose (is_some e.partner) [] (hears_rts here c ++ sent_open (here && is_some e.asked) c) tt (mute_append (hears_rts here c) (sent_open (here && is_some e.asked) c) (rts_mute here c) (open_mute (here && is_some e.asked) c))
+  asks_mute here c None (Some e) = choose _ [] _ tt (mute_append _ _ (rts_mute here c) (open_mute _ c))
+  asks_mute here c (Some l) (Some e) = choose _ [] _ tt (mute_append _ _ (rts_mute here c) (open_mute _ c))
 
   cls_mute : (busy : List ℕ) (own foreign : ℕ) (es : List Entry) (s : Sender) (o : Option Entry) → AreMute (cls_heard name busy own foreign es s o)
   cls_mute busy own foreign es s None = tt
@@ -161,7 +161,7 @@ module _ (name : ℕ → ℕ → ℕ) (link : ℕ) where
 
   asked_mute : (s : Sender) (o : Option Entry) → AreMute (asked_sent name link s o)
   asked_mute s None = tt
-  asked_mute s (Some e) = choose (sends_on link e) (of_end (named name e) s.end (sent_open (is_some e.partner) (named name e))) [] (end_mute (named name e) s.end (sent_open (is_some e.partner) (named name e)) (open_mute (is_some e.partner) (named name e))) tt
+  asked_mute s (Some e) = choose _ _ [] (end_mute _ s.end _ (open_mute _ _)) tt
 
   out_mute : (c : Command) (es : List Entry) (s : Sender) → AreMute (sent_out name link c es s)
   out_mute (command.Rts receive send l) es s = asked_mute s (entry_at receive send es)

@@ -168,8 +168,8 @@ module _ (a p : Host) where
     -- what is reported of a call
     pub call_told : (c : Call) → IsTold c → (ls : List Life) → all_lives a (notices_of p c q listening) ls ≡ After (deed_of c q) ls
     call_told (Hears stamp said c) t = hear_told stamp c
-    call_told (Takes link text) t = data_told link text (found_in (find (receives_on link) q.entries))
+    call_told (Takes link text) t = data_told link text _
     call_told (Says stamp c) t = out_told stamp c
-    call_told (Sends stamp e size count) t = sent_told e (take (size * count) e.bits)
+    call_told (Sends stamp e size count) t = sent_told e _
     call_told (Grants socket m n e) t = absurd t
     call_told c t = none_told

@@ -34,14 +34,14 @@ any_later : (h p : Host) (place : ℕ) (cs : List Called) (c : Called) → (c.pl
     → list_any (is_contact h p place) (cs ++ c ∷ []) ≡ list_any (is_contact h p place) cs
 any_later h p place cs c never_there =
     any_with h p place cs c ∙ ap (λ (v : Bool). list_any (is_contact h p place) cs || v)
-    (not_there h p place c (c.place == place) never_there refl) ∙ or_nothing (list_any (is_contact h p place) cs)
+    (not_there h p place c _ never_there refl) ∙ or_nothing _
 
 later_call : (h p : Host) (cs : List Called) (c : Called) (log : List Crossing) → length log < c.place
     → contacts_now (cs ++ c ∷ []) h p log ≡ contacts_now cs h p log
 later_call h p cs c [] less = any_later h p 0 cs c (λ e. absurd (omega (arith, less, e)))
 later_call h p cs c (d ∷ log) less =
     ap (λ (v : Bool). v || still_contacts h p d (contacts_now (cs ++ c ∷ []) h p log))
-    (any_later h p (length (d ∷ log)) cs c (λ e. (let l : length (d ∷ log) < c.place = less in absurd
+    (any_later h p _ cs c (λ e. (let l : length (d ∷ log) < c.place = less in absurd
     (omega (arith, l, e)))))
     ∙ ap (λ (v : Bool). list_any (is_contact h p (length (d ∷ log))) cs || still_contacts h p d v)
     (later_call h p cs c log (let l : suc (length log) < c.place = less in omega (arith, l)))
@@ -75,13 +75,13 @@ calls_same : (h p : Host) (ms : List Moment) → contacts_now (contacts_of ms) h
 calls_same h p [] = refl
 calls_same h p (Crossed c ∷ ms) =
     ap (λ (v : Bool). v || still_contacts h p c (contacts_now (contacts_of ms) h p (crossings_of ms)))
-    (none_there h p (places ms) (length (c ∷ crossings_of ms)) (contacts_of ms)
+    (none_there h p _ _ _
     (let e : places ms ≡ length (crossings_of ms) = places_same ms in omega (arith, e)) (contacts_below ms))
     ∙ ap (λ (v : Bool). still_contacts h p c v) (calls_same h p ms)
 calls_same h p (Asked g (request.Contact q) ∷ ms) =
-    now_call h p (contacts_of ms) (record { host = g; place = places ms; peer = q }) (crossings_of ms) (places_same ms)
+    now_call h p _ _ _ (places_same ms)
     ∙ ap (λ (v : Bool). v || contacts_now (contacts_of ms) h p (crossings_of ms))
-    (is_there h p g q (places ms) (length (crossings_of ms)) (places_same ms))
+    (is_there h p g q _ _ (places_same ms))
     ∙ ap (λ (v : Bool). (same_host h g && same_host p q) || v) (calls_same h p ms)
 calls_same h p (Asked g r ∷ ms) =
     ap (λ (cs : List Called). contacts_now cs h p (crossings_of ms)) (append-nil (contacts_of ms)) ∙ calls_same h p ms
@@ -101,7 +101,7 @@ rfnm_want false ph e = e
 
 told_want : (v : Bool) (link : ℕ) (k : Answer) (q : Pair) → q.phase ≡ phase.Want
     → (pair_moved (when v (Hear link k)) q).phase ≡ phase.Want
-told_want true link answer.Rfnm q e = rfnm_want (link == 0) q.phase e
+told_want true link answer.Rfnm q e = rfnm_want _ q.phase e
 told_want true link answer.Dead q e = ap (λ (ph : Phase). failed_phase ph q.owed) e
 told_want true link answer.Incomplete q e = ap (λ (ph : Phase). failed_phase ph q.owed) e
 told_want true link answer.NotTaken q e = ap (λ (ph : Phase). failed_phase ph q.owed) e
@@ -230,10 +230,10 @@ module _ (strange : Host → Bool) (h p : Host) where
   now_among cs [] = called_among 0 cs
   now_among cs (c ∷ log) =
       ap (λ (v : Bool). v || still_contacts h p c (contacts_now (contacts_among strange cs) h p log))
-      (called_among (length (c ∷ log)) cs)
+      (called_among _ cs)
       ∙ ap (λ (v : Bool). (are_ours strange h p && list_any (is_contact h p (length (c ∷ log))) cs) || still_contacts h p c v)
       (now_among cs log)
-      ∙ either_none (are_ours strange h p) h p c (list_any (is_contact h p (length (c ∷ log))) cs) (contacts_now cs h p log)
+      ∙ either_none _ h p c _ _
 
 among_all : (cs : List Called) → contacts_among (λ h. false) cs ≡ cs
 among_all [] = refl
@@ -348,7 +348,7 @@ module _ (hosts : Network) where
 pub contacts_are : (hosts : List Host) (ms : List Moment) → Lawful (all_ours hosts) ms
     → AreContacts (contacts_of ms) (crossings_of ms)
 contacts_are hosts ms l =
-    subst (λ (cs : List Called). AreContacts cs (crossings_of ms)) (among_all (contacts_of ms))
+    subst (λ (cs : List Called). AreContacts cs (crossings_of ms)) (among_all _)
     (contacts_now_are (all_ours hosts) ms l)
 
 pub world_contacts : {C : Type 0} (seen : C → Seen) (hosts : List Host) (w : WorldState C) → IsLawful seen hosts w

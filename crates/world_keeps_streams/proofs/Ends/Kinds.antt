@@ -99,7 +99,7 @@ pub openings_some : (x : Life) (ns : List Notice) (told : List law.Life) → Tel
 openings_some x [] told t none = t
 openings_some x (n ∷ ns) told (inl e) none =
     let o : (l : law.Life) × (ls : List law.Life) × (with_openings itself x.socket x.foreign (n ∷ []) told ≡ l ∷ ls) = opened_one x n told e in
-    more_openings x.socket x.foreign ns (with_openings itself x.socket x.foreign (n ∷ []) told) o.0 o.1 o.2 none
+    more_openings x.socket x.foreign ns _ o.0 o.1 o.2 none
 openings_some x (n ∷ ns) told (inr t) none = openings_some x ns (with_openings itself x.socket x.foreign (n ∷ []) told) t none
 
 pub among_none : (xs ys : List law.Life) → AreAmong xs ys → ys ≡ [] → xs ≡ []
@@ -212,9 +212,9 @@ module _ (k : Life) where
   beside y ms g about off same ends up = ItStays (record {
     pace = same;
     ends = ends;
-    unended = λ e t. off (about_ends k g (notices_by y ms) about t);
-    unreset = λ e t. off (about_resets k g (notices_by y ms) about t);
-    unopened = λ e t. off (about_openings k g (notices_by y ms) about t);
+    unended = λ e t. off (about_ends k g _ about t);
+    unreset = λ e t. off (about_resets k g _ about t);
+    unopened = λ e t. off (about_openings k g _ about t);
     up = up;
   })
 
@@ -225,7 +225,7 @@ module _ (k : Life) where
   append_none (x ∷ xs) ys e = absurd (let no : x ∷ (xs ++ ys) ≡ [] = e in cc)
 
   at_both : (a b : ℕ) (e : Entry) → is_at a b e ≡ true → (e.own ≡ a) × (e.foreign ≡ b)
-  at_both a b e t = let p : ((e.own == a) ≡ true) × ((e.foreign == b) ≡ true) = both (e.own == a) (e.foreign == b) t in (eqb-true e.own a p.0, eqb-true e.foreign b p.1)
+  at_both a b e t = let p : ((e.own == a) ≡ true) × ((e.foreign == b) ≡ true) = both _ _ t in (eqb-true e.own a p.0, eqb-true e.foreign b p.1)
 
   close_there : (a b own foreign : ℕ) → a ≡ own → b ≡ foreign → (if a == own && b == foreign then Close ∷ [] else []) ≡ [] → ⊥
   close_there a b own foreign e f none =
@@ -337,9 +337,9 @@ module _ (k : Life) where
           → course_in k (Crossed (crossing.Out m) ∷ ms) ≡ each (said k (places ms)) os (course_in k ms)
       on_flow os zero orders =
           let z : (0 == m.flow.link.0) ≡ true = eq-eqb 0 m.flow.link.0 (sym zero) in
-          when_on (said k (places ms))
-          (same_host k.host m.flow.source && same_host k.peer m.flow.destination && 0 == m.flow.link.0)
-          (orders_of m.text) os (course_in k ms) (rw (from, to, z) refl) orders
+          when_on _
+          _
+          _ os _ (rw (from, to, z) refl) orders
 
       off_flow : (m.flow.link.0 == 0) ≡ false → course_in k (Crossed (crossing.Out m) ∷ ms) ≡ course_in k ms
       off_flow away =
@@ -351,13 +351,13 @@ module _ (k : Life) where
       kept : (Lax : Type 0) (test : Entry → Bool) (t : IsTest Lax test) (count : ℕ) → n.parcel ≡ parcel.Commands count → AllPass Lax n.peer.host k.socket k.foreign (places ms) test t (take count n.peer.pair.queue)
           → AreOff Lax n.peer.host k.socket k.foreign (places ms) test t (pair_with k.peer (program k.host ms).peers).entries → AllKept Lax k.socket k.foreign (notices_by (Crossed (crossing.Out m)) ms)
       kept Lax test t count is pass off =
-          subst (λ (ns : List Notice). AllKept Lax k.socket k.foreign ns) (sym (notes (parcel.Commands count) is))
-          (all_keep Lax n.peer.host k.socket k.foreign (places ms) test t (take count n.peer.pair.queue) (desk_of n.peer.pair (program k.host ms).listening) pass
+          subst (λ (ns : List Notice). AllKept Lax k.socket k.foreign ns) (sym (notes _ is))
+          (all_keep Lax n.peer.host k.socket k.foreign (places ms) test t _ _ pass
           (record { ends = subst (λ (q : PairState). AreOff Lax n.peer.host k.socket k.foreign (places ms) test t q.entries) q_is off; told = tt })).told
 
       speaks : (count : ℕ) → n.parcel ≡ parcel.Commands count → MaySpeak n.peer.pair
       speaks count is =
-          (what_goes n.peer.pair (parcel.Commands count) (next_out hosts ms lower k.host m n with_peer
+          (what_goes n.peer.pair _ (next_out hosts ms lower k.host m n with_peer
           ∙ ap (λ (x : Parcel). Some x) is)).0
 
       out_by : Outs n.peer.pair n.parcel m → Kind (Crossed (crossing.Out m)) ms

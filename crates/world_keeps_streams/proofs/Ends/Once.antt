@@ -133,12 +133,12 @@ waits_once hosts f ours p text (crossing.Out m ∷ log) zero all is =
           (ap (λ (g : Flow). g.link.0 == 0) (sym (same_flow-true f m.flow e)) ∙ zero))
       by false e w rest = rest w
 waits_once hosts f ours p text (crossing.In m ∷ log) zero all is =
-    waits_once hosts f ours p text log zero all (fetched_waits (mail.box_of f log) p text (same_flow f m.flow) is)
+    waits_once hosts f ours p text log zero all (fetched_waits (mail.box_of f log) p text _ is)
 waits_once hosts f ours p text (crossing.Answer kind g ∷ log) zero all is =
-    waits_once hosts f ours p text log zero all (cleared_waits (mail.box_of f log) p text (same_flow f g) is)
+    waits_once hosts f ours p text log zero all (cleared_waits _ p text _ is)
 waits_once hosts f ours p text (crossing.Down h ∷ log) zero all is = waits_once hosts f ours p text log zero all is
 waits_once hosts f ours p text (crossing.Up h ∷ log) zero all is =
-    waits_once hosts f ours p text log zero all (cleared_waits (mail.box_of f log) p text (same_host f.source h) is)
+    waits_once hosts f ours p text log zero all (cleared_waits _ p text _ is)
 
 pub in_once : (hosts : Network) (m : HostMessage) (ms : List Moment) → Lawful hosts (Crossed (crossing.In m) ∷ ms)
     → AreOurs hosts m.flow.source m.flow.destination → (m.flow.link.0 == 0) ≡ true → (own foreign place : ℕ) → AskOnce (marks_in place own foreign (orders_of m.text))

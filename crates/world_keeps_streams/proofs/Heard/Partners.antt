@@ -40,7 +40,7 @@ changed_step test change s same x y z zs rest false false t a = rw (t, a) rest
 
 changed_same : (test : Entry → Bool) (change : Entry → Entry) → Stays change → ((e : Entry) → (change e).partner ≡ e.partner) → (es : List Entry) → AreSame es (changed_first test change es)
 changed_same test change s same [] x y = refl
-changed_same test change s same (z ∷ zs) x y = changed_step test change s same x y z zs (changed_same test change s same zs x y) (test z) (is_at x y z) refl refl
+changed_same test change s same (z ∷ zs) x y = changed_step test change s same x y z zs (changed_same test change s same zs x y) _ _ refl refl
 
 settled_step : (busy : List ℕ) (x y : ℕ) (z : Entry) (zs : List Entry) → partner_at (entry_at x y (map (shut_one busy) zs)) ≡ partner_at (entry_at x y zs) → (b : Bool) → is_at x y z ≡ b → partner_at (entry_at x y (map (shut_one busy) (z ∷ zs))) ≡ partner_at (entry_at x y (z ∷ zs))
 settled_step busy x y z zs rest true a = rw a refl
@@ -48,7 +48,7 @@ settled_step busy x y z zs rest false a = rw a rest
 
 settled_same : (busy : List ℕ) (es : List Entry) → AreSame es (map (shut_one busy) es)
 settled_same busy [] x y = refl
-settled_same busy (z ∷ zs) x y = settled_step busy x y z zs (settled_same busy zs x y) (is_at x y z) refl
+settled_same busy (z ∷ zs) x y = settled_step busy x y z zs (settled_same busy zs x y) _ refl
 
 kept_old : (o : Option Entry) (v : ℕ) → partner_at (kept_if o) ≡ Some v → partner_at o ≡ Some v
 kept_old None v t = t
@@ -64,8 +64,8 @@ swept_old es after a s x y v t = sym (s x y) ∙ kept_old (entry_at x y after) v
 
 same_sockets : (own foreign x y : ℕ) (z : Entry) → is_at own foreign z ≡ true → is_at x y z ≡ true → (x ≡ own) × (y ≡ foreign)
 same_sockets own foreign x y z t a =
-    let p : ((z.own == own) ≡ true) × ((z.foreign == foreign) ≡ true) = both (z.own == own) (z.foreign == foreign) t in
-    let q : ((z.own == x) ≡ true) × ((z.foreign == y) ≡ true) = both (z.own == x) (z.foreign == y) a in
+    let p : ((z.own == own) ≡ true) × ((z.foreign == foreign) ≡ true) = both _ _ t in
+    let q : ((z.own == x) ≡ true) × ((z.foreign == y) ≡ true) = both _ _ a in
     (sym (eqb-true z.own x q.0) ∙ eqb-true z.own own p.0, sym (eqb-true z.foreign y q.1) ∙ eqb-true z.foreign foreign p.1)
 
 append_step : (e z : Entry) (x y : ℕ) (zs : List Entry) → (partner_at (entry_at x y (zs ++ e ∷ [])) ≡ partner_at (entry_at x y zs)) ⊎ ((is_at x y e ≡ true) × (partner_at (entry_at x y (zs ++ e ∷ [])) ≡ e.partner) × (partner_at (entry_at x y zs) ≡ None))
@@ -96,8 +96,8 @@ some_same v stamp o a b = ap place_of (sym b ∙ a)
 append_told : (own foreign stamp : ℕ) (es : List Entry) (e : Entry) → e.own ≡ own → e.foreign ≡ foreign → e.partner ≡ Some stamp → AreTold own foreign stamp es (es ++ e ∷ [])
 append_told own foreign stamp es e o f p x y v t = elim (appended es e x y) [
   | inl same ↦ inl (sym same ∙ t)
-  | inr k ↦ inr (let q : ((e.own == x) ≡ true) × ((e.foreign == y) ≡ true) = both (e.own == x) (e.foreign == y) k.0 in
-      (sym (eqb-true e.own x q.0) ∙ o, sym (eqb-true e.foreign y q.1) ∙ f, some_same v stamp (partner_at (entry_at x y (es ++ e ∷ []))) (k.1 ∙ p) t))
+  | inr k ↦ inr (let q : ((e.own == x) ≡ true) × ((e.foreign == y) ≡ true) = both _ _ k.0 in
+      (sym (eqb-true e.own x q.0) ∙ o, sym (eqb-true e.foreign y q.1) ∙ f, some_same v stamp _ (k.1 ∙ p) t))
 ]
 
 module _ (own foreign stamp : ℕ) (change : Entry → Entry) (s : Stays change) (asked : (e : Entry) → (change e).partner ≡ Some stamp) where
@@ -117,7 +117,7 @@ module _ (own foreign stamp : ℕ) (change : Entry → Entry) (s : Stays change)
 
   matched_told : (es : List Entry) → AreTold own foreign stamp es (changed_first (is_at own foreign) change es)
   matched_told [] x y v p = inl p
-  matched_told (z ∷ zs) x y v p = match_step x y v z zs (matched_told zs x y v) (is_at own foreign z) (is_at x y z) refl refl p
+  matched_told (z ∷ zs) x y v p = match_step x y v z zs (matched_told zs x y v) _ _ refl refl p
 
 -- ---- commands
 
@@ -138,11 +138,11 @@ module _ (peer : Host) (busy : List ℕ) (stamp : ℕ) (d : DeskState) where
     none_told x y v t = inl t
 
     rts_listened : (l : ℕ) (o : Option Listener) → AreTold own foreign stamp d.entries (rts_heard own foreign l stamp o d).entries
-    rts_listened l None = append_told own foreign stamp d.entries (refused_end own foreign stamp) refl refl refl
-    rts_listened l (Some x) = append_told own foreign stamp d.entries (asked_on_link stamp l (sending_end own foreign x.size)) refl refl refl
+    rts_listened l None = append_told own foreign stamp d.entries _ refl refl refl
+    rts_listened l (Some x) = append_told own foreign stamp d.entries _ refl refl refl
 
     rts_by : (l : ℕ) (o : Option Entry) → AreTold own foreign stamp d.entries (rts_taken_by peer own foreign l stamp o d).entries
-    rts_by l None = rts_listened l (listener_on own d.listening)
+    rts_by l None = rts_listened l _
     rts_by l (Some e) = by (is_some e.partner) refl where
       by : (v : Bool) → is_some e.partner ≡ v → AreTold own foreign stamp d.entries (rts_taken_by peer own foreign l stamp (Some e) d).entries
       by true t = rw t none_told
@@ -150,18 +150,18 @@ module _ (peer : Host) (busy : List ℕ) (stamp : ℕ) (d : DeskState) where
 
     rts_all : (l : ℕ) (v : Bool) → list_any (sends_on l) d.entries ≡ v → AreTold own foreign stamp d.entries (rts_taken peer own foreign l stamp d).entries
     rts_all l true t = rw t none_told
-    rts_all l false t = rw t (rts_by l (entry_at own foreign d.entries))
+    rts_all l false t = rw t (rts_by l _)
 
     str_answered : (z : ℕ) (o : Option ℕ) → AreTold own foreign stamp d.entries (str_linked own foreign z stamp o d).entries
-    str_answered z None = append_told own foreign stamp d.entries (refused_end own foreign stamp) refl refl refl
-    str_answered z (Some l) = append_told own foreign stamp d.entries (asked_with_size stamp z (receiving_end own foreign l)) refl refl refl
+    str_answered z None = append_told own foreign stamp d.entries _ refl refl refl
+    str_answered z (Some l) = append_told own foreign stamp d.entries _ refl refl refl
 
     str_listened : (z : ℕ) (o : Option Listener) → AreTold own foreign stamp d.entries (str_heard own foreign z stamp o d).entries
-    str_listened z None = append_told own foreign stamp d.entries (refused_end own foreign stamp) refl refl refl
-    str_listened z (Some x) = str_answered z (free_link d.entries)
+    str_listened z None = append_told own foreign stamp d.entries _ refl refl refl
+    str_listened z (Some x) = str_answered z _
 
     str_by : (z : ℕ) (o : Option Entry) → AreTold own foreign stamp d.entries (str_taken_by peer own foreign z stamp o d).entries
-    str_by z None = str_listened z (listener_on own d.listening)
+    str_by z None = str_listened z _
     str_by z (Some e) = by (is_some e.partner) refl where
       by : (v : Bool) → is_some e.partner ≡ v → AreTold own foreign stamp d.entries (str_taken_by peer own foreign z stamp (Some e) d).entries
       by true t = rw t none_told
@@ -170,20 +170,20 @@ module _ (peer : Host) (busy : List ℕ) (stamp : ℕ) (d : DeskState) where
   ret_same : (l m n : ℕ) (e : Entry) → AreSame d.entries (ret_taken l m n e d).entries
   ret_same l m n e = by (nat_le m e.allocation.messages && nat_le n e.allocation.bits) refl where
     by : (v : Bool) → (nat_le m e.allocation.messages && nat_le n e.allocation.bits) ≡ v → AreSame d.entries (ret_taken l m n e d).entries
-    by true t = rw t (kept (receives_on l) (returned m n) (record { own = λ x. refl; foreign = λ x. refl }) (λ x. refl))
+    by true t = rw t (kept _ _ (record { own = λ x. refl; foreign = λ x. refl }) (λ x. refl))
     by false t = rw t (same_self d.entries)
 
   data_by : (l : ℕ) (text : List Bool) (x : Entry) (o : Option DataHeader) → AreSame d.entries (arrived_if l x text o d).entries
   data_by l text x None = same_self d.entries
   data_by l text x (Some h) = by (is_acceptable x h) refl where
     by : (v : Bool) → is_acceptable x h ≡ v → AreSame d.entries (arrived_if l x text (Some h) d).entries
-    by true t = rw t (kept (receives_on l) (spent (data_bits h)) (record { own = λ x. refl; foreign = λ x. refl }) (λ x. refl))
+    by true t = rw t (kept _ _ (record { own = λ x. refl; foreign = λ x. refl }) (λ x. refl))
     by false t = rw t (same_self d.entries)
 
   data_same : (l : ℕ) (text : List Bool) (w : Found) → AreSame d.entries (data_found l text w d).entries
   data_same l text Unconnected = same_self d.entries
   data_same l text Ending = same_self d.entries
-  data_same l text (Open x) = data_by l text x (header_of text)
+  data_same l text (Open x) = data_by l text x _
 
   module _ (name : ℕ → ℕ → ℕ) (apart : AreApart (numbers name d.entries)) where
     still : (after : List Entry) → AreSame d.entries after → AreOld d.entries after
@@ -250,7 +250,7 @@ module _ (number : ℕ → ℕ → ℕ → ℕ) (tells : IsTelling number) (link
 
   opened_same : (own foreign : ℕ) (o : Option ℕ) → AreSame q.entries (receiver_requested own foreign o q).entries
   opened_same own foreign None = same_self q.entries
-  opened_same own foreign (Some l) = append_same q.entries (receiving_end own foreign l) refl
+  opened_same own foreign (Some l) = append_same q.entries _ refl
 
   closing_same : (busy : List ℕ) (socket : ℕ) → AreSame q.entries (map (shut_one busy) (changed_first (is_mine_on socket) called_off q.entries))
   closing_same busy socket x y = settled_same busy (changed_first (is_mine_on socket) called_off q.entries) x y ∙ changed_same (is_mine_on socket) called_off (record { own = λ x. refl; foreign = λ x. refl }) (λ x. refl) q.entries x y

@@ -41,13 +41,13 @@ module _ (hosts : Network) (ms : List Moment) (l : Lawful hosts ms) (h p : Host)
   pub unasked : AllUnasked (pair_with p (program h ms).peers).entries
   unasked e there = by e.partner refl where
     some : (t : ℕ) → e.partner ≡ Some t → (v w : Bool) → (is_receive_socket e.own && is_send_socket e.foreign) ≡ v → (is_send_socket e.own && is_receive_socket e.foreign) ≡ w → ⊥
-    some t partner true w f g = no_partner hosts ms l h p ours left e.own e.foreign (inl (both (is_receive_socket e.own) (is_send_socket e.foreign) f)) e t there refl refl partner
-    some t partner false true f g = no_partner hosts ms l h p ours left e.own e.foreign (inr (both (is_send_socket e.own) (is_receive_socket e.foreign) g)) e t there refl refl partner
+    some t partner true w f g = no_partner hosts ms l h p ours left e.own e.foreign (inl (both _ _ f)) e t there refl refl partner
+    some t partner false true f g = no_partner hosts ms l h p ours left e.own e.foreign (inr (both _ _ g)) e t there refl refl partner
     some t partner false false f g = unpaired_none hosts ms l h p ours e t there (f, g) partner
 
     by : (o : Option ℕ) → e.partner ≡ o → e.partner ≡ None
     by None e = e
-    by (Some t) f = absurd (some t f (is_receive_socket e.own && is_send_socket e.foreign) (is_send_socket e.own && is_receive_socket e.foreign) refl refl)
+    by (Some t) f = absurd (some t f _ _ refl refl)
 
 -- ---- moments with which a stay continues
 
@@ -167,7 +167,7 @@ module _ (hosts : Network) (h p : Host) (ours : AreOurs hosts h p) (y : Moment) 
     by : (v : Bool) → same_host (host_in y) h ≡ v → Bare calm h p (lives_in ms) (lives_in (y ∷ ms))
     by false e = bare_elsewhere calm h p y ms e
     by true e =
-        let is : host_in y ≡ h = same_host-true (host_in y) h e in
+        let is : host_in y ≡ h = same_host-true _ h e in
         let fine : IsFineBy calm y × AllFine calm p (notices_by y ms)
         = fine_here hosts p calm y ms (subst (λ (g : Host). hosts.strange g ≡ false) (sym is) ours.0, ours.1) l (subst (λ (g : Host). stay.stays g p (events_of (y ∷ ms)) ≡ false) (sym is) left) (subst (λ (g : Host). stay.stays g p (events_of ms) ≡ calm) (sym is) before) in
         bare_fine calm h p y ms fine.0 fine.1

@@ -25,10 +25,10 @@ entry_end s q who h p origin ms tie e there own foreign =
     let a : (e.own == own_of who s) ≡ true = eq-eqb e.own (own_of who s) own in
     let b : (e.foreign == foreign_of who s) ≡ true = eq-eqb e.foreign (foreign_of who s) foreign in
     let here : is_at (own_of who s) (foreign_of who s) e ≡ true = (rw (a, b) refl) in
-    stands_as origin 0 (at (own_of who s) (foreign_of who s) (pair_with p (program h ms).peers).entries) (marks 0 (own_of who s) (foreign_of who s) (pair_with p (program h ms).peers).queue)
-    (Side_of s q who h p origin ms).end (standing e) (tie.ends 0)
-    (among_mapped standing (filter (is_at (own_of who s) (foreign_of who s)) (pair_with p (program h ms).peers).entries) e
-    (among_kept (is_at (own_of who s) (foreign_of who s)) (pair_with p (program h ms).peers).entries e there here))
+    stands_as origin 0 _ _
+    _ _ (tie.ends 0)
+    (among_mapped standing _ e
+    (among_kept _ _ e there here))
 
 -- ---- there is one at its two sockets
 
@@ -57,18 +57,18 @@ one_of origin place (g ∷ k ∷ fs) words x e f h i j = absurd h
 module _ (s : Sockets) (q : IsPair s) (who : Who) (h p : Host) (ms : List Moment) (tie : Tie s q who h p (origin_in (crossings_of ms) h p) ms) where
   pub one_tied : (e f : Entry) → Among e (pair_with p (program h ms).peers).entries → Among f (pair_with p (program h ms).peers).entries → e.own ≡ own_of who s → e.foreign ≡ foreign_of who s → f.own ≡ own_of who s → f.foreign ≡ foreign_of who s → e ≡ f
   one_tied e f i j e_own e_foreign f_own f_foreign =
-      one_of (origin_in (crossings_of ms) h p) 0 (filter (is_at (own_of who s) (foreign_of who s)) (pair_with p (program h ms).peers).entries) (marks 0 (own_of who s) (foreign_of who s) (pair_with p (program h ms).peers).queue)
-      (Side_of s q who h p (origin_in (crossings_of ms) h p) ms).end e f (tie.ends 0)
-      (among_kept (is_at (own_of who s) (foreign_of who s)) (pair_with p (program h ms).peers).entries e i (at_it (own_of who s) (foreign_of who s) e e_own e_foreign))
-      (among_kept (is_at (own_of who s) (foreign_of who s)) (pair_with p (program h ms).peers).entries f j (at_it (own_of who s) (foreign_of who s) f f_own f_foreign))
+      one_of _ 0 _ _
+      _ e f (tie.ends 0)
+      (among_kept _ _ e i (at_it _ _ e e_own e_foreign))
+      (among_kept _ _ f j (at_it _ _ f f_own f_foreign))
 
   pub found_tied : (e : Entry) → Among e (pair_with p (program h ms).peers).entries → e.own ≡ own_of who s → e.foreign ≡ foreign_of who s → entry_at (own_of who s) (foreign_of who s) (pair_with p (program h ms).peers).entries ≡ Some e
   found_tied e i own foreign = by (entry_at (own_of who s) (foreign_of who s) (pair_with p (program h ms).peers).entries) refl where
     by : (o : Option Entry) → entry_at (own_of who s) (foreign_of who s) (pair_with p (program h ms).peers).entries ≡ o → o ≡ Some e
-    by None none = absurd (none_found (is_at (own_of who s) (foreign_of who s)) (pair_with p (program h ms).peers).entries e none i (at_it (own_of who s) (foreign_of who s) e own foreign))
+    by None none = absurd (none_found (is_at (own_of who s) (foreign_of who s)) _ e none i (at_it _ _ e own foreign))
     by (Some f) found =
-        let g : Among f (pair_with p (program h ms).peers).entries × (is_at (own_of who s) (foreign_of who s) f ≡ true) = found_among (is_at (own_of who s) (foreign_of who s)) (pair_with p (program h ms).peers).entries f found in
-        let parts : ((f.own == own_of who s) ≡ true) × ((f.foreign == foreign_of who s) ≡ true) = both (f.own == own_of who s) (f.foreign == foreign_of who s) g.1 in
+        let g : Among f (pair_with p (program h ms).peers).entries × (is_at (own_of who s) (foreign_of who s) f ≡ true) = found_among _ _ f found in
+        let parts : ((f.own == own_of who s) ≡ true) × ((f.foreign == foreign_of who s) ≡ true) = both _ _ g.1 in
         ap (λ (x : Entry). Some x) (one_tied f e g.0 i (eqb-true f.own (own_of who s) parts.0) (eqb-true f.foreign (foreign_of who s) parts.1) own foreign)
 
 -- ---- a host that doesn't stay

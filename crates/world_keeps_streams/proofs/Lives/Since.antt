@@ -20,7 +20,7 @@ use Rattle.world_keeps_streams.proofs.Stays.Resets.{goes_on}
 reset_alone : (hosts : Network) (e : Event) (events : List Event) → IsRun hosts (e ∷ events) → (a b : Host)
     → AreOurs hosts a b → stay.takes_reset a b e ≡ true → stay.ready b a (e ∷ events) ≡ true → ⊥
 reset_alone hosts (Contact x y) events r a b ours takes ready = absurd (cc)
-reset_alone hosts (In x y l Reset) events r a b ours takes ready = reset_unready hosts events x y l r a b ours takes (ready_phase (pair b a (In x y l Reset ∷ events)).phase ready)
+reset_alone hosts (In x y l Reset) events r a b ours takes ready = reset_unready hosts events x y l r a b ours takes (ready_phase _ ready)
 reset_alone hosts (In x y l Reply) events r a b ours takes ready = absurd (cc)
 reset_alone hosts (In x y l (Other text)) events r a b ours takes ready = absurd (cc)
 reset_alone hosts e events r a b ours takes ready = absurd (cc)

@@ -112,10 +112,10 @@ module _ (a b : Host) where
         clash ⊥ (same_host h a) (subst (λ (g : Host). same_host h g ≡ true) host s) off
 
     pub on_other : (x : Life) → x.host ≡ a → lives_on h x ≡ true → ⊥
-    on_other x host is = clash ⊥ (same_host h a) (subst (λ (g : Host). same_host h g ≡ true) host (both (same_host h x.host) (not x.ended) is).0) off
+    on_other x host is = clash ⊥ (same_host h a) (subst (λ (g : Host). same_host h g ≡ true) host (both _ _ is).0) off
 
     pub alike_at_other : (socket : ℕ) (f : Life → Life) (ls : List Life) → ((x : Life) → (f x).host ≡ x.host) → ((x : Life) → (f x).peer ≡ x.peer) → AreAlike ls (where_it (lives_at h socket) f ls)
-    alike_at_other socket f ls host peer = alike_where (lives_at h socket) f ls host peer (λ x there g p is. at_other socket x g is)
+    alike_at_other socket f ls host peer = alike_where _ f ls host peer (λ x there g p is. at_other socket x g is)
 
     away_told : (n : Notice) (ls : List Life) → AreAlike ls (lives_told h n ls)
     away_told (notice.Opened socket peer foreign own partner) ls =
@@ -129,7 +129,7 @@ module _ (a b : Host) where
 
     pub away_alike : (ns : List Notice) (ls : List Life) → AreAlike ls (all_lives h ns ls)
     away_alike [] ls = alike_same ls
-    away_alike (n ∷ ns) ls = alike_then ls (lives_told h n ls) (all_lives h ns (lives_told h n ls)) (away_told n ls) (away_alike ns (lives_told h n ls))
+    away_alike (n ∷ ns) ls = alike_then ls _ _ (away_told n ls) (away_alike ns (lives_told h n ls))
 
   -- ---- what is reported of another peer
 
@@ -170,9 +170,9 @@ module _ (a b : Host) where
     named_new peer is to = clash ⊥ (same_host p b) (subst (λ (g : Host). same_host p g ≡ true) (sym is ∙ to) (same_host-refl p)) off
 
     named_told : (n : Notice) → IsNamed p n → (ls : List Life) → AreAlike ls (lives_told a n ls)
-    named_told (notice.Opened socket peer foreign own partner) is ls = alike_more ls (new_life a socket peer foreign own partner ∷ []) ((λ host to. named_new peer is to), tt)
-    named_told (notice.Ended socket peer foreign) is ls = alike_where (lives_between a socket peer foreign) book.life_ended ls (λ x. refl) (λ x. refl) (λ x there h to t. other_between socket foreign peer is x to t)
-    named_told (notice.PairReset peer) is ls = alike_where (lives_with a peer) book.life_ended ls (λ x. refl) (λ x. refl) (λ x there h to t. other_with peer is x to t)
+    named_told (notice.Opened socket peer foreign own partner) is ls = alike_more ls _ ((λ host to. named_new peer is to), tt)
+    named_told (notice.Ended socket peer foreign) is ls = alike_where _ book.life_ended ls (λ x. refl) (λ x. refl) (λ x there h to t. other_between socket foreign peer is x to t)
+    named_told (notice.PairReset peer) is ls = alike_where _ book.life_ended ls (λ x. refl) (λ x. refl) (λ x there h to t. other_with peer is x to t)
     named_told (notice.Sent socket bits) is ls = absurd is
     named_told (notice.Arrived socket bits) is ls = absurd is
     named_told (notice.Returned socket messages bits) is ls = absurd is
@@ -180,7 +180,7 @@ module _ (a b : Host) where
 
     pub named_alike : (ns : List Notice) → AreNamed p ns → (ls : List Life) → AreAlike ls (all_lives a ns ls)
     named_alike [] is ls = alike_same ls
-    named_alike (n ∷ ns) is ls = alike_then ls (lives_told a n ls) (all_lives a ns (lives_told a n ls)) (named_told n is.0 ls) (named_alike ns is.1 (lives_told a n ls))
+    named_alike (n ∷ ns) is ls = alike_then ls _ _ (named_told n is.0 ls) (named_alike ns is.1 (lives_told a n ls))
 
     -- ---- a deed with another peer
 
@@ -193,23 +193,23 @@ module _ (a b : Host) where
     IsClearOf d ls = Unit {0}
 
     one_ended : (v : Bool) (e : Entry) (x : Life) → IsLike x (if v then changed_when (lives_between a e.own p e.foreign x) book.life_ended x else x)
-    one_ended true e x = like_when (lives_between a e.own p e.foreign x) book.life_ended x (λ y. refl) (λ y. refl) (λ h to t. other_between e.own e.foreign p refl x to t)
+    one_ended true e x = like_when _ book.life_ended x (λ y. refl) (λ y. refl) (λ h to t. other_between e.own e.foreign p refl x to t)
     one_ended false e x = like_same x
 
     like_ended : (es : List Entry) (x : Life) → IsLike x (life_ends a p es x)
     like_ended [] x = like_same x
     like_ended (e ∷ es) x =
         let y : Life = if e.mine then changed_when (lives_between a e.own p e.foreign x) book.life_ended x else x in
-        like_then x y (life_ends a p es y) (one_ended e.mine e x) (like_ended es y)
+        like_then x y _ (one_ended e.mine e x) (like_ended es y)
 
     like_at : (k : ℕ) (f : Life → Life) (ls : List Life) → ((x : Life) → (f x).host ≡ x.host) → ((x : Life) → (f x).peer ≡ x.peer) → IsClear k ls → (x : Life) → Among x ls → IsLike x (changed_when (lives_at a k x) f x)
-    like_at k f ls host peer clear x there = like_when (lives_at a k x) f x host peer (clear x there)
+    like_at k f ls host peer clear x there = like_when _ f x host peer (clear x there)
 
     pub deed_alike : (d : Deed) (ls : List Life) → IsClearOf d ls → AreAlike ls (After a p d ls)
-    deed_alike deeds.Nothing ls clear = alike_mapped (λ x. x) ls [] (λ x there. like_same x) tt
-    deed_alike (deeds.Opens e u v) ls clear = alike_mapped (λ x. x) ls (new_by a p (deeds.Opens e u v)) (λ x there. like_same x) ((λ host to. named_new p refl to), tt)
-    deed_alike (deeds.Ends es) ls clear = alike_mapped (λ x. life_ends a p es x) ls [] (λ x there. like_ended es x) tt
-    deed_alike (deeds.Arrives e bits) ls clear = alike_mapped (λ x. life_by a p (deeds.Arrives e bits) x) ls [] (like_at e.own (book.carried bits) ls (λ x. refl) (λ x. refl) clear) tt
-    deed_alike (deeds.Leaves e bits) ls clear = alike_mapped (λ x. life_by a p (deeds.Leaves e bits) x) ls [] (like_at e.own (book.carried bits) ls (λ x. refl) (λ x. refl) clear) tt
-    deed_alike (deeds.Grants e messages bits) ls clear = alike_mapped (λ x. life_by a p (deeds.Grants e messages bits) x) ls [] (like_at e.own (book.granted messages bits) ls (λ x. refl) (λ x. refl) clear) tt
-    deed_alike (deeds.Returns e messages bits) ls clear = alike_mapped (λ x. life_by a p (deeds.Returns e messages bits) x) ls [] (like_at e.own (book.returned messages bits) ls (λ x. refl) (λ x. refl) clear) tt
+    deed_alike deeds.Nothing ls clear = alike_mapped _ ls [] (λ x there. like_same x) tt
+    deed_alike (deeds.Opens e u v) ls clear = alike_mapped _ ls _ (λ x there. like_same x) ((λ host to. named_new p refl to), tt)
+    deed_alike (deeds.Ends es) ls clear = alike_mapped _ ls [] (λ x there. like_ended es x) tt
+    deed_alike (deeds.Arrives e bits) ls clear = alike_mapped _ ls [] (like_at e.own _ ls (λ x. refl) (λ x. refl) clear) tt
+    deed_alike (deeds.Leaves e bits) ls clear = alike_mapped _ ls [] (like_at e.own _ ls (λ x. refl) (λ x. refl) clear) tt
+    deed_alike (deeds.Grants e messages bits) ls clear = alike_mapped _ ls [] (like_at e.own _ ls (λ x. refl) (λ x. refl) clear) tt
+    deed_alike (deeds.Returns e messages bits) ls clear = alike_mapped _ ls [] (like_at e.own _ ls (λ x. refl) (λ x. refl) clear) tt

@@ -44,7 +44,7 @@ same_queue peer q next is = Still refl (subst (λ (x : List Command). IsMore q.q
 
 one_call : (peer : Host) (k : Call) (q : PairState) (listening : List Listener) (next : PairState) → (MayCall k q → Quiet k q) → next.queue ≡ queue_by peer k q listening → Calm peer q next (called k q listening ∷ [])
 one_call peer k q listening next quiet is =
-    One (called k q listening) refl refl quiet (subst (λ (x : List Command). IsMore (queue_by peer k q listening) x) (sym is) (no_more (queue_by peer k q listening)))
+    One (called k q listening) refl refl quiet (subst (λ (x : List Command). IsMore (queue_by peer k q listening) x) (sym is) (no_more _))
 
 -- ---- an answer
 
@@ -68,8 +68,8 @@ module _ (peer : Host) (link : ℕ) (t : TurnState) where
   lost false = settles t.pair.phase
 
   answer_turn : (kind : Answer) → Answers (answered_turn peer kind link t)
-  answer_turn answer.Rfnm = settles (rfnm_phase link t.pair.phase)
-  answer_turn kind = lost (is_gone t.pair.phase || not t.pair.owed)
+  answer_turn answer.Rfnm = settles _
+  answer_turn kind = lost _
 
 module _ (s : NcpState) (stamp : ℕ) where
   pub answer_calm : (kind : Answer) (f : Flow) → same_host s.own f.source ≡ true
@@ -99,8 +99,8 @@ module _ (s : NcpState) (stamp : ℕ) where
   unfolding accepted
   reply_calm m own zero orders =
       rw own (subst (λ (q : PairState). Calm m.flow.source (pair_with m.flow.source s.peers) q (message_calls m.flow.source stamp m.flow.link.0 m.text (turn_of s m.flow.source)))
-      (sym (put m.flow.source (message_taken m.flow.source stamp m.flow.link.0 m.text (turn_of s m.flow.source)).pair s.peers))
-      (reply_turn m.flow.source m.flow.link.0 m.text (turn_of s m.flow.source) zero orders))
+      (sym (put m.flow.source _ s.peers))
+      (reply_turn m.flow.source m.flow.link.0 m.text _ zero orders))
 
   reset_turn : (peer : Host) (link : ℕ) (text : List Bool) (t : TurnState) → (link == 0) ≡ true → orders_of text ≡ Legal command.Rst ∷ [] → (message_taken peer stamp link text t).pair.queue ≡ []
   reset_turn peer link text t zero orders = rw (zero, orders) refl
@@ -121,8 +121,8 @@ module _ (s : NcpState) (stamp : ℕ) where
   owed_parcel : (h : Host) (g : Peer) (x : Parcel) → parcel.next_of g.pair ≡ Some x → is_ready g.pair.phase ≡ true → g.pair.owed ≡ true → Calm h g.pair (next_for g x g.host) (parcel_calls h stamp x g.pair s.listening)
   owed_parcel h g parcel.Reset n ready owed = absurd (let no : false ≡ true = sym (ap is_ready (what_goes g.pair parcel.Reset n).wanted) ∙ ready in cc)
   owed_parcel h g parcel.Reply n ready owed = same_queue h g.pair _ refl
-  owed_parcel h g (parcel.Commands count) n ready owed = clash _ g.pair.owed owed (what_goes g.pair (parcel.Commands count) n).0.owes
-  owed_parcel h g (parcel.Bytes e size count) n ready owed = clash _ g.pair.owed owed (what_goes g.pair (parcel.Bytes e size count) n).0.owes
+  owed_parcel h g (parcel.Commands count) n ready owed = clash _ g.pair.owed owed (what_goes g.pair _ n).0.owes
+  owed_parcel h g (parcel.Bytes e size count) n ready owed = clash _ g.pair.owed owed (what_goes g.pair _ n).0.owes
 
   -- `b` is another peer, or owed an RRP
   pub offer_calm : (b : Host) → AreInOrder s.peers → ((g : Peer) (x : Parcel) → next_in s.peers ≡ Some (g, x) → same_host b g.host ≡ true → (is_ready (pair_with b s.peers).phase ≡ true) × ((pair_with b s.peers).owed ≡ true))
@@ -156,7 +156,7 @@ interrupts : (e : Entry) (cs : List Command) → IsMore cs (cs ++ interrupt_of e
 interrupts e cs = by (is_receiving e) where
   by : (b : Bool) → IsMore cs (cs ++ (if b then command.Inr (link_of e.link) else command.Ins (link_of e.link)) ∷ [])
   by true = one_more cs (command.Inr (link_of e.link)) tt
-  by false = one_more cs (command.Ins (link_of e.link)) tt
+  by false = one_more cs _ tt
 
 module _ (s : NcpState) (b : Host) where
   -- the pair of a peer is changed
@@ -164,7 +164,7 @@ module _ (s : NcpState) (b : Host) where
       → Calms b (pair_with b s.peers) (pair_with b (with_peer s g change).peers) (if same_host b g then cs b else [])
   peer_calm g change cs there = by (same_host b g) refl where
     changed : pair_with b (with_pair g (change (pair_with g s.peers)) s.peers) ≡ cond (same_host b g) (change (pair_with g s.peers)) (pair_with b s.peers)
-    changed = pair_changed g b (change (pair_with g s.peers)) s.peers
+    changed = pair_changed g b _ s.peers
 
     by : (c : Bool) → same_host b g ≡ c → Calms b (pair_with b s.peers) (pair_with b (with_pair g (change (pair_with g s.peers)) s.peers)) (if c then cs b else [])
     by true e =
@@ -200,7 +200,7 @@ module _ (s : NcpState) (b : Host) where
   close_calm socket = by (listens_on socket s.listening) refl where
     by : (c : Bool) → listens_on socket s.listening ≡ c → Calms b (pair_with b s.peers) (pair_with b (closed_socket s socket).peers) (request_calls b s (request.Close socket))
     by true e = rw e (λ r. still b (pair_with b s.peers) (pair_with b s.peers) refl)
-    by false e = rw e (owner_calm (owner_of socket s.peers) (λ x. closed_end socket) (Closes socket) (λ x. tt) (λ g x q. refl))
+    by false e = rw e (owner_calm _ _ _ (λ x. tt) (λ g x q. refl))
 
   pub request_calm : (r : Request) → Calms b (pair_with b s.peers) (pair_with b (served s r).peers) (request_calls b s r)
   unfolding served

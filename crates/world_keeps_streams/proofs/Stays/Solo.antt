@@ -60,13 +60,13 @@ begin_silent true p r e = absurd (cc)
 begin_silent false p r e = e
 
 pub silent_before : (a b : Host) (e : Event) (events : List Event) → keeps a b e events ≡ true → (pair a b (e ∷ events)).begun ≡ false → (pair a b events).begun ≡ false
-silent_before a b (Contact x y) events k e = call_silent (are a b x y) (pair a b events) (both_true _ false k).0 e
-silent_before a b (Out x y l m) events k e = out_silent (are a b x y) l m (pair a b events) e
+silent_before a b (Contact x y) events k e = call_silent _ _ (both_true _ false k).0 e
+silent_before a b (Out x y l m) events k e = out_silent _ l m _ e
 silent_before a b (In x y l m) events k e =
-    in_silent (are a b y x) m (pair a b events) (not_taken a b x y l m (both_true (ready a b (In x y l m ∷ events)) (takes_reset a b (In x y l m)) k).1) e
-silent_before a b (Told x y l kind) events k e = told_silent (are a b x y) l kind (pair a b events) (both_true _ false k).0 e
-silent_before a b (Down x) events k e = begin_silent (same_host a x) (pair a b events) (both_true _ false k).0 e
-silent_before a b (Up x) events k e = begin_silent (same_host a x) (pair a b events) (both_true _ false k).0 e
+    in_silent _ m _ (not_taken a b x y l m (both_true _ _ k).1) e
+silent_before a b (Told x y l kind) events k e = told_silent _ l kind _ (both_true _ false k).0 e
+silent_before a b (Down x) events k e = begin_silent _ _ (both_true _ false k).0 e
+silent_before a b (Up x) events k e = begin_silent _ _ (both_true _ false k).0 e
 silent_before a b Idle events k e = e
 
 -- ---- one moment
@@ -165,7 +165,7 @@ module _ (a b : Host) where
       by true true g k =
           subst (λ (h : Host). Calms h (pair_with h (program a moments).peers) (pair_with h (accepted (program a moments) (inbound.Answer kind f) (places moments)).0.peers) (answer_calls f.link.0 (pair_with h (program a moments).peers) (program a moments).listening))
           (sym (same_host-true b f.destination k)) (answer_calm (program a moments) (places moments) kind f (own_is f.source g))
-      by true false g k = λ now. still b (before moments) _ (answer_leaves (program a moments) kind f (places moments) b k)
+      by true false g k = λ now. still b (before moments) _ (answer_leaves _ kind f _ b k)
       by false e g k = λ now. still b (before moments) (before moments) refl
 
     start_calm : (h : Host) → Calms b (before moments) (pair_with b (if same_host a h then opening_state a else program a moments).peers) []

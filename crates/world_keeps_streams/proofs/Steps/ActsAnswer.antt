@@ -33,7 +33,7 @@ at_cleared true z = inr refl
 at_cleared false z = inl refl
 
 cleared_one : (t : Bool) (here k : ℕ) (X : ℕ → Box) (l : ℕ) → IsCleared (X l) (posted here (when t (Clear k)) X l)
-cleared_one true here k X l = at_cleared (l == k) (X l)
+cleared_one true here k X l = at_cleared _ (X l)
 cleared_one false here k X l = inl refl
 
 -- ---- what an answer finds
@@ -147,13 +147,13 @@ module _ (number other : ℕ → ℕ → ℕ → ℕ) (tells : IsTelling number)
       was_ready = ready_phase (pair_with p (program h moments).peers).phase (sym (ready_both hosts h p moments ours story.1) ∙ stays_ready (events_of moments) h p stays)
 
       changed : pair_with p (accepted (program h moments) (inbound.Answer kind f) (places moments)).0.peers ≡ (answered_turn p kind f.link.0 (turn_of (program h moments) p)).pair
-      changed = answered_pair (program h moments) kind f (places moments) p peer_host own_is outstanding
+      changed = answered_pair _ kind f _ p peer_host own_is outstanding
 
       told_ready : program_phases.is_ready (pair_with p (accepted (program h moments) (inbound.Answer kind f) (places moments)).0.peers).phase ≡ true
       told_ready = rw mine at now_ready
 
       settles : Settles (pair_with p (program h moments).peers) f.link.0 (turn_of (program h moments) p) (answered_turn p kind f.link.0 (turn_of (program h moments) p)).pair
-      settles = answered_settles p kind f.link.0 (turn_of (program h moments) p) was_ready (sym (ap (λ (n : PairState). program_phases.is_ready n.phase) changed) ∙ told_ready)
+      settles = answered_settles p kind f.link.0 _ was_ready (sym (ap (λ (n : PairState). program_phases.is_ready n.phase) changed) ∙ told_ready)
 
       ends : (settled (freed f.link.0 (pair_with p (program h moments).peers)).busy (desk_of (pair_with p (program h moments).peers) (program h moments).listening)).entries ≡ (pair_with p (accepted (program h moments) (inbound.Answer kind f) (places moments)).0.peers).entries
       ends = settles.0 ∙ sym (ap (λ (n : PairState). n.entries) changed)
@@ -179,13 +179,13 @@ module _ (number other : ℕ → ℕ → ℕ → ℕ) (tells : IsTelling number)
       is_fetched : (f.link.0 == link) ≡ true → post_in (X link) ≡ Fetched
       is_fetched e =
           let one : f.link.0 ≡ link = eqb-true f.link.0 link e in
-          subst (λ (l : ℕ). post_in (X l) ≡ Fetched) one (fits_fetched kind (X f.link.0) fits rfnm (no_signal (is_signal (kind_in (X f.link.0))) refl e)) where
+          subst (λ (l : ℕ). post_in (X l) ≡ Fetched) one (fits_fetched kind _ fits rfnm (no_signal _ refl e)) where
             no_signal : (v : Bool) → is_signal (kind_in (X f.link.0)) ≡ v → (f.link.0 == link) ≡ true → v ≡ false
-            no_signal true g e = absurd (clash_links e (eq-eqb 0 f.link.0 (sym ((alone_run hosts (events_of moments) run.2 h p ours).on_zero f.link.0 g))))
+            no_signal true g e = absurd (clash_links e (eq-eqb 0 f.link.0 (sym ((alone_run hosts _ run.2 h p ours).on_zero f.link.0 g))))
             no_signal false g e = refl
 
       none_left : (0 == f.link.0) ≡ true → commands_in (X 0) ≡ []
-      none_left z = subst (λ (l : ℕ). commands_in (X l) ≡ []) (sym (eqb-true 0 f.link.0 z)) (fits_none kind (X f.link.0) fits rfnm)
+      none_left z = subst (λ (l : ℕ). commands_in (X l) ≡ []) (sym (eqb-true 0 f.link.0 z)) (fits_none kind _ fits rfnm)
 
       -- by the link
       answered_by : (v w : Bool) → (f.link.0 == link) ≡ v → (0 == f.link.0) ≡ w

@@ -61,7 +61,7 @@ took_by false c bits r unheard = same_took r
 took : (size : ℕ) (bits : List Bool) (r : Receiver) (o : Option ℕ) → Took r (receivers.takes size bits o r)
 took size bits r None = same_took r
 took size bits r (Some c) =
-    took_by (receivers.is_open c r && is_size size (r.size c) && covers r.allocation (length bits)) c bits r (not_over r.opened r.closed (r.over c) (is_size size (r.size c)) (covers r.allocation (length bits)))
+    took_by _ c bits r (not_over r.opened r.closed _ _ _)
 
 -- ---- what a message is
 
@@ -101,13 +101,13 @@ module _ (number other : ℕ → ℕ → ℕ → ℕ) (tells : IsTelling number)
           (subst (λ (g : Host). WaitsWith (boxes m.flow.source g (events_of moments) m.flow.link.0) (message_on m.flow.link.0 m.text)) (sym own_host) run.0.1)
 
       box : (n : ℕ) × (Y m.flow.link.0 ≡ Waiting n (message_on m.flow.link.0 m.text))
-      box = waiting (Y m.flow.link.0) (message_on m.flow.link.0 m.text) waits
+      box = waiting _ _ waits
 
       -- by the link, what lies there then
       zero_got : (0 == m.flow.link.0) ≡ true → (Got true 0 ≡ Taken box.0 (message_on m.flow.link.0 m.text)) × (Y 0 ≡ Waiting box.0 (message_on m.flow.link.0 m.text))
       zero_got z =
           let old : Y 0 ≡ Waiting box.0 (message_on m.flow.link.0 m.text) = subst (λ (l : ℕ). Y l ≡ Waiting box.0 (message_on m.flow.link.0 m.text)) (sym (eqb-true 0 m.flow.link.0 z)) box.1 in
-          let new : fetched (Y m.flow.link.0) ≡ Taken box.0 (message_on m.flow.link.0 m.text) = ap fetched box.1 in
+          let new : fetched _ ≡ Taken box.0 (message_on m.flow.link.0 m.text) = ap fetched box.1 in
           (rw z new, old)
 
       away_zero : (0 == m.flow.link.0) ≡ false → Got true 0 ≡ Y 0
@@ -116,7 +116,7 @@ module _ (number other : ℕ → ℕ → ℕ → ℕ) (tells : IsTelling number)
       link_got : (link == m.flow.link.0) ≡ true → (Got true link ≡ Taken box.0 (message_on m.flow.link.0 m.text)) × (Y link ≡ Waiting box.0 (message_on m.flow.link.0 m.text))
       link_got z =
           let old : Y link ≡ Waiting box.0 (message_on m.flow.link.0 m.text) = subst (λ (l : ℕ). Y l ≡ Waiting box.0 (message_on m.flow.link.0 m.text)) (sym (eqb-true link m.flow.link.0 z)) box.1 in
-          let new : fetched (Y m.flow.link.0) ≡ Taken box.0 (message_on m.flow.link.0 m.text) = ap fetched box.1 in
+          let new : fetched _ ≡ Taken box.0 (message_on m.flow.link.0 m.text) = ap fetched box.1 in
           (rw z new, old)
 
       away_link : (link == m.flow.link.0) ≡ false → Got true link ≡ Y link
@@ -157,20 +157,20 @@ module _ (number other : ℕ → ℕ → ℕ → ℕ) (tells : IsTelling number)
       module _ (left : stay.stays h p (events_of (Crossed (crossing.In m) ∷ moments)) ≡ false) (j : Joint number other tells others link x y (side h p (Crossed (crossing.In m) ∷ moments) (front ++ rest) post) (peer_by Y)) where
         same_out : peer_by (Got true) ≡ peer_by Y → Out_of (Got true)
         same_out e =
-            acted_out number other tells others link h p (Crossed (crossing.In m) ∷ moments) front rest post (peer_by (Got true)) x y left
+            acted_out number other tells others link h p _ front rest post _ x y left
             (subst (λ (w : Party). Joint number other tells others link x y (side h p (Crossed (crossing.In m) ∷ moments) (front ++ rest) post) w) (sym e) j)
 
         text_out : message_on m.flow.link.0 m.text ≡ Other m.text → (m.flow.link.0 == 0) ≡ true → Out_of (Got true)
         text_out is z =
-            acted_out number other tells others link h p (Crossed (crossing.In m) ∷ moments) front rest post (peer_by (Got true)) x y left
+            acted_out number other tells others link h p _ front rest post _ x y left
             (subst (λ (w : Party). Joint number other tells others link x y (side h p (Crossed (crossing.In m) ∷ moments) (front ++ rest) post) w) (sym (text_got is z).0)
-            (deaf number other tells others link x y (side h p (Crossed (crossing.In m) ∷ moments) (front ++ rest) post) (peer_by Y) j left more))
+            (deaf number other tells others link x y _ _ j left more))
 
         data_out : message_on m.flow.link.0 m.text ≡ Other m.text → (m.flow.link.0 == 0) ≡ false → (link == m.flow.link.0) ≡ true → (v : Bool) → b.stays ≡ v → Out_of (Got true)
         data_out is z l false gone =
-            acted_out number other tells others link h p (Crossed (crossing.In m) ∷ moments) front rest post (peer_by (Got true)) x y left
+            acted_out number other tells others link h p _ front rest post _ x y left
             (subst (λ (w : Party). Joint number other tells others link x y (side h p (Crossed (crossing.In m) ∷ moments) (front ++ rest) post) w) (sym (data_got is z l).0)
-            (blind number other tells others link x y (side h p (Crossed (crossing.In m) ∷ moments) (front ++ rest) post) (peer_by Y) j left gone Fetched))
+            (blind number other tells others link x y _ _ j left gone Fetched))
         data_out is z l true stays =
             let g : (size : ℕ) × (bits : List Bool) × Joint number other tells others link (receives (receivers.Take size bits ∷ []) x) y (side h p (Crossed (crossing.In m) ∷ moments) (front ++ rest) post) (record (peer_by Y) { post = Fetched }) =
             steps.ghost x y (side h p (Crossed (crossing.In m) ∷ moments) (front ++ rest) post) (peer_by Y) j left stays m.text (data_got is z l).1 in
@@ -179,7 +179,7 @@ module _ (number other : ℕ → ℕ → ℕ → ℕ) (tells : IsTelling number)
               first = receives (receivers.Take g.0 g.1 ∷ []) x;
               second = y;
               rest = rest;
-              held = left_held number other tells others link h p (Crossed (crossing.In m) ∷ moments) front rest post (peer_by (Got true)) (receives (receivers.Take g.0 g.1 ∷ []) x) y left
+              held = left_held number other tells others link h p _ front rest post _ _ y left
                   (subst (λ (w : Party). Joint number other tells others link (receives (receivers.Take g.0 g.1 ∷ []) x) y (side h p (Crossed (crossing.In m) ∷ moments) (front ++ rest) post) w) (sym (data_got is z l).0) g.2);
               sender = refl;
               receiver = refl;
@@ -229,28 +229,28 @@ module _ (number other : ℕ → ℕ → ℕ → ℕ) (tells : IsTelling number)
         reply_turns : (m.flow.link.0 == 0) ≡ true → orders_of m.text ≡ Legal command.Rrp ∷ [] → Turns (peer_by Y)
         reply_turns z orders =
             rw (ready, z, orders)
-            (reply_heard number other tells others link steps p (places moments) (own_calls h p moments) front post (peer_by Y) (pair_with p (program h moments).peers)
-            (orders_taken p (places moments) (Legal command.Rrp ∷ []) (turn_of (program h moments) p)).pair (program h moments).listening x y (room e) refl refl here)
+            (reply_heard number other tells others link steps p (places moments) (own_calls h p moments) front post (peer_by Y) _
+            _ _ x y (room e) refl refl here)
 
         text_turns : message_on m.flow.link.0 m.text ≡ Other m.text → (m.flow.link.0 == 0) ≡ true → Turns (record (peer_by Y) { pending = more })
         text_turns is z =
-            let joint : AreJoint (orders_of m.text) = plain_joint (orders_of m.text) (subst (λ (n : Message). IsApart m.flow.link.0 m.text n) is (story.0 (plain_at hosts p m.flow.source theirs ours.1, plain_at hosts h m.flow.destination mine ours.0)) z) in
+            let joint : AreJoint (orders_of m.text) = plain_joint _ (subst (λ (n : Message). IsApart m.flow.link.0 m.text n) is (story.0 (plain_at hosts p m.flow.source theirs ours.1, plain_at hosts h m.flow.destination mine ours.0)) z) in
             let calls_may : MayCalls (orders_heard p (places moments) (orders_of m.text) (turn_of (program h moments) p) []) = rw (ready, z) at may in
             rw (ready, z)
-            (heard_run number other tells others link steps p (places moments) (own_calls h p moments) front post (peer_by Y) (orders_of m.text) (turn_of (program h moments) p) [] more x y joint ready (room e) calls_may
+            (heard_run number other tells others link steps p (places moments) (own_calls h p moments) front post (peer_by Y) _ _ [] more x y joint ready (room e) calls_may
             (subst (λ (cs : List Command). Here number other tells others link p (own_calls h p moments) (pair_with p (program h moments).peers) front post (record (peer_by Y) { pending = cs ++ more }) x y) (text_got is z).1 here))
 
         data_turns : message_on m.flow.link.0 m.text ≡ Other m.text → (m.flow.link.0 == 0) ≡ false → (link == m.flow.link.0) ≡ true → Turns (record (peer_by Y) { post = Fetched })
         data_turns is z l =
             rw (ready, z)
             (takes_here number other tells others link p (own_calls h p moments) (pair_with p (program h moments).peers) front post (peer_by Y) x y here steps (program h moments).listening m.flow.link.0 m.text (eqb-sym m.flow.link.0 link ∙ l) (data_got is z l).1
-            (with_desk (turn_of (program h moments) p) (data_taken m.flow.link.0 m.text (desk_of (pair_with p (program h moments).peers) (program h moments).listening))).pair refl refl)
+            _ refl refl)
 
         other_turns : (m.flow.link.0 == 0) ≡ false → (link == m.flow.link.0) ≡ false → Turns (peer_by Y)
         other_turns z l =
             rw (ready, z)
             (passes_here number other tells others link p (own_calls h p moments) (pair_with p (program h moments).peers) front post (peer_by Y) x y here steps (program h moments).listening m.flow.link.0 m.text (eqb-sym m.flow.link.0 link ∙ l)
-            (with_desk (turn_of (program h moments) p) (data_taken m.flow.link.0 m.text (desk_of (pair_with p (program h moments).peers) (program h moments).listening))).pair refl refl)
+            _ refl refl)
 
         turns_by : Sort m.flow.link.0 m.text → (z l : Bool) → (m.flow.link.0 == 0) ≡ z → (link == m.flow.link.0) ≡ l → Turns (peer_by (Got true))
         turns_by (AnRst zero orders is) z l f g = absurd (kept_reset is)
@@ -263,7 +263,7 @@ module _ (number other : ℕ → ℕ → ℕ → ℕ) (tells : IsTelling number)
             front post (peer_by (Got true)) x y
         stay_goes =
             subst (λ (n : PairState). Goes number other tells others link p (message_calls p (places moments) m.flow.link.0 m.text (turn_of (program h moments) p) ++ own_calls h p moments) n front post (peer_by (Got true)) x y) (sym now)
-            (turns_by (sort_of m.flow.link.0 m.text) (m.flow.link.0 == 0) (link == m.flow.link.0) refl refl)
+            (turns_by (sort_of m.flow.link.0 m.text) _ _ refl refl)
 
     pub act_in : stay.begins h p (event_in (Crossed (crossing.In m))) (events_of moments) ≡ false
         → (keeps h p (event_in (Crossed (crossing.In m))) (events_of moments) ≡ true → stay.stays h p (events_of moments) ≡ true

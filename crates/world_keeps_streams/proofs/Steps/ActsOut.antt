@@ -82,7 +82,7 @@ module _ (number other : ℕ → ℕ → ℕ → ℕ) (tells : IsTelling number)
           let zero' : (0 == m.flow.link.0) ≡ true = eqb-sym 0 m.flow.link.0 ∙ z in
           let away : (link == m.flow.link.0) ≡ false = subst (λ (l : ℕ). (link == l) ≡ false) (eqb-true 0 m.flow.link.0 zero') off in
           let box : commands_in (Waiting (place (events_of moments)) (message_on m.flow.link.0 m.text)) ≡ [] = ap (λ (k : Message). commands_in (Waiting (place (events_of moments)) k)) is ∙ none in
-          rw (zero', away) (acted_out number other tells others link h p (Crossed (crossing.Out m) ∷ moments) (commands_in (Waiting (place (events_of moments)) (message_on m.flow.link.0 m.text))) rest (post_in (X link)) b x y left
+          rw (zero', away) (acted_out number other tells others link h p _ _ rest _ b x y left
           (subst (λ (cs : List Command). Joint number other tells others link x y (side h p (Crossed (crossing.Out m) ∷ moments) (cs ++ rest) (post_in (X link))) b) (ap commands_in (zero_empty zero') ∙ sym box) j))
 
       text_out : (text : List Bool) → message_on m.flow.link.0 m.text ≡ Other text → stay.stays h p (events_of (Crossed (crossing.Out m) ∷ moments)) ≡ false

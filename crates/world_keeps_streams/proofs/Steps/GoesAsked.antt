@@ -16,10 +16,10 @@ use Rattle.world_keeps_streams.proofs.Calls.MayCalls.{MayCalls}
 peer_changed : (s : NcpState) (g p : Host) (change : PairState → PairState) (b : Bool) → same_host p g ≡ b → pair_with p (with_peer s g change).peers ≡ (if b then change (pair_with p s.peers) else pair_with p s.peers)
 peer_changed s g p change true e =
     let is : p ≡ g = same_host-true p g e in
-    let now : pair_with p (with_peer s g change).peers ≡ cond (same_host p g) (change (pair_with g s.peers)) (pair_with p s.peers) = pair_changed g p (change (pair_with g s.peers)) s.peers in
+    let now : pair_with p (with_peer s g change).peers ≡ cond (same_host p g) (change (pair_with g s.peers)) (pair_with p s.peers) = pair_changed g p _ s.peers in
     now ∙ ap (λ (t : Bool). cond t (change (pair_with g s.peers)) (pair_with p s.peers)) e ∙ ap (λ (y : Host). change (pair_with y s.peers)) (sym is)
 peer_changed s g p change false e =
-    pair_changed g p (change (pair_with g s.peers)) s.peers ∙ ap (λ (t : Bool). cond t (change (pair_with g s.peers)) (pair_with p s.peers)) e
+    pair_changed g p _ s.peers ∙ ap (λ (t : Bool). cond t (change (pair_with g s.peers)) (pair_with p s.peers)) e
 
 busy_as : (link : ℕ) (k : Call) (q : PairState) → IsAsking k → is_out link k q ≡ is_busy q.busy link
 busy_as link (Hears stamp said c) q is = absurd is
@@ -91,7 +91,7 @@ module _ (number other : ℕ → ℕ → ℕ → ℕ) (tells : IsTelling number)
 
   interrupt_goes : (o : Option (Host × Entry)) → Went [] (pair_with p (at_owner s o (λ e. commanded (interrupt_of e))).peers)
   interrupt_goes None = none q refl
-  interrupt_goes (Some (g, e)) = said_goes g (interrupt_of e) (interrupts e) (same_host p g) refl
+  interrupt_goes (Some (g, e)) = said_goes g _ (interrupts e) _ refl
 
   close_goes : (socket : ℕ) (t : Bool) → listens_on socket s.listening ≡ t → MayCalls (if t then [] else owner_calls p (Closes socket) q s.listening (owner_of socket s.peers))
       → Went (if t then [] else owner_calls p (Closes socket) q s.listening (owner_of socket s.peers)) (pair_with p (closed_socket s socket).peers)

@@ -67,7 +67,7 @@ module _ (number other : ℕ → ℕ → ℕ → ℕ) (tells : IsTelling number)
         → Goes number other tells others link p (called (Hears stamp 0 command.Rrp) q listening ∷ own) next front post b x y
     reply_heard q next listening x y room same waits h =
         hears_here number other tells others link p own q front post (record b { pending = command.Rrp ∷ b.pending }) x y
-        (record { joint = reply_first x y (standing p own q front post) b h.joint; received = h.received; sent = h.sent; allowed = h.allowed })
+        (record { joint = reply_first x y _ b h.joint; received = h.received; sent = h.sent; allowed = h.allowed })
         steps listening stamp command.Rrp b.pending refl tt tt tt tt room next same waits
 
     heard_under : (orders : List Order) (t : TurnState) (older : List calls.Moment) → MayCalls (orders_heard p stamp orders t older) → MayCalls older

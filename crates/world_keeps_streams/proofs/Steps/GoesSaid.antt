@@ -32,7 +32,7 @@ module _ (peer : Host) (stamp : ℕ) where
 
   said_queue : (cs : List Command) (q : PairState) (listening : List Listener) → (said_pair cs q listening).queue ≡ q.queue
   said_queue [] q listening = refl
-  said_queue (c ∷ cs) q listening = said_queue cs (with_connections q (command_gone peer stamp c (desk_of q listening))) listening ∙ gone_queue c (desk_of q listening)
+  said_queue (c ∷ cs) q listening = said_queue cs (with_connections q (command_gone peer stamp c (desk_of q listening))) listening ∙ gone_queue c _
 
   said_ends : (cs : List Command) (q : PairState) (listening : List Listener) (d : DeskState) → d.entries ≡ q.entries → (said_pair cs q listening).entries ≡ (commands_gone peer stamp cs d).entries
   said_ends [] q listening d is = sym is
@@ -71,15 +71,15 @@ module _ (number other : ℕ → ℕ → ℕ → ℕ) (tells : IsTelling number)
   said_run : (post : Post) (cs : List Command) (q : PairState) (older : List calls.Moment) (front : List Command) (x y : Stream) → MayCalls (commands_said p stamp cs q listening older)
       → (b.stays ≡ true → NotTaken (name_of number (gone_now p (older ++ own))) (name_of other b.gone) q.entries b.entries) → Here number other tells others link p (older ++ own) q front post b x y
       → Goes number other tells others link p (commands_said p stamp cs q listening older ++ own) (said_pair p stamp cs q listening) front post b x y
-  said_run post [] q older front x y may none h = stays_as number other tells others link p (older ++ own) q front post b x y h
+  said_run post [] q older front x y may none h = stays_as number other tells others link p _ q front post b x y h
   said_run post (c ∷ cs) q older front x y may none h =
       let next : PairState = with_connections q (command_gone p stamp c (desk_of q listening)) in
       let one : Goes number other tells others link p (called (Says stamp c) q listening ∷ (older ++ own)) (with_connections q (command_gone p stamp c (desk_of q listening))) front post b x y =
       says_here number other tells others link p (older ++ own) q front post b x y h steps listening stamp c
-      (said_under p stamp cs (with_connections q (command_gone p stamp c (desk_of q listening))) listening (called (Says stamp c) q listening ∷ older) may).0 (λ s r. none s)
-      (with_connections q (command_gone p stamp c (desk_of q listening))) refl (sym (gone_queue p stamp c (desk_of q listening))) in
-      then_goes number other tells others link p (called (Says stamp c) q listening ∷ (older ++ own)) (commands_said p stamp (c ∷ cs) q listening older ++ own) (with_connections q (command_gone p stamp c (desk_of q listening)))
-      (said_pair p stamp cs (with_connections q (command_gone p stamp c (desk_of q listening))) listening) front front post post b b x y one
+      (said_under p stamp cs _ listening _ may).0 (λ s r. none s)
+      _ refl (sym (gone_queue p stamp c _)) in
+      then_goes number other tells others link p _ _ _
+      _ front front post post b b x y one
       (λ first second g. said_run post cs (with_connections q (command_gone p stamp c (desk_of q listening))) (called (Says stamp c) q listening ∷ older) front first second may
       (λ s. taken_gone number (name_of other b.gone) (gone_now p (older ++ own)) p stamp q listening b.entries (h.joint.mine refl).holds.sound.apart c (none s)) g)
 
@@ -93,8 +93,8 @@ module _ (number other : ℕ → ℕ → ℕ → ℕ) (tells : IsTelling number)
     reply_goes : 0 == 0 ≡ true → control ≡ Empty → After parcel.Reply
     reply_goes e empty =
         let nothing : commands_in control ≡ commands_of_message (message_on 0 (text_for q parcel.Reply)) = ap commands_in empty ∙ sym (ap commands_of_message (says_reply q)) in
-        rw off (stays_as number other tells others link p own (pair_after parcel.Reply q (parcel_gone p stamp q.busy parcel.Reply (desk_of q listening))) (commands_of_message (message_on 0 (text_for q parcel.Reply))) (post_in at) b x y
-        (renamed number other tells others link p own q (pair_after parcel.Reply q (parcel_gone p stamp q.busy parcel.Reply (desk_of q listening))) (commands_in control) (commands_of_message (message_on 0 (text_for q parcel.Reply))) (post_in at) b x y h refl
+        rw off (stays_as number other tells others link p own _ _ _ b x y
+        (renamed number other tells others link p own q _ _ _ _ b x y h refl
         (ap (λ (cs : List Command). cs ++ q.queue) nothing)))
 
     commands_go : (count : ℕ) → control ≡ Empty → orders_of (text_for q (parcel.Commands count)) ≡ map Legal (take count q.queue) → MayCalls (commands_said p stamp (take count q.queue) q listening []) → After (parcel.Commands count)
@@ -122,7 +122,7 @@ module _ (number other : ℕ → ℕ → ℕ → ℕ) (tells : IsTelling number)
     bytes_go : (e : Entry) (size count : ℕ) → next_of q ≡ Some (parcel.Bytes e size count) → (is_busy q.busy link ≡ false → post_in at ≡ Free) → MayCalls (parcel_calls p stamp (parcel.Bytes e size count) q listening) → After (parcel.Bytes e size count)
     bytes_go e size count n room may = by (link == link_of e.link) refl where
       goes : MayGo q (parcel.Bytes e size count)
-      goes = what_goes q (parcel.Bytes e size count) n
+      goes = what_goes q _ n
 
       away : (link_of e.link == 0) ≡ false
       away = data_away q e size count agrees.1.linked goes.1.linked n
@@ -134,7 +134,7 @@ module _ (number other : ℕ → ℕ → ℕ → ℕ) (tells : IsTelling number)
       is = rw away refl
 
       apart : (0 == link_of e.link) ≡ false
-      apart = eqb-sym 0 (link_of e.link) ∙ away
+      apart = eqb-sym 0 _ ∙ away
 
       by : (v : Bool) → (link == link_of e.link) ≡ v
           → Goes number other tells others link p (parcel_calls p stamp (parcel.Bytes e size count) q listening ++ own) (pair_after (parcel.Bytes e size count) q (parcel_gone p stamp q.busy (parcel.Bytes e size count) (desk_of q listening)))
@@ -145,15 +145,15 @@ module _ (number other : ℕ → ℕ → ℕ → ℕ) (tells : IsTelling number)
           (subst (λ (o : Post). Goes number other tells others link p (parcel_calls p stamp (parcel.Bytes e size count) q listening ++ own) (pair_after (parcel.Bytes e size count) q (parcel_gone p stamp q.busy (parcel.Bytes e size count) (desk_of q listening))) (commands_in control) o b x y)
           (sym (ap post_of_message is))
           (bytes_here number other tells others link p own q (commands_in control) (post_in at) b x y h steps listening stamp e size count n may.0.1 (on_link ∙ f) room
-          (pair_after (parcel.Bytes e size count) q (parcel_gone p stamp q.busy (parcel.Bytes e size count) (desk_of q listening))) refl refl))
+          _ refl refl))
       by false f =
           rw apart
           (no_bytes_here number other tells others link p own q (commands_in control) (post_in at) b x y h steps listening stamp e size count n (on_link ∙ f)
-          (pair_after (parcel.Bytes e size count) q (parcel_gone p stamp q.busy (parcel.Bytes e size count) (desk_of q listening))) refl refl)
+          _ refl refl)
 
     -- whatever goes out next
     pub parcel_goes : (g : Parcel) → next_of q ≡ Some g → IsReadBack q g → (0 == link_for g ≡ true → control ≡ Empty) → (is_busy q.busy link ≡ false → post_in at ≡ Free) → MayCalls (parcel_calls p stamp g q listening) → After g
-    parcel_goes parcel.Reset n back empty room may = never_ready (After parcel.Reset) q.phase (what_goes q parcel.Reset n).wanted ready
+    parcel_goes parcel.Reset n back empty room may = never_ready _ q.phase (what_goes q parcel.Reset n).wanted ready
     parcel_goes parcel.Reply n back empty room may = reply_goes refl (empty refl)
     parcel_goes (parcel.Commands count) n back empty room may = commands_go count (empty refl) back may
     parcel_goes (parcel.Bytes e size count) n back empty room may = bytes_go e size count n room may

@@ -88,7 +88,7 @@ none_asked name link (Some e) = none_if (receives_on link e) (received_open (is_
 
 none_closed : (name : ℕ → ℕ → ℕ) (link : ℕ) (o : Option Entry) → NoneCls (closed_received name link o)
 none_closed name link None = tt
-none_closed name link (Some e) = none_if (receives_on link e) (received_gone e.partner_closed (named name e)) (none_gone e.partner_closed (named name e))
+none_closed name link (Some e) = none_if _ _ (none_gone e.partner_closed _)
 
 none_out : (name : ℕ → ℕ → ℕ) (link : ℕ) (c : Command) (es : List Entry) → NoneCls (received_out name link c es)
 none_out name link (command.Rts receive send l) es = none_asked name link (entry_at receive send es)
@@ -166,7 +166,7 @@ module _ (name : ℕ → ℕ → ℕ) (link other : ℕ) where
 pub over_alike : (number : ℕ → ℕ → ℕ → ℕ) (peer : Host) (link other : ℕ) (own : List calls.Moment) → (receiver_now number peer link own).over ≡ (receiver_now number peer other own).over
 over_alike number peer link other [] = refl
 over_alike number peer link other (m ∷ own) =
-    call_alike (name_now number peer own) link other m.call m.pair m.listening (receiver_now number peer link own) (receiver_now number peer other own) (over_alike number peer link other own)
+    call_alike (name_now number peer own) link other m.call m.pair m.listening _ _ (over_alike number peer link other own)
 
 -- ---- what is kept of a connection whose CLS was heard
 
@@ -219,8 +219,8 @@ module _ (r : Receiver) (c : ℕ) (o : r.over c ≡ true) where
       over = o;
       first = refl;
       granted = refl;
-      taken = for_other c k (r.taken k ++ bits ∷ []) r.taken
-          (λ same. unlike r c k same o (last_off r.opened r.closed (r.over k) (open_there (receivers.is_open k r) (is_size z (r.size k)) (covers r.allocation (length bits)) t)));
+      taken = for_other c k _ r.taken
+          (λ same. unlike r c k same o (last_off r.opened r.closed _ (open_there _ _ _ t)));
     })
     by false t = rw t itself
 
@@ -230,11 +230,11 @@ module _ (r : Receiver) (c : ℕ) (o : r.over c ≡ true) where
   kept_move (receivers.Grant k m n) may = record {
     over = o;
     first = refl;
-    granted = for_other c k (counters.added (r.granted k) m n) r.granted (λ same. unlike r c k same o (last_off r.opened r.closed (r.over k) may.1));
+    granted = for_other c k _ r.granted (λ same. unlike r c k same o (last_off r.opened r.closed _ may.1));
     taken = refl;
   }
   kept_move (receivers.AskBack k m n) may = itself
-  kept_move (receivers.Close k) may = record { over = o; first = kept_close k (r.over k) refl; granted = refl; taken = refl }
+  kept_move (receivers.Close k) may = record { over = o; first = kept_close k _ refl; granted = refl; taken = refl }
   kept_move (receivers.Free k) may = record { over = o; first = refl; granted = refl; taken = refl }
   kept_move (receivers.Take z bits) may = let t : Kept r (receivers.takes z bits r.end r) c = kept_taken z bits r.end in record { over = t.over; first = t.first; granted = t.granted; taken = t.taken }
   kept_move (receivers.Hear (Str k z)) may = record { over = o; first = refl; granted = refl; taken = refl }
@@ -249,7 +249,7 @@ kept_moves : (ms : List receivers.Move) (r : Receiver) (c : ℕ) → MayAllRecei
 kept_moves [] r c may o = itself r c o
 kept_moves (m ∷ ms) r c may o =
     let one : Kept r (receivers.moved m r) c = kept_move r c o m may.0 in
-    kept_then r (receivers.moved m r) (all_received ms (receivers.moved m r)) c one (kept_moves ms (receivers.moved m r) c may.1 one.over)
+    kept_then r _ _ c one (kept_moves ms (receivers.moved m r) c may.1 one.over)
 
 -- by more calls
 pub kept_calls : (number : ℕ → ℕ → ℕ → ℕ) (tells : IsTelling number) (peer : Host) (link c : ℕ) (more own : List calls.Moment) → IsHistory peer (more ++ own) → AreAllowed number peer link (more ++ own) → (receiver_now number peer link own).over c ≡ true
@@ -258,11 +258,11 @@ kept_calls number tells peer link c [] own i a o = itself (receiver_now number p
 kept_calls number tells peer link c (m ∷ more) own i a o =
     let before : Kept (receiver_now number peer link own) (receiver_now number peer link (more ++ own)) c = kept_calls number tells peer link c more own i.1 a.1 o in
     let holds : Holds number tells link (gone_now peer (more ++ own)) m.pair.entries (receiver_now number peer link (more ++ own)) (sender_now number peer link (more ++ own)) =
-    subst (λ (es : List Entry). Holds number tells link (gone_now peer (more ++ own)) es (receiver_now number peer link (more ++ own)) (sender_now number peer link (more ++ own))) (sym i.0) (holds_now number tells peer link (more ++ own) i.1 a.1) in
+    subst (λ (es : List Entry). Holds number tells link (gone_now peer (more ++ own)) es (receiver_now number peer link (more ++ own)) (sender_now number peer link (more ++ own))) (sym i.0) (holds_now number tells peer link _ i.1 a.1) in
     let may : MayAllReceive (received_at (name_now number peer (more ++ own)) link m.call m.pair m.listening) (receiver_now number peer link (more ++ own)) =
     (step_received number tells peer link (gone_now peer (more ++ own)) m.call m.pair m.listening (receiver_now number peer link (more ++ own)) (sender_now number peer link (more ++ own)) a.0 holds).0 in
-    kept_then (receiver_now number peer link own) (receiver_now number peer link (more ++ own)) (receiver_now number peer link (m ∷ (more ++ own))) c before
-    (kept_moves (received_at (name_now number peer (more ++ own)) link m.call m.pair m.listening) (receiver_now number peer link (more ++ own)) c may before.over)
+    kept_then _ _ _ c before
+    (kept_moves _ _ c may before.over)
 
 -- ---- calls by which none is heard
 
@@ -287,4 +287,4 @@ call_over name link k q listening r n = refl
 pub over_same : (number : ℕ → ℕ → ℕ → ℕ) (peer : Host) (link : ℕ) (more own : List calls.Moment) → AllHearNone more → (receiver_now number peer link (more ++ own)).over ≡ (receiver_now number peer link own).over
 over_same number peer link [] own n = refl
 over_same number peer link (m ∷ more) own n =
-    call_over (name_now number peer (more ++ own)) link m.call m.pair m.listening (receiver_now number peer link (more ++ own)) n.0 ∙ over_same number peer link more own n.1
+    call_over _ link m.call m.pair m.listening _ n.0 ∙ over_same number peer link more own n.1
