@@ -5,6 +5,7 @@ mod CommandTexts
 mod Ends
 mod Failures
 mod Fields
+mod AmongRows
 mod Beside
 mod Blocks
 mod Unspent

@@ -1,35 +1,44 @@
 -- The laws of src/ that are longer than a line: each is a record, and its fields are the clauses.
 use Rattle.std.specs.List.{All}
-use Rattle.std.specs.Prelude.{List, None, Result, Some, [], codes, false, map, true, ℕ, ◌∷◌, ◌≡◌, ◌⊎◌}
+use Rattle.std.specs.Prelude.{List, None, Result, Some, [], codes, false, map, true, ℕ, ◌++◌, ◌∷◌, ◌≡◌, ◌⊎◌}
 use Rattle.host_pairs.specs.Entries.{receiving_end, refused_end}
 use Rattle.host_pairs.specs.Pair.{opening_pair}
 use Rattle.host_services.specs.Services.{no_services}
 use Rattle.host_services.specs.declared.service.Service.TheVariants as service
 use Rattle.icp.specs.Server.{opening_server}
-use Rattle.interface.specs.Calls.{Calls}
+use Rattle.interface.specs.Calls.{Calls, Seen}
 use Rattle.ncp_control.specs.declared.command.Command.TheVariants as command
 use Rattle.ncp_control.specs.declared.phase.Phase.TheVariants as phase
 use Rattle.net_sim.specs.Carriers.{shown}
+use Rattle.net_sim.specs.MixedWorlds.{MixedState, MixedStepGives}
 use Rattle.net_sim.specs.World.{WorldState, opening_world}
+use Rattle.net_sim.specs.WorkedMixed.{beside_third}
 use Rattle.net_sim.specs.declared.event.Event.{Event}
 use Rattle.net_sim.specs.declared.event.WorldFault.{WorldFault}
+use Rattle.net_sim.specs.declared.mixed.MixedEvent.{MixedEvent}
 use Rattle.sockets.specs.Pairs.{NcpState, opening_state}
 use Rattle.sockets.specs.Worked.{first, second}
 use Rattle.terminal.specs.Machines.{opening_echo}
+use Rattle.topology.specs.Topology.{TopologyFields}
 use Rattle.trace.specs.Named.{IsHostNamed}
 use Rattle.trace.specs.declared.all_parts.AllParts.{AllParts}
 use Rattle.trace.specs.declared.element.Spot.{Spot}
 use Rattle.world_replay.specs.Output.{Shown}
 use Rattle.world_replay.specs.Replay.{EventGives, Happens, MayStep, Replays}
 use Rattle.world_script.specs.WorldSpelling.{IsWorldEvent}
+use Rattle.world_script.specs.declared.event.MixedWorldEvent.TheVariants as mixed
 use Rattle.world_script.specs.declared.event.WorldEvent.TheVariants.{Calm}
 use Rattle.world_script.specs.declared.event.WorldEvent.{WorldEvent}
 use Rattle.world_trace.specs.Lasting.{Lasts}
+use Rattle.world_trace.specs.MixedTraces.{AfterMixedOpening, AllTell, MayTellMixed, MixedTraceFails, StopsMixed}
+use Rattle.world_trace.specs.MixedTraces.{TellsMixedAt}
 use Rattle.world_trace.specs.Reached.{IsReached, IsSaid}
 use Rattle.world_trace.specs.Texts.{command_object, end_object, pair_object, program_text, running_object}
-use Rattle.world_trace.specs.Texts.{service_object}
+use Rattle.world_trace.specs.Texts.{opening_text, service_object}
 use Rattle.world_trace.specs.Told.{AreNumbersTold, HaveSameTexts, IsWorldTold}
 use Rattle.world_trace.specs.Traces.{EndsAt, IsHeard, IsSilent, IsUnchanged, MayTell, StopsOne, TellsRound, TracesWorld}
+use Rattle.world_trace.specs.Traces.{state_of}
+use Rattle.world_trace.specs.Worked.{PrintsSpot}
 
 -- The texts of programs and services say all of a world but its carrier, which has parts of its own, and what is kept:
 -- two worlds with the same texts differ in nothing else. This is so of each world to which a replay comes, if its
@@ -130,3 +139,28 @@ pub record WorkedEvents {C : Type 0} (calls : Calls C) : Type 0 where
 pub record WorkedReached {C : Type 0} (calls : Calls C) : Type 0 where
   pub events : (opening : C) (w : WorldState C) (h : IsReached calls opening w) → All IsWorldEvent h.script
   pub said : (opening : C) (w : WorldState C) → IsReached calls opening w → All IsSaid w.kept.book.crossings
+
+-- What is written of a world with strangers, and what is left of it where its trace ends early.
+pub record WorkedAmong {C : Type 0} (calls : Calls C) : Type 0 where
+  -- the first line ends with who they are
+  pub opened :
+      (members : Seen → AllParts) (t : TopologyFields) (lines : List (List ℕ)) →
+      AfterMixedOpening members t beside_third (λ others. others ≡ []) lines →
+      lines ≡ opening_text t (state_of members beside_third.world ++ codes "\"foreign\":[\"0/3\"]" ∷ []) ∷ []
+  -- events are counted from 1, and each is beside its line of the script
+  pub counted :
+      (old e new : ℕ) (lines : List (List ℕ)) → AllTell PrintsSpot old ((7, e) ∷ (9, e) ∷ []) new lines →
+      lines ≡ (7 ∷ 1 ∷ []) ∷ (9 ∷ 2 ∷ []) ∷ []
+  -- no stranger comes or goes in a calm
+  pub calm :
+      (members : C → AllParts) (spot : Spot) (old new : MixedState C) (rounds : ℕ) (lines : List (List ℕ)) →
+      TellsMixedAt calls members spot old (mixed.Calm rounds) new lines → new.strangers ≡ old.strangers
+  -- where memory ran out or a write failed the event has no line, and the world is as before it or as it went
+  pub memory :
+      (old new : MixedState C) (e : MixedEvent) (lines : List (List ℕ)) → StopsMixed calls old e new lines →
+      (lines ≡ []) × ((new ≡ old) ⊎ ((r : Result (Unit {0}) WorldFault) × MixedStepGives calls old e r new))
+  pub failed :
+      (old new : MixedState C) (e : MixedEvent) (lines : List (List ℕ)) → MayTellMixed calls old e new lines →
+      (lines ≡ []) × ((r : Result (Unit {0}) WorldFault) × MixedStepGives calls old e r new)
+  -- and no write fails for the line of no event
+  pub nothing : (members : C → AllParts) (old new : MixedState C) → MixedTraceFails calls members old [] new → ⊥

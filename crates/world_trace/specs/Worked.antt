@@ -11,6 +11,7 @@ use Rattle.net_sim.specs.WorkedMixed.{beside_third}
 use Rattle.net_sim.specs.declared.mixed.MixedEvent.{MixedEvent}
 use Rattle.net_sim.specs.declared.seat.Seat.{Seat}
 use Rattle.net_sim.specs.declared.seat.ServiceSeat.{ServiceSeat}
+use Rattle.replay.specs.InTurn.{Happening}
 use Rattle.replay.specs.Worked.{counting}
 use Rattle.sockets.specs.Pairs.{opening_state}
 use Rattle.sockets.specs.Worked.{first, third}
@@ -63,3 +64,7 @@ TracesOnly calls e crossings printed =
     (members : Seen → AllParts) (spot : Spot) (new : MixedState Seen) (lines : List (List ℕ))
     → TellsMixed calls members spot beside_third e new lines
     → lines ≡ line_of spot 0 (mixed_text e) crossings printed (change_of members beside_third.world new.world) ∷ []
+
+-- an event shows where it is, whatever it is
+abbrev pub PrintsSpot : Spot → Happening ℕ ℕ (List ℕ)
+PrintsSpot spot old e new lines = lines ≡ (spot.line ∷ spot.number ∷ []) ∷ []

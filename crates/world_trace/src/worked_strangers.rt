@@ -3,12 +3,16 @@
 
 ghost use Rattle.std.specs.Prelude.{◌≡◌, [], ◌∷◌, codes, true};
 ghost use Rattle.interface.specs.declared.crossing.Crossing.TheVariants as crossing;
+ghost use Rattle.net_sim.specs.Carriers.{shown};
 ghost use Rattle.net_sim.specs.Worked.{accepting_carrier, any_carrier, message};
 ghost use Rattle.net_sim.specs.declared.event.Event.TheVariants.{Offer, Take};
 ghost use Rattle.net_sim.specs.declared.mixed.MixedEvent.TheVariants.{Any, Out};
 ghost use Rattle.sockets.specs.Worked.{first, second, third};
+ghost use Rattle.world_trace.specs.Laws.{WorkedAmong};
 ghost use Rattle.world_trace.specs.MixedTraces.{foreign_member, mixed_text};
 ghost use Rattle.world_trace.specs.Worked.{TracesOnly, short_message};
+
+use interface::Carrier;
 
 /// The texts of events, and of who the strangers are.
 pub fn worked_texts()
@@ -29,3 +33,8 @@ pub fn worked_events()
 {
     world_replay::worked_mixed::worked_strangers();
 }
+
+/// What is written of a world with strangers, and where its trace ends early.
+pub fn worked_among<C: Carrier>()
+    ensures { WorkedAmong (shown C.calls) }
+{}
