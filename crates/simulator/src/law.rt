@@ -3,7 +3,7 @@
 
 ghost use Rattle.std.specs.Prelude.{◌≡◌, ℕ, Bool, true, false, List, [], ◌∷◌, length};
 ghost use Rattle.std.specs.Prelude.{Ok, Err, Some, None, codes};
-ghost use Rattle.simulator.specs.Laws.{OneTrace};
+ghost use Rattle.simulator.specs.Laws.{OneProgram, OneTrace};
 ghost use Rattle.simulator.specs.Program.{Closes, EndsTask, Sides, exit_status};
 ghost use Rattle.simulator.specs.Recorded.{PrintsTrace, recorded_text, unforgotten};
 ghost use Rattle.command_line.specs.Audits.{kept};
@@ -16,11 +16,22 @@ ghost use Rattle.simulator.specs.declared.program.Done.TheVariants as did;
 ghost use Rattle.simulator.specs.declared.program.ProgramFault.TheVariants as fault;
 ghost use Rattle.command_line.specs.declared.verdict.Verdict.{Verdict};
 
+use command_line::law::{first_part, one_log, one_output};
+
 /// The input determines its trace, of which a part is written where memory runs out; and a plain output has the lines
 /// that its trace has as printed.
 pub fn one_trace()
     ensures { OneTrace }
 {}
+
+/// What is written is that of the words and of the input that was read, and of no other input.
+pub fn one_program()
+    ensures { OneProgram }
+{
+    first_part();
+    one_log();
+    one_output();
+}
 
 /// Outputs that a trace does not have.
 pub fn worked_traces()

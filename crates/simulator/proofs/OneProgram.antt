@@ -1,0 +1,69 @@
+-- What is written is that of the input which was read.
+use Rattle.simulator.proofs.Common.{◌≡◌, inl, inr, ℕ, Bool, true, false, List, [], ◌∷◌, ◌++◌, Option, Some, Ok, Err, codes}
+use Rattle.simulator.proofs.Common.{refl, sym, ◌∙◌, ◌⊎◌, EndsReplay, detail_of}
+use Rattle.command_line.specs.Laws.{FirstPart, OneOutput}
+use Rattle.command_line.specs.declared.fault.ScriptFault.TheVariants as script
+use Rattle.command_line.specs.declared.options.Options.{Options}
+use Rattle.script.specs.Input.{IsParted}
+use Rattle.simulator.specs.Program.{EndsTrace, Replayed, Sides, sides}
+use Rattle.simulator.proofs.Traces.EitherTrace.{either_front}
+
+pub same_replay : OneOutput → (check : Bool) (options : Options) (input before after other : List ℕ)
+    (left rest : Option (List ℕ)) (unread unheard : Bool)
+    → Replayed check options (sides (Some input) left unread (Some before) (Some after))
+    → Replayed check options (sides (Some input) rest unheard (Some before) (Some other)) → after ≡ other
+same_replay one true options input before after other left rest unread unheard h k = h ∙ sym k
+same_replay one false options input before after other left rest unread unheard h k =
+    one.same options.book (detail_of options.texts) input before after other h.1 k.1
+
+pub replay_part : FirstPart → (check : Bool) (options : Options) (input before part whole : List ℕ)
+    (left rest : Option (List ℕ)) (unread unheard : Bool) → options.check ≡ check
+    → EndsReplay options (sides (Some input) left unread (Some before) (Some part)) (Err script.OutOfMemory)
+    → Replayed check options (sides (Some input) rest unheard (Some before) (Some whole))
+    → (part ≡ before) ⊎ ((more : List ℕ) × (whole ≡ part ++ more))
+replay_part first true options input before part whole left rest unread unheard is ends done = inl (ends.nothing is refl)
+replay_part first false options input before part whole left rest unread unheard is ends done =
+    elim (ends.first_part refl) [
+      | inl kept ↦ inl kept
+      | inr stops ↦ inr (first.part options.book (detail_of options.texts) input before part whole stops done.1)
+    ]
+
+pub trace_part : (input before part whole : List ℕ) (left rest : Option (List ℕ)) (unread unheard : Bool)
+    → EndsTrace (sides (Some input) left unread (Some before) (Some part)) (Err script.OutOfMemory)
+    → EndsTrace (sides (Some input) rest unheard (Some before) (Some whole)) (Ok tt)
+    → (part ≡ before) ⊎ ((more : List ℕ) × (whole ≡ part ++ more))
+trace_part input before part whole left rest unread unheard ends done = elim (ends.first_part refl) [
+  | inl kept ↦ inl kept
+  | inr stops ↦ inr (either_front input before part whole stops done.traced)
+]
+
+-- ---- no input
+
+none_left : (front rest : List (List ℕ)) (x : List ℕ) → [] ≡ front ++ x ∷ rest → ⊥
+none_left [] rest x e = cc
+none_left (y ∷ front) rest x e = cc
+
+unmarked : (front rest : List (List ℕ)) → [] ∷ [] ≡ front ++ codes "%" ∷ rest → ⊥
+unmarked [] rest e = cc
+unmarked (x ∷ front) rest e = none_left front rest (codes "%") (cc)
+
+no_parts : (topology script : List ℕ) → IsParted [] topology script → ⊥
+no_parts topology script h = elim h.lines [
+  | inl e ↦ unmarked h.before _ e
+  | inr e ↦ unmarked h.before _ e.0
+]
+
+pub no_input : (options : Options) (left before after : Option (List ℕ))
+    → EndsReplay options (sides (Some []) left false before after) (Ok tt) → ⊥
+no_input options left before after ends = elim (ends.read refl) [
+  | inl is ↦ no_parts _ _ is.2.parted
+  | inr is ↦ no_parts _ _ is.2.parted
+]
+
+none_read : (first : List ℕ) (x : ℕ) → [] ≡ first ++ x ∷ [] → ⊥
+none_read [] x e = cc
+none_read (y ∷ first) x e = cc
+
+pub invented : (options : Options) (x : ℕ) (unread : Bool) (before after : Option (List ℕ))
+    → EndsReplay options (sides (Some []) (Some (x ∷ [])) unread before after) (Ok tt) → ⊥
+invented options x unread before after ends = none_read ends.reads.0 x ends.reads.1
