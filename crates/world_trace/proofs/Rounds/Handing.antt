@@ -39,16 +39,19 @@ module _ {C : Type 0} (calls : Calls C) (members : C → AllParts) (spot : Spot)
       → Repeated Tells e times old new lines
       → (others : List (List ℕ)) × EndsRepeated Tells (MayTell calls) e times old new others
   last_time e zero old new lines some h = absurd (omega (arith, some))
-  last_time e (suc times) old new lines some (mid, first, rest, goes, more, all) = by (crosses old mid) times refl more where
+  last_time e (suc times) old new lines some (mid, first, rest, goes, more, all) =
+      by (crosses old mid) times refl more (λ some goes. last_time e times mid new rest some goes) where
     here : (n : ℕ) → new ≡ mid → (others : List (List ℕ)) × EndsRepeated Tells (MayTell calls) e (suc n) old new others
     here n same = ([], inl (subst (λ (w : WorldState C). MayTell calls old e w []) (sym same) (may_tell old mid e first goes)))
 
     by : (b : Bool) (n : ℕ) → crosses old mid ≡ b → MatchBool b (Repeated Tells e n mid new rest) ((new ≡ mid) × (rest ≡ []))
+        → (0 < n → Repeated Tells e n mid new rest
+        → (others : List (List ℕ)) × EndsRepeated Tells (MayTell calls) e n mid new others)
         → (others : List (List ℕ)) × EndsRepeated Tells (MayTell calls) e (suc n) old new others
-    by false n is (same, none) = here n same
-    by true zero is (same, none) = here zero same
-    by true (suc n) is more =
-        let (others, later) = last_time e (suc n) mid new rest (omega arith) more in
+    by false n is (same, none) after = here n same
+    by true zero is (same, none) after = here zero same
+    by true (suc n) is more after =
+        let (others, later) = after (omega arith) more in
         (first ++ others, inr (mid, first, others, goes, is, later, refl))
 
   each_turn : (hosts : List Host) → Each (λ (e : Event × ℕ). 0 < e.1) (flat_map turn_of hosts)
