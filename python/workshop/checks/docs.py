@@ -17,7 +17,8 @@ crates.txt names for each crate only others that its sources name. The version o
 The drawings of docs/pictures, the page of crates, the page of what must be believed and that of the package in Python have to be as they are made, the numbers in drawings as the sources have them, and
 no text of a drawing over another one or over a line. Figures in prose have to be those of their tables (workshop.documents.figures), and each crate's octets of
 .antt within its budget, which a commit raises only with a line that says what for (workshop.documents.budget), and walks
-over the cases of an event, a request or a refusal only become fewer (workshop.documents.walks). No lemma
+over the cases of an event, a request or a refusal only become fewer (workshop.documents.walks), as do clauses of over 200
+characters (workshop.documents.long_clauses). No lemma
 states what another lemma or one of std states, beyond those that do so already (workshop.documents.stated). Words of the house's dialect are counted against limits that can only fall
 (workshop.documents). With --write these and the page of planted bugs are made anew, and with --lower the limits are lowered to what is counted.
 With --tags a file `tags` is made, by which editors find where a name is declared. With --rule the rules in which all of the words occur are printed (without words an index of all), each with its definition, its functions, its rows and its planted bugs.

@@ -3,7 +3,8 @@
 Octets are counted without comments and blank lines; lines are printed, and not bound. docs/measured/budget.json has what
 each crate may have, and what a crate may have besides, each with what that is for: so a commit that needs more adds a
 line to `more`, and says what it buys. `./check docs --lower` takes off what isn't used any more. For each kind of
-source the file has how many lines of over 120 columns there may be.
+source the file has how many lines of over 120 columns there may be, and how many clauses of over 200 characters
+(workshop.documents.long_clauses).
 """
 
 from __future__ import annotations
@@ -15,7 +16,7 @@ import re
 from collections.abc import Iterator, Mapping, Sequence
 from dataclasses import dataclass, field, replace
 
-from workshop.documents import walks
+from workshop.documents import long_clauses, walks
 from workshop.documents.crates_page import needs
 from workshop.parts import ROOT, text_of
 
@@ -29,12 +30,13 @@ More = tuple[str, int, str]  # a crate, octets, and what they are for
 @dataclass(frozen=True)
 class Budget:
     """What there may be: octets of each crate, what some may have besides, and wide lines of each kind of source,
-    and walks over each enum."""
+    walks over each enum, and long clauses."""
 
     octets: Mapping[str, int] = field(default_factory=dict)
     more: Sequence[More] = ()
     wide: Mapping[str, int] = field(default_factory=dict)
     walks: Mapping[str, walks.Counts] = field(default_factory=dict)
+    long: int = 0
 
     def of(self, crate: str) -> int:
         return self.octets.get(crate, 0) + sum(many for name, many, _ in self.more if name == crate)
@@ -59,7 +61,7 @@ class Budget:
         more = ",".join(f"\n  {json.dumps(it)}" for it in self.more)
         cases = ",".join(f"\n  {json.dumps(enum)}: {json.dumps(counts)}" for enum, counts in self.walks.items())
         wide_lines = json.dumps(self.wide)
-        return f'{{\n "octets": {{\n{octets}\n }},\n "more": [{more}\n ],\n "wide": {wide_lines},\n "walks": {{{cases}\n }}\n}}\n'
+        return f'{{\n "octets": {{\n{octets}\n }},\n "more": [{more}\n ],\n "wide": {wide_lines},\n "long": {self.long},\n "walks": {{{cases}\n }}\n}}\n'
 
 
 def sources(pattern: str) -> list[str]:
@@ -87,23 +89,25 @@ def kept() -> Budget:
         return Budget()
     found = json.loads(text_of(KEPT))
     more = [(crate, many, what) for crate, many, what in found["more"]]
-    return Budget(found["octets"], more, found["wide"], found.get("walks", {}))
+    return Budget(found["octets"], more, found["wide"], found.get("walks", {}), found.get("long", 0))
 
 
 def faults() -> list[str]:
     may = kept()
-    return [*may.over(counted(), wide()), *walks.over(walks.counted(), may.walks), *walks.faults_of_page()]
+    long = long_clauses.over(long_clauses.counted(), may.long)
+    return [*may.over(counted(), wide()), *walks.over(walks.counted(), may.walks), *walks.faults_of_page(), *long]
 
 
 def summary() -> str:
     lines = sum(text_of(it).count("\n") for it in sources(WIDE[".antt"]))
     columns = ", ".join(f"{many:,} of {kind}" for kind, many in wide().items())
-    return f"{sum(counted().values()):,} octets of .antt in {lines:,} lines of {len(needs())} crates; over {COLUMNS} columns: {columns}"
+    octets = f"{sum(counted().values()):,} octets of .antt in {lines:,} lines of {len(needs())} crates"
+    return f"{octets}; over {COLUMNS} columns: {columns}; {len(long_clauses.counted())} clauses over {long_clauses.LONG} characters"
 
 
 def lower() -> None:
     """Writes what is used as what may be, where that is less."""
     found = kept().lowered(counted(), wide())
-    found = replace(found, walks=walks.lowered(walks.counted(), found.walks))
+    found = replace(found, walks=walks.lowered(walks.counted(), found.walks), long=min(len(long_clauses.counted()), found.long))
     with open(KEPT, "w", encoding="utf-8") as file:
         file.write(found.written())

@@ -10,7 +10,7 @@ import unittest
 from unittest import mock
 
 from workshop.documents import anchors, believed, believed_words, budget, clauses, common, crates_page, dead, dialect, walks
-from workshop.documents import figures, named_crates, paragraphs, rules, stated, tags
+from workshop.documents import figures, long_clauses, named_crates, paragraphs, rules, stated, tags
 from workshop.drawings import facts, formats, hosts, network, pictures, repository
 from workshop.drawings.svg import Drawing
 from workshop.parts import ROOT
@@ -290,6 +290,30 @@ class Budget(unittest.TestCase):
         more = [("a", 2, "a law")]
         found = budget.Budget({"a": 10, "b": 4}, more, {".rt": 3}).lowered({"a": 9, "b": 5, "c": 3}, {".rt": 2})
         self.assertEqual(found, budget.Budget({"a": 7, "b": 4, "c": 3}, more, {".rt": 2}))
+
+
+CONTRACT = """    fn first(self) -> u32
+        requires { self.now ≡ codes "{" }
+        ensures long {
+          A ≡ B
+        }
+    {
+"""
+
+
+class LongClauses(unittest.TestCase):
+    def test_a_clause_ends_with_its_brace(self) -> None:
+        self.assertEqual([*long_clauses.clauses_of(CONTRACT)], [(2, 'requires { self.now ≡ codes "{" }'), (3, "ensures long { A ≡ B }")])
+
+    def test_those_that_are_more_are_named(self) -> None:
+        self.assertEqual([*long_clauses.over(["a.rt:1"], 1)], [])
+        (fault,) = long_clauses.over(["a.rt:1", "b.rt:2"], 1)
+        self.assertIn("2 clauses have over 200 characters, and there may be 1 (docs/measured/budget.json): a.rt:1, b.rt:2", fault)
+
+    def test_each_is_counted_where_it_begins(self) -> None:
+        source = walks.Source(f"{ROOT}/crates/a/src/b.rt", CONTRACT.replace("A ≡ B", "A ≡ B × " * 30), frozenset())
+        with mock.patch.object(walks, "sources", return_value=(source,)):
+            self.assertEqual(long_clauses.counted(), ["crates/a/src/b.rt:3"])
 
 
 WALKED = """-- Deliver Drop
