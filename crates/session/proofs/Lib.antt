@@ -1,3 +1,4 @@
 mod Laws
 mod Lines
+mod Parts
 mod Turns

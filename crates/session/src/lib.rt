@@ -11,8 +11,10 @@
 mod answering;
 mod hearing;
 pub mod law;
+mod networks;
 mod stage;
 
 pub use answering::answer_lines;
 pub use hearing::{Heard, hear};
+pub use networks::Bare;
 pub use stage::Stage;

@@ -1,0 +1,20 @@
+-- What is printed of events, and what a network keeps.
+use Rattle.std.specs.Prelude.{◌≡◌, ℕ, List}
+use Rattle.interface.specs.Calls.{Calls}
+use Rattle.interface.specs.Mailboxes.{IsRun}
+use Rattle.mixed_worlds.specs.Laws.{KeepsAmong, KeepsToward}
+use Rattle.net_sim.specs.MixedWorlds.{MixedState, strange_in}
+use Rattle.replay.specs.InTurn.{Happening, InTurn, text_of}
+use Rattle.session.specs.Turns.{Replaying}
+
+-- events happen one after the other, the lines that they show are printed, and of the network after them this holds
+abbrev pub ReplaysWith : {S E L : Type 0} → Happening S E L → (L → List ℕ) → (S → Type 0) → Replaying S E
+ReplaysWith {S} {E} {L} Happens text Keeps old events new said = (lines : List L) × InTurn Happens old events new lines × (said ≡ text_of text lines) × Keeps new
+
+-- its book keeps what is promised among hosts with programs and, of each of these, toward all others
+abbrev pub KeepsAll : {C : Type 0} → Calls C → MixedState C → Type 0
+KeepsAll calls s = KeepsAmong (strange_in s) (calls.seen s.world.carrier).hosts s.world × KeepsToward (strange_in s) s.world
+
+-- what crossed is a run of the mailboxes, on which every host may rely
+abbrev pub KeepsRun : {C : Type 0} → Calls C → C → Type 0
+KeepsRun calls c = IsRun (calls.seen c).hosts (calls.seen c).log

@@ -1,0 +1,98 @@
+//! Networks on which the events of a session happen: one whose hosts have programs, with strangers or without, and one
+//! without host programs.
+
+ghost use Rattle.std.specs.Prelude.{◌≡◌, List, OnOk, false, ℕ};
+ghost use Rattle.std.specs.Io.KnownBytes.{Appends};
+ghost use Rattle.headline.specs.Promise.{KeepsPromise};
+ghost use Rattle.net_sim.specs.Carriers.{shown};
+ghost use Rattle.replay.specs.Failing.{TellsCannotWrite};
+ghost use Rattle.replay.specs.Output as raw;
+ghost use Rattle.replay.specs.Replay as raw_events;
+ghost use Rattle.replay.specs.declared.print.Detail.TheVariants.{Texts};
+ghost use Rattle.world_replay.specs.Kinds.{HappensBy, mixed_kind};
+ghost use Rattle.world_replay.specs.Output.{shown_text};
+ghost use Rattle.world_replay.specs.Replay.{world_kind};
+ghost use Rattle.session.specs.Networks.{KeepsAll, KeepsRun, ReplaysWith};
+
+use crate::stage::Stage;
+use headline::book_of;
+use interface::Carrier;
+use mixed_worlds::book_among;
+use net_sim::{MixedWorld, World};
+use replay::{Detail, Output, ReplayFault};
+use script::RawEvent;
+use world_replay::{replay_events, replay_mixed_events};
+use world_script::{MixedWorldEvent, WorldEvent};
+
+/// A network without host programs.
+#[derive(Drop)]
+pub struct Bare<C> {
+    /// Its carrier.
+    pub carrier: C,
+}
+
+impl<C: Carrier, W: Output> Stage<RawEvent, W> for Bare<C> {
+    ghost replays = { λ old events new said. ReplaysWith (raw_events.Happens C.calls) (raw.shown_text Texts) (KeepsRun C.calls) old.carrier events new.carrier said };
+
+    fn replay(&mut self, events: Vec<RawEvent>, writer: &mut W) -> Result<(), ReplayFault>
+        requires { W.failed writer.old ≡ false }
+        ensures replayed { OnOk result ((said : List ℕ) × ReplaysWith (raw_events.Happens C.calls) (raw.shown_text Texts) (KeepsRun C.calls) self.old.carrier events.items self.new.carrier said × Appends (W.contents writer.old) (W.contents writer.new) said) }
+        ensures failed { TellsCannotWrite result (W.failed writer.new) }
+    {
+        replay::replay_events(&mut self.carrier, &events, Detail::Texts, writer)
+    }
+
+    fn opens(&self) {
+        let _log = self.carrier.log();
+    }
+
+    fn goes_on() {}
+}
+
+impl<C: Carrier, W: Output> Stage<WorldEvent, W> for World<C> {
+    ghost replays = { ReplaysWith (HappensBy (world_kind (shown C.calls))) (shown_text Texts) (KeepsPromise C.calls.seen) };
+
+    fn replay(&mut self, events: Vec<WorldEvent>, writer: &mut W) -> Result<(), ReplayFault>
+        requires { W.failed writer.old ≡ false }
+        ensures replayed { OnOk result ((said : List ℕ) × ReplaysWith (HappensBy (world_kind (shown C.calls))) (shown_text Texts) (KeepsPromise C.calls.seen) self.old events.items self.new said × Appends (W.contents writer.old) (W.contents writer.new) said) }
+        ensures failed { TellsCannotWrite result (W.failed writer.new) }
+    {
+        let outcome = replay_events(self, events, Detail::Texts, writer);
+        keeps_promise(self);
+        outcome
+    }
+
+    fn opens(&self) {
+        keeps_promise(self);
+    }
+
+    fn goes_on() {}
+}
+
+impl<C: Carrier, W: Output> Stage<MixedWorldEvent, W> for MixedWorld<C> {
+    ghost replays = { ReplaysWith (HappensBy (mixed_kind (shown C.calls))) (shown_text Texts) (KeepsAll C.calls) };
+
+    fn replay(&mut self, events: Vec<MixedWorldEvent>, writer: &mut W) -> Result<(), ReplayFault>
+        requires { W.failed writer.old ≡ false }
+        ensures replayed { OnOk result ((said : List ℕ) × ReplaysWith (HappensBy (mixed_kind (shown C.calls))) (shown_text Texts) (KeepsAll C.calls) self.old events.items self.new said × Appends (W.contents writer.old) (W.contents writer.new) said) }
+        ensures failed { TellsCannotWrite result (W.failed writer.new) }
+    {
+        let outcome = replay_mixed_events(self, events, Detail::Texts, writer);
+        // for the proof only: the book keeps what is promised where there are strangers, after each line
+        let _book = book_among(self);
+        outcome
+    }
+
+    fn opens(&self) {
+        let _book = book_among(self);
+    }
+
+    fn goes_on() {}
+}
+
+/// Proves that the book of a world keeps the promise. It is there for the proof only.
+fn keeps_promise<C: Carrier>(world: &World<C>)
+    ensures { KeepsPromise C.calls.seen world.now }
+{
+    let _kept = book_of(world);
+}
