@@ -5,7 +5,7 @@ use Rattle.command_line.specs.Laws.{FirstPart, OneOutput}
 use Rattle.command_line.specs.declared.fault.ScriptFault.TheVariants as script
 use Rattle.command_line.specs.declared.options.Options.{Options}
 use Rattle.script.specs.Input.{IsParted}
-use Rattle.simulator.specs.Program.{EndsTrace, Replayed, Sides, sides}
+use Rattle.simulator.specs.Program.{EndsTrace, Replayed, sides}
 use Rattle.simulator.proofs.Traces.EitherTrace.{either_front}
 
 pub same_replay : OneOutput → (check : Bool) (options : Options) (input before after other : List ℕ)

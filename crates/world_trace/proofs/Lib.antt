@@ -5,7 +5,6 @@ mod CommandTexts
 mod Ends
 mod Failures
 mod Fields
-mod AmongRows
 mod Beside
 mod Blocks
 mod Unspent

@@ -1,7 +1,7 @@
 -- A long calm is handed on round by round.
 use Rattle.world_trace.proofs.Common.{◌≡◌, inl, inr, refl, ℕ, zero, suc, ◌+◌, ◌<◌, ◌≤◌, Bool, true, false, List, []}
 use Rattle.world_trace.proofs.Common.{◌∷◌, ◌++◌, Option, Ok, Err, arith, sym, subst, Calls, WorldState, Event, Host}
-use Rattle.world_trace.proofs.Common.{Happening, Again, Repeated, crosses, turns_in, flat_map, up_in, WritesTrace, Spot}
+use Rattle.world_trace.proofs.Common.{Happening, Again, Repeated, crosses, flat_map, up_in, WritesTrace, Spot}
 use Rattle.world_trace.proofs.Common.{numbered_from, RoundEnds, MayTell, TellsInCalm, TellsRound, AllParts}
 use Rattle.std.proofs.Common.{add-one}
 use Rattle.std.specs.Bool.{MatchBool}
@@ -40,19 +40,20 @@ module _ {C : Type 0} (calls : Calls C) (members : C → AllParts) (spot : Spot)
       → (others : List (List ℕ)) × EndsRepeated Tells (MayTell calls) e times old new others
   last_time e zero old new lines some h = absurd (omega (arith, some))
   last_time e (suc times) old new lines some (mid, first, rest, goes, more, all) =
-      by (crosses old mid) times refl more (λ some goes. last_time e times mid new rest some goes) where
-    here : (n : ℕ) → new ≡ mid → (others : List (List ℕ)) × EndsRepeated Tells (MayTell calls) e (suc n) old new others
-    here n same = ([], inl (subst (λ (w : WorldState C). MayTell calls old e w []) (sym same) (may_tell old mid e first goes)))
+      by (crosses old mid) times (λ few again. last_time e times mid new rest few again) refl more
+    where
+      here : (n : ℕ) → new ≡ mid → (others : List (List ℕ)) × EndsRepeated Tells (MayTell calls) e (suc n) old new others
+      here n same = ([], inl (subst (λ (w : WorldState C). MayTell calls old e w []) (sym same) (may_tell old mid e first goes)))
 
-    by : (b : Bool) (n : ℕ) → crosses old mid ≡ b → MatchBool b (Repeated Tells e n mid new rest) ((new ≡ mid) × (rest ≡ []))
-        → (0 < n → Repeated Tells e n mid new rest
-        → (others : List (List ℕ)) × EndsRepeated Tells (MayTell calls) e n mid new others)
-        → (others : List (List ℕ)) × EndsRepeated Tells (MayTell calls) e (suc n) old new others
-    by false n is (same, none) after = here n same
-    by true zero is (same, none) after = here zero same
-    by true (suc n) is more after =
-        let (others, later) = after (omega arith) more in
-        (first ++ others, inr (mid, first, others, goes, is, later, refl))
+      by : (b : Bool) (n : ℕ) → (0 < n → Repeated Tells e n mid new rest
+          → (others : List (List ℕ)) × EndsRepeated Tells (MayTell calls) e n mid new others)
+          → crosses old mid ≡ b → MatchBool b (Repeated Tells e n mid new rest) ((new ≡ mid) × (rest ≡ []))
+          → (others : List (List ℕ)) × EndsRepeated Tells (MayTell calls) e (suc n) old new others
+      by false n later is (same, none) = here n same
+      by true zero later is (same, none) = here zero same
+      by true (suc n) later is again =
+          let (others, ends) = later (omega arith) again in
+          (first ++ others, inr (mid, first, others, goes, is, ends, refl))
 
   each_turn : (hosts : List Host) → Each (λ (e : Event × ℕ). 0 < e.1) (flat_map turn_of hosts)
   each_turn [] = tt

@@ -1,5 +1,5 @@
 use Rattle.world_trace.proofs.Common.{shown, Calls}
-use Rattle.world_trace.proofs.AmongRows.{row_calm, row_counted, row_failed, row_memory, row_nothing, row_opened}
+use Rattle.world_trace.proofs.Openings.AmongRows.{row_calm, row_counted, row_failed, row_memory, row_nothing, row_opened}
 use Rattle.world_trace.proofs.worked_strangers.worked_among.Goals as goal
 
 pub returns : goal.returns
