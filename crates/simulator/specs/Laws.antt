@@ -1,5 +1,5 @@
 -- The laws of src/ that are longer than a line: each is a record, and its fields are the clauses.
-use Rattle.std.specs.Prelude.{Bool, Err, List, Ok, Option, Some, [], ◌∷◌, ℕ, ◌++◌, ◌≡◌, ◌⊎◌}
+use Rattle.std.specs.Prelude.{Bool, Err, List, Ok, Option, Some, false, [], ◌∷◌, ℕ, ◌++◌, ◌≡◌, ◌⊎◌}
 use Rattle.replay.specs.declared.print.Detail.TheVariants.{Sizes}
 use Rattle.command_line.specs.Replayed.{ReplaysInput}
 use Rattle.command_line.specs.declared.fault.ScriptFault.TheVariants as script
