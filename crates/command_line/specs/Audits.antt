@@ -1,5 +1,5 @@
 -- What is written of a log as its audit.
-use Rattle.std.specs.Prelude.{◌≡◌, ℕ, ◌+◌, ◌&&◌, Bool, true, false, List, [], ◌∷◌, ◌++◌, length, map, reverse, suc}
+use Rattle.std.specs.Prelude.{◌≡◌, ◌↔◌, ℕ, ◌+◌, ◌&&◌, Bool, true, false, List, [], ◌∷◌, ◌++◌, length, map, reverse, suc}
 use Rattle.std.specs.Prelude.{zero, if◌then◌else◌, is_none, MatchOption, Option, Some, None, Result, Ok, Err, codes}
 use Rattle.std.specs.Fmt.{decimal}
 use Rattle.std.specs.Io.KnownBytes.{Appends}
@@ -67,6 +67,11 @@ pub record Judged (v : Verdict) (strange : Host → Bool) (crossings : List Cros
 
 abbrev pub SaysOf : Verdict → List Host → Book → Type 0
 SaysOf v strangers b = Judged v (λ h. is_host strangers h) b.crossings (lives_of b) b.handed (fates_of b)
+
+-- of a log that isn't malformed nothing is named of a part just where this holds
+abbrev pub TellsOf : {A : Type 0} → (Verdict → Option A) → (List Host → Book → Type 0) → Type 0
+TellsOf part Holds =
+    (strangers : List Host) (b : Book) (v : Verdict) → SaysOf v strangers b → v.malformed ≡ None → (part v ≡ None) ↔ Holds strangers b
 
 -- the lives of a log among hosts with programs, with what was handed over in them and their fates
 abbrev pub program_lives : List Host → Book → List Life

@@ -23,7 +23,7 @@ ghost use Rattle.promise.specs.Safe.{SafeGrants, SafePartners};
 ghost use Rattle.promise.specs.declared.life.Amount.{Amount};
 ghost use Rattle.promise.specs.declared.life.Life.{Life};
 ghost use Rattle.replay.specs.declared.print.Detail.{Detail};
-ghost use Rattle.command_line.specs.Audits.{IsKeptLog, IsSafeLog, KeepsEnds, SaysKept, SaysOf, kept, layout_of, place_in};
+ghost use Rattle.command_line.specs.Audits.{IsKeptLog, IsSafeLog, KeepsEnds, SaysKept, SaysOf, TellsOf, kept, layout_of, place_in};
 ghost use Rattle.command_line.specs.Audits.{found_text, malformed_text, toward_text};
 ghost use Rattle.command_line.specs.Audits.{program_fates, program_lists, program_lives, word_text};
 ghost use Rattle.command_line.specs.Events.{is_raw};
@@ -124,12 +124,12 @@ pub fn named_parts()
     ensures made { (hosts : List Host) (b : log.Book) (v : Verdict) → SaysOf v hosts b → v.unmade ≡ None → FormedBook (reverse b.crossings) (program_lives hosts b) }
     ensures formed { (hosts : List Host) (b : log.Book) (v : Verdict) → SaysOf v hosts b → (v.malformed ≡ None) ↔ IsWellFormed (reverse b.crossings) (log.lives_of b) b.handed }
     ensures messages { (hosts : List Host) (b : log.Book) (v : Verdict) → SaysOf v hosts b → (v.messages ≡ None) ↔ SafeMessages (reverse b.crossings) }
-    ensures partners { (hosts : List Host) (b : log.Book) (v : Verdict) → SaysOf v hosts b → v.malformed ≡ None → (v.partners ≡ None) ↔ SafePartners (reverse b.crossings) (program_lives hosts b) }
-    ensures streams { (hosts : List Host) (b : log.Book) (v : Verdict) → SaysOf v hosts b → v.malformed ≡ None → (v.streams ≡ None) ↔ AreFed (reverse b.crossings) (program_lives hosts b) (program_lives hosts b) (program_lists hosts b) }
-    ensures grants { (hosts : List Host) (b : log.Book) (v : Verdict) → SaysOf v hosts b → v.malformed ≡ None → (v.grants ≡ None) ↔ SafeGrants (reverse b.crossings) (program_lives hosts b) }
-    ensures closes { (hosts : List Host) (b : log.Book) (v : Verdict) → SaysOf v hosts b → v.malformed ≡ None → (v.closes ≡ None) ↔ ClosesWhole (reverse b.crossings) (program_lives hosts b) (program_lists hosts b) (program_fates hosts b) }
+    ensures partners { TellsOf (λ v. v.partners) (λ hosts b. SafePartners (reverse b.crossings) (program_lives hosts b)) }
+    ensures streams { TellsOf (λ v. v.streams) (λ hosts b. AreFed (reverse b.crossings) (program_lives hosts b) (program_lives hosts b) (program_lists hosts b)) }
+    ensures grants { TellsOf (λ v. v.grants) (λ hosts b. SafeGrants (reverse b.crossings) (program_lives hosts b)) }
+    ensures closes { TellsOf (λ v. v.closes) (λ hosts b. ClosesWhole (reverse b.crossings) (program_lives hosts b) (program_lists hosts b) (program_fates hosts b)) }
     ensures fates { (hosts : List Host) (b : log.Book) (v : Verdict) → SaysOf v hosts b → (v.unsuited ≡ None) ↔ AreSuited (reverse b.crossings) (program_lives hosts b) (program_fates hosts b) }
-    ensures toward { (hosts : List Host) (b : log.Book) (v : Verdict) → SaysOf v hosts b → v.malformed ≡ None → (v.toward ≡ None) ↔ AreToward (λ h. is_host hosts h) (log.lives_of b) b.handed }
+    ensures toward { TellsOf (λ v. v.toward) (λ hosts b. AreToward (λ h. is_host hosts h) (log.lives_of b) b.handed) }
 
     // where nothing is named the book is safe, and nothing is named of a safe book
     ensures safe { (hosts : List Host) (b : log.Book) → SaysOf kept hosts b → Says audit.Kept (reverse b.crossings) (program_lives hosts b) (program_lists hosts b) }

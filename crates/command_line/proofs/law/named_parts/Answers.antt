@@ -10,52 +10,52 @@ use Rattle.command_line.proofs.law.named_parts.Goals as goal
 
 pub returns-clause-run : goal.returns-clause-run
 returns-clause-run c =
-    λ hosts b v j. run_named v (λ h. is_host hosts h) b.crossings (lives_of b) b.handed (fates_of b) j
+    λ hosts b v j. run_named _ _ _ _ _ _ j
 
 pub returns-clause-lives : goal.returns-clause-lives
 returns-clause-lives c =
-    λ hosts b v j. lives_named v (λ h. is_host hosts h) b.crossings (lives_of b) b.handed (fates_of b) j
+    λ hosts b v j. lives_named _ _ _ _ _ _ j
 
 pub returns-clause-made : goal.returns-clause-made
 returns-clause-made c = λ hosts b v j none.
     made_formed (reverse b.crossings) (program_lives hosts b)
-    ((lives_named v (λ h. is_host hosts h) b.crossings (lives_of b) b.handed (fates_of b) j).0 none)
+    ((lives_named _ _ _ _ _ _ j).0 none)
 
 pub returns-clause-formed : goal.returns-clause-formed
 returns-clause-formed c =
-    λ hosts b v j. formed_named v (λ h. is_host hosts h) b.crossings (lives_of b) b.handed (fates_of b) j
+    λ hosts b v j. formed_named _ _ _ _ _ _ j
 
 pub returns-clause-messages : goal.returns-clause-messages
 returns-clause-messages c =
-    λ hosts b v j. messages_named v (λ h. is_host hosts h) b.crossings (lives_of b) b.handed (fates_of b) j
+    λ hosts b v j. messages_named _ _ _ _ _ _ j
 
 pub returns-clause-partners : goal.returns-clause-partners
 returns-clause-partners c =
-    λ hosts b v j. partners_named v (λ h. is_host hosts h) b.crossings (lives_of b) b.handed (fates_of b) j
+    λ hosts b v j. partners_named _ _ _ _ _ _ j
 
 pub returns-clause-streams : goal.returns-clause-streams
 returns-clause-streams c =
-    λ hosts b v j. streams_named v (λ h. is_host hosts h) b.crossings (lives_of b) b.handed (fates_of b) j
+    λ hosts b v j. streams_named _ _ _ _ _ _ j
 
 pub returns-clause-grants : goal.returns-clause-grants
 returns-clause-grants c =
-    λ hosts b v j. grants_named v (λ h. is_host hosts h) b.crossings (lives_of b) b.handed (fates_of b) j
+    λ hosts b v j. grants_named _ _ _ _ _ _ j
 
 pub returns-clause-closes : goal.returns-clause-closes
 returns-clause-closes c =
-    λ hosts b v j. closes_named v (λ h. is_host hosts h) b.crossings (lives_of b) b.handed (fates_of b) j
+    λ hosts b v j. closes_named _ _ _ _ _ _ j
 
 pub returns-clause-fates : goal.returns-clause-fates
 returns-clause-fates c =
-    λ hosts b v j. fates_named v (λ h. is_host hosts h) b.crossings (lives_of b) b.handed (fates_of b) j
+    λ hosts b v j. fates_named _ _ _ _ _ _ j
 
 pub returns-clause-toward : goal.returns-clause-toward
 returns-clause-toward c =
-    λ hosts b v j. toward_named v (λ h. is_host hosts h) b.crossings (lives_of b) b.handed (fates_of b) j
+    λ hosts b v j. toward_named _ _ _ _ _ _ j
 
 pub returns-clause-safe : goal.returns-clause-safe
 returns-clause-safe c =
-    λ hosts b j. safe_from_kept (λ h. is_host hosts h) b.crossings (lives_of b) b.handed (fates_of b) j
+    λ hosts b j. safe_from_kept _ _ _ _ _ j
 
 pub returns-clause-kept : goal.returns-clause-kept
 returns-clause-kept c =
