@@ -54,11 +54,15 @@ class Firsts:
         crossing = log[place] if place < len(log) else None
         return [*self.named(crossing.text, own, foreign)] if isinstance(crossing, Passed) and is_passed(crossing, kind, flow) else []
 
-    def links(self, log: Sequence[Crossing], life: Life) -> list[int]:
-        """The links that the RTS of a life's two requests names, where the STR crossed too: several where its message holds more than one."""
+    def requested(self, log: Sequence[Crossing], life: Life) -> tuple[list[int], list[int]]:
+        """What a life's two requests name, in what crossed at its stamps: the RTS links, and the STR byte sizes."""
         own = self.named_at(log, life.own, "out", Flow(life.host, life.peer, CONTROL), life.socket, life.foreign)
         partner = self.named_at(log, life.partner, "in", Flow(life.peer, life.host, CONTROL), life.foreign, life.socket)
-        links, sizes = (own, partner) if life.receives() else (partner, own)
+        return (own, partner) if life.receives() else (partner, own)
+
+    def links(self, log: Sequence[Crossing], life: Life) -> list[int]:
+        """The links that the RTS of a life's two requests names, where the STR crossed too: several where its message holds more than one."""
+        links, sizes = self.requested(log, life)
         return links if sizes else []
 
     def link(self, log: Sequence[Crossing], life: Life) -> int | None:

@@ -6,7 +6,6 @@ from collections.abc import Iterator, Sequence
 
 from dorydate.model.book import Life
 from dorydate.model.crossings import Passed
-from dorydate.model.firsts import flow_of, messages_of
 from dorydate.model.names import Flow
 from dorydate.model.was_sent import Lives, Log, WasSent
 
@@ -29,29 +28,29 @@ class OnAnyLink(WasSent):
 class AnyOrder(WasSent):
     """Any of the partner's messages will do."""
 
-    def are_those(self, outs: Sequence[int | None], sent: Sequence[int]) -> bool:
-        return {*outs} <= {*sent}
+    def is_nth(self, outs: Sequence[int | None], nth: int, sent: Sequence[int]) -> bool:
+        return outs[nth] in sent
 
 
 class InOrder(WasSent):
     """The partner's messages come in their order, some of them not at all."""
 
-    def are_those(self, outs: Sequence[int | None], sent: Sequence[int]) -> bool:
+    def is_nth(self, outs: Sequence[int | None], nth: int, sent: Sequence[int]) -> bool:
         left: Iterator[int | None] = iter(sent)
-        return all(at in left for at in outs)
+        return all(at in left for at in outs[: nth + 1])
 
 
 class AsMany(WasSent):
     """There are as many messages."""
 
-    def are_those(self, outs: Sequence[int | None], sent: Sequence[int]) -> bool:
-        return len(outs) <= len(sent)
+    def is_nth(self, outs: Sequence[int | None], nth: int, sent: Sequence[int]) -> bool:
+        return nth < len(sent)
 
 
 class AllOfThem(WasSent):
     """All that the partner sent was taken."""
 
-    def are_those(self, outs: Sequence[int | None], sent: Sequence[int]) -> bool:
+    def is_nth(self, outs: Sequence[int | None], nth: int, sent: Sequence[int]) -> bool:
         return [*outs] == [*sent]
 
 
@@ -61,7 +60,7 @@ class OfOlderToo(WasSent):
     def counted(self, log: Log, life: Life) -> list[int]:
         if life.receives():
             return super().counted(log, life)
-        flow = flow_of(log, life)
+        flow = self.flow(log, life)
         return [at for at, it in enumerate(log) if isinstance(it, Passed) and (it.kind, it.flow) == ("out", flow)][: life.messages]
 
 
@@ -69,7 +68,7 @@ class AllOnTheLink(WasSent):
     """A life counts all that crossed on its link."""
 
     def counted(self, log: Log, life: Life) -> list[int]:
-        return [at for at, _ in messages_of(log, life)]
+        return self.crossed(log, life)
 
 
 class WithoutPartner(WasSent):
