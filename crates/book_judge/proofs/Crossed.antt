@@ -4,3 +4,6 @@ pub mod TextsBy
 pub mod Made
 pub mod Taken
 pub mod Streamed
+pub mod Numbers
+pub mod Arrivals
+pub mod Sent

@@ -7,6 +7,8 @@ pub mod Asked
 pub mod Known
 pub mod Walks
 pub mod Peace
+pub mod Counted
+pub mod Numbered
 pub mod FirstLives
 pub mod Worked
 pub mod Crossed

@@ -13,8 +13,6 @@ use Rattle.std.specs.Prelude.{MatchOption}
 use Rattle.book_judge.specs.Inside.Asked.{Names, unstamped}
 use Rattle.net_sim.specs.declared.auditing.findings.Finding.TheVariants as finding
 use Rattle.promise.specs.Safe.{IsGranted, SafeGrants, SafePartners, Source}
-use Rattle.book_judge.specs.Broken.{IsBroken}
-use Rattle.book_judge.specs.declared.broken.Broken.{Broken}
 use Rattle.book_judge.specs.Inside.Chains.{fits_of}
 use Rattle.book_judge.proofs.Elements.{AreAt, contains_place, false_not, get_take, get_took, place_contains, places_two, read_at, two_places}
 use Rattle.book_judge.proofs.Known.{Apart, apart_is, apart_there, apart_true, same_is, same_true}
@@ -455,9 +453,3 @@ excess_some names lives log p found are at w = record {
   first = (granted_first names lives log p are at.1, λ has. at.2 (granted_at names lives log (p + 1) p are (omega arith) has));
   at = w;
 }
-
-pub said_of : (r : Result Broken AllocError) (names items : List Name) (lives : List Life) (handed : List (List Bool)) (fates : List Fate) (log : List Crossing)
-    → IfOk r (λ b. (l : List Crossing) → AreNamed (length lives) names lives l → IsBroken b l lives handed fates) → names ≡ items → AreNamed (length lives) items lives log
-    → IfOk r (λ b. IsBroken b log lives handed fates)
-said_of (Ok b) names items lives handed fates log says same are = (let P : List Name → Type 0 = λ ns. AreNamed (length lives) ns lives log in says log (subst P (sym same) are))
-said_of (Err e) names items lives handed fates log says same are = tt

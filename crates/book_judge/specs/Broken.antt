@@ -1,13 +1,19 @@
--- What is wrong with the lives of a book: where they are malformed, and else which of partners, streams, grants and closes are broken.
-use Rattle.std.specs.Prelude.{◌≡◌, ℕ, Bool, List, MatchOption, Option, Some, None, take}
+-- What is wrong with the lives of a book: where they are malformed, and else which of partners, streams, grants, what was sent, and closes are broken.
+use Rattle.std.specs.Prelude.{◌≡◌, ℕ, Bool, true, List, MatchOption, Option, Some, None, take}
+use Rattle.std.specs.List.{Contains}
 use Rattle.interface.specs.declared.crossing.Crossing.{Crossing}
+use Rattle.interface.specs.declared.crossing.Crossing.TheVariants as crossing
+use Rattle.interface.specs.declared.message.HostMessage.{HostMessage}
 use Rattle.net_sim.specs.Audit.{IsWellFormed}
 use Rattle.net_sim.specs.Findings.{AreFed, ShowsLife, ShowsMalformed, ShowsTwo, first_fed, first_granted}
 use Rattle.net_sim.specs.declared.auditing.findings.Finding.{Finding}
+use Rattle.promise.specs.Arrived.{IsCounted}
 use Rattle.promise.specs.Fates.{ClosesWhole}
-use Rattle.promise.specs.Safe.{SafeGrants, SafePartners}
+use Rattle.promise.specs.Formed.{CrossedAt}
+use Rattle.promise.specs.Safe.{SafeGrants, SafePartners, receives}
 use Rattle.promise.specs.declared.life.Fate.{Fate}
 use Rattle.promise.specs.declared.life.Life.{Life}
+use Rattle.world_keeps_streams.specs.Sent.{EachWasSent, WasSent}
 use Rattle.book_judge.specs.declared.broken.Broken.{Broken}
 
 -- partners, streams, grants and closes are about the requests that stamps name: of a malformed book nothing is said of them
@@ -19,6 +25,12 @@ IfFormed {F} (Some malformed) found Holds ShowsAt = found ≡ None
 abbrev pub first_closed : List Crossing → List Life → List (List Bool) → List Fate → ℕ → Type 0
 first_closed log lives handed fates n = ClosesWhole log lives handed (take n fates)
 
+-- what is promised of the messages that the first lives count
+abbrev pub first_sent : List Crossing → List Life → ℕ → Type 0
+first_sent log lives n =
+    (receiver : Life) (place : ℕ) (m : HostMessage) → Contains (take n lives) receiver → receives receiver ≡ true
+    → CrossedAt place (crossing.In m) log → IsCounted log place m receiver → WasSent log lives place m receiver
+
 -- a part that isn't named holds, and of one that is it is said where it shows; the log is the newest first
 pub record IsBroken (b : Broken) (log : List Crossing) (lives : List Life) (handed : List (List Bool)) (fates : List Fate) : Type 0 where
   -- there is a list for each life, and their stamps name requests
@@ -27,13 +39,15 @@ pub record IsBroken (b : Broken) (log : List Crossing) (lives : List Life) (hand
   pub partners : IfFormed b.malformed b.partners (SafePartners log lives) (λ found. ShowsTwo found log lives)
   pub streams : IfFormed b.malformed b.streams (AreFed log lives lives handed) (λ found. ShowsLife (first_fed log lives handed) found log lives)
   pub grants : IfFormed b.malformed b.grants (SafeGrants log lives) (λ found. ShowsLife (first_granted log lives) found log lives)
+  -- that each message which a receiving life counts is, by its number, that of a life that it matches
+  pub sent : IfFormed b.malformed b.sent (EachWasSent log lives) (λ found. ShowsLife (first_sent log lives) found log lives)
   -- what a life whose partner ended it has lost
   pub closes : IfFormed b.malformed b.closes (ClosesWhole log lives handed fates) (λ found. ShowsLife (first_closed log lives handed fates) found log lives)
 
 -- nothing is named
 abbrev pub unbroken : Broken
-unbroken = record { malformed = None; partners = None; streams = None; grants = None; closes = None }
+unbroken = record { malformed = None; partners = None; streams = None; grants = None; sent = None; closes = None }
 
 -- only this: the book is malformed
 abbrev pub only_malformed : Finding → Broken
-only_malformed found = record { malformed = Some found; partners = None; streams = None; grants = None; closes = None }
+only_malformed found = record { malformed = Some found; partners = None; streams = None; grants = None; sent = None; closes = None }

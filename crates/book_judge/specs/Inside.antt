@@ -4,6 +4,9 @@ pub mod Asked
 pub mod Partners
 pub mod Chains
 pub mod Joined
+pub mod Starts
+pub mod Arrivals
+pub mod Sent
 pub mod Said
 pub mod Taken
 pub mod Keys

@@ -3,20 +3,25 @@
 ghost use Rattle.std.specs.Prelude.{◌≡◌, IfOk, List, MatchOption, length, reverse};
 ghost use Rattle.interface.specs.declared.crossing.Crossing.{Crossing};
 ghost use Rattle.net_sim.specs.Audit.{IsWellFormed};
-ghost use Rattle.net_sim.specs.Findings.{ShowsMalformed};
-ghost use Rattle.book_judge.specs.Broken.{IsBroken};
+ghost use Rattle.net_sim.specs.Findings.{ShowsLife, ShowsMalformed};
+ghost use Rattle.world_keeps_streams.specs.Sent.{EachWasSent};
+ghost use Rattle.book_judge.specs.Broken.{IsBroken, first_sent};
 ghost use Rattle.book_judge.specs.Inside.Asked.{AreNamed, unstamped};
 ghost use Rattle.book_judge.specs.Inside.Chains.{AreChained};
 ghost use Rattle.book_judge.specs.Inside.Said.{TellsCloses, TellsGrants, TellsPartners, TellsStreams};
 
+use crate::arrivals::arrivals_of;
 use crate::chains::chained;
 use crate::closes::lost_at;
 use crate::grants::excess_at;
+use crate::joined::join_data;
 use crate::matches::with_match;
 use crate::names::Name;
 use crate::partners::odds_at;
 use crate::places::Places;
+use crate::sent::unsent_at;
 use crate::stamps::partners_of;
+use crate::starts::starts_of;
 use crate::streams::unfed_at;
 use interface::Crossing as Passage;
 use net_sim::{BitLog, Finding, Life};
@@ -34,19 +39,23 @@ pub struct Broken {
     pub streams: Option<Finding>,
     /// Where it shows that grants are broken; `None` where they are kept, or the book is malformed.
     pub grants: Option<Finding>,
+    /// Where it shows that a message which a life counts isn't the one of its number of a life that it matches; `None` where each is, or the
+    /// book is malformed.
+    pub sent: Option<Finding>,
     /// Where it shows that closes are broken; `None` where they are kept, or the book is malformed.
     pub closes: Option<Finding>,
 }
 
 /// Returns that only this is said: the book is malformed.
 fn only_malformed(found: Finding) -> Broken
-    ensures { result ≡ record { malformed = Some found; partners = None; streams = None; grants = None; closes = None } }
+    ensures { result ≡ record { malformed = Some found; partners = None; streams = None; grants = None; sent = None; closes = None } }
 {
     Broken {
         malformed: Some(found),
         partners: None,
         streams: None,
         grants: None,
+        sent: None,
         closes: None,
     }
 }
@@ -158,36 +167,67 @@ fn lost(
     Some(with_match(names, lives, place))
 }
 
-/// Returns where it shows that lives aren't those of a safe book, or that an end by CLS lost anything. These are the requests of their
-/// partners, what was handed over in them, and their fates.
+/// Returns the first life that counts a message which isn't the one of its number of a life that it matches, with the life
+/// that it matches. These are the requests of the partners of the lives.
+///
+/// Errors: `AllocError`.
+fn unsent(
+    alloc: Global,
+    log: &[Passage],
+    last: &Places,
+    before: &[Option<usize>],
+    names: &[Name],
+    lives: &[Life],
+) -> Result<Option<Finding>, AllocError>
+    requires chained { AreChained (length lives.now) last.now before.now lives.now }
+    requires named { AreNamed (length lives.now) names.now lives.now (reverse log.now) }
+    ensures { IfOk result (λ found. MatchOption found (EachWasSent (reverse log.now) lives.now) (λ at. ShowsLife (first_sent (reverse log.now) lives.now) at (reverse log.now) lives.now)) }
+{
+    let into = join_data(alloc, log, true)?;
+    let out = join_data(alloc, log, false)?;
+    let arrivals = arrivals_of(alloc, log, &into, &out)?;
+    let starts = starts_of(alloc, log, &into, &out, lives)?;
+    match unsent_at(&into, &arrivals, &starts, last, before, names, lives) {
+        Some(place) => Ok(Some(with_match(names, lives, place))),
+        None => Ok(None),
+    }
+}
+
+/// Returns where it shows that lives aren't those of a safe book, that what they count wasn't sent so, or that an end by CLS lost
+/// anything. These are the requests of their partners, what was handed over in them, and their fates.
 ///
 /// Errors: `AllocError`.
 fn broken_parts(
     alloc: Global,
+    log: &[Passage],
     names: &[Name],
     lives: &[Life],
     handed: &[BitLog],
     fates: &[Fate],
 ) -> Result<Broken, AllocError>
-    requires { (length names.now ≡ length lives.now) × (length lives.now ≡ length handed.now) }
-    ensures { IfOk result (λ broken. (log : List Crossing) → AreNamed (length lives.now) names.now lives.now log → IsBroken broken log lives.now handed.now fates.now) }
+    requires named { AreNamed (length lives.now) names.now lives.now (reverse log.now) }
+    requires counts { (length names.now ≡ length lives.now) × (length lives.now ≡ length handed.now) }
+    ensures { IfOk result (λ broken. IsBroken broken (reverse log.now) lives.now handed.now fates.now) }
 {
     let partners = odd_partners(alloc, names, lives)?;
     let (last, before) = chained(alloc, lives)?;
     let streams = unfed(&last, &before, names, lives, handed);
     let grants = excess(&last, &before, names, lives);
+    let sent = unsent(alloc, log, &last, &before, names, lives)?;
     let closes = lost(&last, &before, names, lives, handed, fates);
     Ok(Broken {
         malformed: None,
         partners,
         streams,
         grants,
+        sent,
         closes,
     })
 }
 
-/// Returns where it shows that the lives of a log, and what was handed over in them, aren't those of a safe book, or that a life
-/// which its partner ended lost anything. The log is the oldest first. A life that has no fate isn't one that its partner ended.
+/// Returns where it shows that the lives of a log, and what was handed over in them, aren't those of a safe book, that what they
+/// count wasn't sent so, or that a life which its partner ended lost anything. The log is the oldest first. A life that has no fate isn't one
+/// that its partner ended.
 ///
 /// It says what [`net_sim::malformed`], [`net_sim::broken_partners`], [`net_sim::broken_streams`] and
 /// [`net_sim::broken_grants`] say. Those take no memory, and look at each pair of lives; here each request has its place in a
@@ -207,7 +247,7 @@ pub fn broken_at(
         return Ok(only_malformed(found));
     }
     match partners_of(alloc, log, lives)? {
-        Ok(names) => broken_parts(alloc, &names, lives, handed, fates),
+        Ok(names) => broken_parts(alloc, log, &names, lives, handed, fates),
         Err(place) => Ok(only_malformed(Finding::Life(place))),
     }
 }

@@ -1,6 +1,6 @@
 //! The data of a message, and where those of a life are.
 
-ghost use Rattle.std.specs.Prelude.{◌≡◌, ◌≤◌, IfSome, List, MatchBool, Some, drop, length};
+ghost use Rattle.std.specs.Prelude.{◌≡◌, ◌≤◌, IfSome, List, MatchBool, Some, drop, length, take};
 ghost use Rattle.interface.specs.declared.crossing.Crossing as passed;
 ghost use Rattle.promise.specs.Formed as formed;
 ghost use Rattle.promise.specs.Formed.{flow_of};
@@ -45,7 +45,7 @@ pub(crate) fn same_found(bit: Option<bool>, other: Option<bool>) -> bool
 }
 
 /// Returns the flow of a life's messages on a link.
-fn flow_of(life: &Life, link: u8) -> Flow
+pub(crate) fn flow_of(life: &Life, link: u8) -> Flow
     ensures { result ≡ formed.flow_of life.now link }
 {
     let (source, destination) = if receives(life) {
@@ -61,8 +61,9 @@ fn flow_of(life: &Life, link: u8) -> Flow
 }
 
 /// Returns the place after both requests of a life, or that after the last crossing where it isn't past it.
-fn since(log: &[Crossing], life: &Life) -> usize
+pub(crate) fn since(log: &[Crossing], life: &Life) -> usize
     ensures same { drop result log.now ≡ drop (tests.since life.now) log.now }
+    ensures before { take result log.now ≡ take (tests.since life.now) log.now }
     ensures within { result ≤ length log.now }
 {
     let begun = life.own_stamp.max(life.partner_stamp);

@@ -5,7 +5,7 @@ ghost use Rattle.std.specs.Prelude.{option_copied, take};
 ghost use Rattle.interface.specs.declared.address.Flow.{Flow};
 ghost use Rattle.interface.specs.declared.crossing.Crossing.{Crossing};
 ghost use Rattle.book_judge.specs.Inside.Joined as tests;
-ghost use Rattle.book_judge.specs.Inside.Joined.{AreJoined, Grows, HasNumber, IsFirst, IsFirstFrom, IsStream, marked, texts_by};
+ghost use Rattle.book_judge.specs.Inside.Joined.{AreJoined, Grows, HasNumber, IsFirst, IsFirstFrom, IsStream, PlaceOf, marked, texts_by};
 
 use crate::bits::is_slice;
 use crate::data::end_of;
@@ -119,6 +119,16 @@ impl Stream {
         unread == unread_to && is_slice(bits, &self.bits, from, to)
     }
 
+    /// Returns where the message with a number crossed.
+    fn place(&self, number: usize) -> Option<usize>
+        ensures { (comes : Bool) (f : Flow) (log : List Crossing) → IsStream comes f log self.now → PlaceOf comes f log number result }
+    {
+        match self.pieces.get(number) {
+            Some(piece) => Some(piece.place),
+            None => None,
+        }
+    }
+
     /// Returns how many messages crossed before a place and not before another.
     fn between(&self, since: usize, until: usize) -> usize
         ensures { (comes : Bool) (f : Flow) (log : List Crossing) → IsStream comes f log self.now → result ≡ length (texts_by comes f (drop since (take until log))) }
@@ -200,6 +210,19 @@ impl Joined {
                 None => false,
             },
             None => count == 0 && bits.len() == 0,
+        }
+    }
+
+    /// Returns where the message of a flow with a number crossed.
+    pub(crate) fn place(&self, flow: &MessageFlow, number: usize) -> Option<usize>
+        ensures { (comes : Bool) (log : List Crossing) → AreJoined comes log self.now → PlaceOf comes flow.now log number result }
+    {
+        match self.numbers.get(flow) {
+            Some(found) => match self.streams.get(found) {
+                Some(stream) => stream.place(number),
+                None => None,
+            },
+            None => None,
         }
     }
 

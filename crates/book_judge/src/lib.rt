@@ -10,6 +10,7 @@
 //! Nothing here reads lines: a log is a list of crossings, the oldest first.
 #![tactic(auto)]
 
+mod arrivals;
 mod bits;
 mod broken;
 mod chains;
@@ -29,8 +30,10 @@ mod partners;
 mod places;
 mod requests;
 mod runs;
+mod sent;
 mod sought;
 mod stamps;
+mod starts;
 mod streams;
 mod texts;
 mod toward;

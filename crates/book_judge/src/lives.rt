@@ -68,6 +68,17 @@ fn partner_named(log: &[Crossing], life: &Life) -> Option<u8>
     )
 }
 
+/// Returns the link of a life: of its two requests the RTS names it.
+pub(crate) fn link_of(log: &[Crossing], life: &Life) -> Option<u8>
+    ensures { result ≡ formed.link_of (reverse log.now) life.now }
+{
+    if receives(life) {
+        own_named(log, life)
+    } else {
+        partner_named(log, life)
+    }
+}
+
 /// Returns whether a life is made of messages that crossed before a place. Of those that came in, and of those that
 /// went out, the data are joined.
 fn is_made(log: &[Crossing], into: &Joined, out: &Joined, life: &Life, until: usize) -> bool

@@ -9,6 +9,7 @@ use crate::matches::fits;
 use crate::names::Name;
 use crate::places::Places;
 use crate::stamps::found_at;
+use crate::starts::{Start, Taking, counts_at};
 use net_sim::{BitLog, Life};
 
 /// What is looked for among the lives that a receiving one matches.
@@ -20,6 +21,8 @@ pub(crate) enum Sought<'a> {
     Excess,
     /// One of which the receiving one lost something. These lists are what was handed over in each life.
     Loss(&'a [BitLog]),
+    /// One that counts this message as the receiving one does. This is where the messages of each life begin.
+    Sender(&'a [Option<Start>], Taking),
 }
 
 /// Returns whether this much, with what was returned, is no more than what was granted.
@@ -68,6 +71,7 @@ fn meets(sought: Sought<'_>, life: &Life, other: &Life, place: usize) -> bool
         Sought::Source => is_prefix(&life.bits, &other.bits),
         Sought::Excess => !is_granted(life, other.messages, other.bits.len()),
         Sought::Loss(handed) => loses(life, other, handed, place),
+        Sought::Sender(starts, taking) => counts_at(starts, other, taking, place),
     }
 }
 

@@ -12,6 +12,7 @@ use Rattle.book_judge.specs.Lives.{AreMade}
 use Rattle.interface.specs.Host.{is_host}
 use Rattle.mixed_worlds.specs.Book.{beside_among, lives_among}
 use Rattle.promise.specs.Safe.{SafeBook}
+use Rattle.world_keeps_streams.specs.Sent.{EachWasSent}
 use Rattle.headline.proofs.lemmas.{kept_promise}
 use Rattle.net_sim.specs.declared.auditing.said.Audit.{Audit}
 use Rattle.net_sim.specs.declared.auditing.said.Audit.TheVariants as audit
@@ -140,9 +141,9 @@ says_logged k are hosts j =
 -- without strangers all that there is is judged
 kept_alone_from : (log : List Crossing) (lives : List Life) (handed : List (List Bool)) (fates : List Fate)
     → IsSomeRun (reverse log) → AreMade (reverse log) lives → Says audit.Kept (reverse log) lives handed
-    → ClosesWhole (reverse log) lives handed fates → AreSuited (reverse log) lives fates
+    → EachWasSent (reverse log) lives → ClosesWhole (reverse log) lives handed fates → AreSuited (reverse log) lives fates
     → Judged kept (λ h. is_host [] h) log lives handed fates
-kept_alone_from log lives handed fates run made safe closes suited =
+kept_alone_from log lives handed fates run made safe sent closes suited =
     let xs : lives ≡ lives_among (λ h. is_host [] h) lives = sym (all_lives lives) in
     let hs : handed ≡ beside_among (λ h. is_host [] h) lives handed = sym (all_beside lives handed) in
     let fs : fates ≡ beside_among (λ h. is_host [] h) lives fates = sym (all_beside lives fates) in
@@ -150,6 +151,7 @@ kept_alone_from log lives handed fates run made safe closes suited =
     (subst (λ (ys : List Life). AreMade (reverse log) ys) xs made) safe.0
     (subst (λ (ys : List Life). SafeBook (reverse log) ys (beside_among (λ h. is_host [] h) lives handed)) xs
     (subst (λ (ys : List (List Bool)). SafeBook (reverse log) lives ys) hs safe.1))
+    (subst (λ (ys : List Life). EachWasSent (reverse log) ys) xs sent)
     (subst (λ (ys : List Life). ClosesWhole (reverse log) ys (beside_among (λ h. is_host [] h) lives handed) (beside_among (λ h. is_host [] h) lives fates)) xs
     (subst (λ (ys : List (List Bool)). ClosesWhole (reverse log) lives ys (beside_among (λ h. is_host [] h) lives fates)) hs
     (subst (λ (ys : List Fate). ClosesWhole (reverse log) lives handed ys) fs closes)))
@@ -167,6 +169,7 @@ kept_from calls opening (Raw events) octets h = record {
       kept_alone_from (reverse (calls.seen h.last).log) [] [] []
       (run_twice (calls.seen h.last).hosts (calls.seen h.last).log h.run) (λ x there. absurd (none_there x there))
       (turned audit.Kept (calls.seen h.last).log [] [] (kept_alone (calls.seen h.last).log h.messages))
+      (λ x p m there comes crossed c. absurd (none_there x there))
       (none_closes (reverse (reverse (calls.seen h.last).log)))
       (record { each = λ x f beside. absurd beside; contact = λ x y f beside other both. absurd beside });
 }
@@ -181,6 +184,7 @@ kept_from calls opening (World events) octets h = record {
       (made_twice h.last.kept.book.crossings h.last.kept.book.lives
       (made_with h.last.kept.book.contacts h.last.kept.book.crossings h.last.kept.book.lives h.promise.contacts h.promise.promised.formed h.promise.within))
       (turned audit.Kept h.last.kept.book.crossings h.last.kept.book.lives h.last.kept.handed (kept_promise (calls.seen h.last.carrier).hosts h.last.kept.book h.last.kept.handed h.promise.promised))
+      (subst (λ (cs : List Crossing). EachWasSent cs h.last.kept.book.lives) (sym (reverse-reverse h.last.kept.book.crossings)) h.promise.sent)
       (closes_logged (reverse (reverse h.last.kept.book.crossings)) h.last.kept.book.lives h.last.kept.handed h.last.kept.fates
       (subst (λ (cs : List Crossing). ClosesWhole cs h.last.kept.book.lives h.last.kept.handed h.last.kept.fates) (sym (reverse-reverse h.last.kept.book.crossings)) h.promise.whole))
       (suited_logged (reverse (reverse h.last.kept.book.crossings)) h.last.kept.book.lives h.last.kept.fates

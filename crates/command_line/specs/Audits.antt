@@ -4,7 +4,7 @@ use Rattle.std.specs.Prelude.{zero, if◌then◌else◌, is_none, MatchOption, O
 use Rattle.std.specs.Fmt.{decimal}
 use Rattle.std.specs.Io.KnownBytes.{Appends}
 use Rattle.book_log.specs.Log.{Book, IsBadLine, IsLog, fates_of, lives_of}
-use Rattle.book_judge.specs.Broken.{IfFormed, IsBroken, first_closed, only_malformed}
+use Rattle.book_judge.specs.Broken.{IfFormed, IsBroken, first_closed, first_sent, only_malformed}
 use Rattle.book_judge.specs.Fates.{AreSuited, UnsuitedAt}
 use Rattle.book_judge.specs.Lives.{AreMade, UnmadeAt}
 use Rattle.book_judge.specs.Runs.{IsSomeRun, StraysAt}
@@ -19,6 +19,7 @@ use Rattle.promise.specs.Fates.{ClosesWhole}
 use Rattle.promise.specs.Safe.{SafeGrants, SafePartners}
 use Rattle.promise.specs.declared.life.Fate.{Fate}
 use Rattle.promise.specs.declared.life.Life.{Life}
+use Rattle.world_keeps_streams.specs.Sent.{EachWasSent}
 use Rattle.book_judge.specs.declared.broken.Broken.{Broken}
 use Rattle.net_sim.specs.declared.auditing.findings.Finding.{Finding}
 use Rattle.net_sim.specs.declared.auditing.findings.Finding.TheVariants as finding
@@ -53,6 +54,9 @@ pub record Judged (v : Verdict) (strange : Host → Bool) (crossings : List Cros
       (λ found. ShowsLife (first_fed (reverse crossings) (lives_among strange lives) (beside_among strange lives handed)) found (reverse crossings) (lives_among strange lives))
   pub grants : IfFormed v.malformed v.grants (SafeGrants (reverse crossings) (lives_among strange lives))
       (λ found. ShowsLife (first_granted (reverse crossings) (lives_among strange lives)) found (reverse crossings) (lives_among strange lives))
+  -- each message that a receiving life counts is, by its number, that of a life that it matches
+  pub sent : IfFormed v.malformed v.sent (EachWasSent (reverse crossings) (lives_among strange lives))
+      (λ found. ShowsLife (first_sent (reverse crossings) (lives_among strange lives)) found (reverse crossings) (lives_among strange lives))
   -- what lives that their partners ended have lost
   pub closes : IfFormed v.malformed v.closes (ClosesWhole (reverse crossings) (lives_among strange lives) (beside_among strange lives handed) (beside_among strange lives fates))
       (λ found. ShowsLife (first_closed (reverse crossings) (lives_among strange lives) (beside_among strange lives handed) (beside_among strange lives fates)) found
@@ -85,13 +89,13 @@ program_fates strangers b = beside_among (λ h. is_host strangers h) (lives_of b
 
 -- nothing is wrong with it
 abbrev pub kept : Verdict
-kept = record { stray = None; unmade = None; malformed = None; messages = None; partners = None; streams = None; grants = None; closes = None; unsuited = None; toward = None }
+kept = record { stray = None; unmade = None; malformed = None; messages = None; partners = None; streams = None; grants = None; sent = None; closes = None; unsuited = None; toward = None }
 
 -- what may be asked of the log of any host's program holds, whatever is wrong with how its lives end
 abbrev pub is_safe : Verdict → Bool
 is_safe v =
     is_none v.stray && is_none v.unmade && is_none v.malformed && is_none v.messages && is_none v.partners
-    && is_none v.streams && is_none v.grants && is_none v.toward
+    && is_none v.streams && is_none v.grants && is_none v.sent && is_none v.toward
 
 -- what this program promises beyond that: how lives end, and that those which their partners ended have lost nothing
 abbrev pub keeps_ends : Verdict → Bool
@@ -110,6 +114,7 @@ pub record IsSafeLog (strangers : List Host) (b : Book) : Type 0 where
   pub streams : AreFed (reverse b.crossings) (program_lives strangers b) (program_lives strangers b)
       (program_lists strangers b)
   pub grants : SafeGrants (reverse b.crossings) (program_lives strangers b)
+  pub sent : EachWasSent (reverse b.crossings) (program_lives strangers b)
   pub toward : AreToward (λ h. is_host strangers h) (lives_of b) b.handed
 
 pub record KeepsEnds (strangers : List Host) (b : Book) : Type 0 where
@@ -183,6 +188,11 @@ broken_text l p None = []
 broken_text l p (Some found) =
     codes "broken " ++ (part_text p ++ (codes " " ++ (lines_text (lines_of l l.among found) ++ codes "\n")))
 
+-- of a life that counts a message which wasn't sent so, its line and that of the life that it matches
+abbrev pub sent_text : Layout → Option Finding → List ℕ
+sent_text l None = []
+sent_text l (Some found) = codes "broken sent " ++ (lines_text (lines_of l l.among found) ++ codes "\n")
+
 -- of a life that its partner ended and that lost anything, its line and that of the life that it matches
 abbrev pub closes_text : Layout → Option Finding → List ℕ
 closes_text l None = []
@@ -201,7 +211,7 @@ toward_text l (Some place) = codes "broken toward line " ++ (decimal (life_at l 
 
 abbrev pub parts_text : Layout → Verdict → List ℕ
 parts_text l v =
-    broken_text l part.Messages v.messages ++ (broken_text l part.Partners v.partners ++ (broken_text l part.Streams v.streams ++ (broken_text l part.Grants v.grants ++ closes_text l v.closes)))
+    broken_text l part.Messages v.messages ++ (broken_text l part.Partners v.partners ++ (broken_text l part.Streams v.streams ++ (broken_text l part.Grants v.grants ++ (sent_text l v.sent ++ closes_text l v.closes))))
 
 -- the last line is a word: `kept` where nothing is wrong, `safe` where only closes or fates are
 abbrev pub word_text : Verdict → List ℕ

@@ -30,10 +30,11 @@ broken_beside = record kept {
   messages = Some (finding.Crossing 1);
   partners = Some (finding.Lives 0 1);
   streams = Some (finding.Life 1);
+  sent = Some (finding.Lives 1 0);
   closes = Some (finding.Lives 1 0);
   unsuited = Some 1;
 }
 
 abbrev pub broken_lines : List ℕ
 broken_lines = codes "broken run line 2\nbroken lives line 6\nbroken messages line 3\n"
-    ++ codes "broken partners lines 6 7\nbroken streams line 7\nbroken closes lines 7 6\nbroken fates line 7\n"
+    ++ codes "broken partners lines 6 7\nbroken streams line 7\nbroken sent lines 7 6\nbroken closes lines 7 6\nbroken fates line 7\n"

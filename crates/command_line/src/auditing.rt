@@ -109,7 +109,8 @@ pub fn audit_status(found: Verdict) -> u8
 }
 
 /// Reads a log, and writes `kept` where its book is safe, what crossed is a run of the mailboxes, its lives are
-/// made of the messages that crossed, those that their partners ended lost nothing, and each has a fate that what
+/// made of the messages that crossed, and count each of these by the number that it has for a life that they match, those
+/// that their partners ended lost nothing, and each has a fate that what
 /// crossed leaves it. Else it writes all that isn't so, a line each, and a word, in this order:
 ///
 /// - `broken run line N`, the line of the first crossing that finds no box as it needs it;
@@ -118,6 +119,8 @@ pub fn audit_status(found: Verdict) -> u8
 /// - `broken PART line N` or `broken PART lines M N` for each part of a safe book that fails, with the lines of the
 ///   crossing or of the one or two lives that show it: messages, and of a book that isn't malformed partners, streams
 ///   and grants;
+/// - `broken sent line N` or `broken sent lines N M`, of such a book, with the lines of the first receiving life that counts
+///   a message which isn't the one with its number of a life that it matches, and of the one that it matches;
 /// - `broken closes lines N M`, of such a book, with the lines of the first life that its partner ended and that
 ///   lost anything, and of the one that it matches;
 /// - `broken fates line N`, the line of the first life whose fate isn't one that what crossed leaves it;
@@ -125,7 +128,7 @@ pub fn audit_status(found: Verdict) -> u8
 ///   toward a stranger and took more than it granted, or sent what wasn't handed over in it;
 /// - `safe`, where only closes or fates are wrong, so that what may be asked of the log of any host's program holds.
 ///
-/// Of a network with strangers, lives, partners, streams, grants, closes and fates are those of hosts with programs, with
+/// Of a network with strangers, lives, partners, streams, grants, sent, closes and fates are those of hosts with programs, with
 /// such hosts.
 ///
 /// It answers what it found.

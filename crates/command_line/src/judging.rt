@@ -77,7 +77,7 @@ fn keep_counted<T: Drop>(alloc: Global, counted: &[bool], all: Vec<T>) -> Result
     Ok(kept)
 }
 
-/// Returns where partners, streams, grants and closes are broken; of a malformed book nothing is said of them.
+/// Returns where partners, streams, grants, what was sent, and closes are broken; of a malformed book nothing is said of them.
 ///
 /// Errors: `AllocError`.
 fn broken_parts(
@@ -97,6 +97,7 @@ fn broken_parts(
             partners: None,
             streams: None,
             grants: None,
+            sent: None,
             closes: None,
         }),
     }
@@ -121,7 +122,7 @@ fn untoward(
 /// Returns what is wrong with a log of a network in which these hosts are strangers. Of each life it is known whether it
 /// is among hosts with programs.
 ///
-/// Partners, streams, grants, closes and toward are about the requests that stamps name, or about lists of bits, so
+/// Partners, streams, grants, sent, closes and toward are about the requests that stamps name, or about lists of bits, so
 /// nothing is said of them in a malformed book.
 ///
 /// Errors: `AllocError`.
@@ -164,6 +165,7 @@ pub(crate) fn judge(
         partners: broken.partners,
         streams: broken.streams,
         grants: broken.grants,
+        sent: broken.sent,
         closes: broken.closes,
         unsuited,
         toward,

@@ -22,6 +22,7 @@ ghost use Rattle.promise.specs.Formed.{FormedBook};
 ghost use Rattle.promise.specs.Safe.{SafeGrants, SafePartners};
 ghost use Rattle.promise.specs.declared.life.Amount.{Amount};
 ghost use Rattle.promise.specs.declared.life.Life.{Life};
+ghost use Rattle.world_keeps_streams.specs.Sent.{EachWasSent};
 ghost use Rattle.replay.specs.declared.print.Detail.{Detail};
 ghost use Rattle.command_line.specs.Audits.{IsKeptLog, IsSafeLog, KeepsEnds, SaysKept, SaysOf, TellsOf, kept, layout_of, place_in};
 ghost use Rattle.command_line.specs.Audits.{found_text, malformed_text, toward_text};
@@ -116,7 +117,7 @@ pub fn logs_are_kept()
 {}
 
 /// What an audit names is broken, and what it doesn't name holds. A malformed book has requests that nothing names, so
-/// its partners, streams, grants, closes and toward aren't looked at. Of a network with strangers all but a run,
+/// its partners, streams, grants, sent, closes and toward aren't looked at. Of a network with strangers all but a run,
 /// messages, the form and toward are of the lives among hosts with programs.
 pub fn named_parts()
     ensures run { (hosts : List Host) (b : log.Book) (v : Verdict) → SaysOf v hosts b → (v.stray ≡ None) ↔ IsSomeRun (reverse b.crossings) }
@@ -127,6 +128,7 @@ pub fn named_parts()
     ensures partners { TellsOf (λ v. v.partners) (λ hosts b. SafePartners (reverse b.crossings) (program_lives hosts b)) }
     ensures streams { TellsOf (λ v. v.streams) (λ hosts b. AreFed (reverse b.crossings) (program_lives hosts b) (program_lives hosts b) (program_lists hosts b)) }
     ensures grants { TellsOf (λ v. v.grants) (λ hosts b. SafeGrants (reverse b.crossings) (program_lives hosts b)) }
+    ensures sent { TellsOf (λ v. v.sent) (λ hosts b. EachWasSent (reverse b.crossings) (program_lives hosts b)) }
     ensures closes { TellsOf (λ v. v.closes) (λ hosts b. ClosesWhole (reverse b.crossings) (program_lives hosts b) (program_lists hosts b) (program_fates hosts b)) }
     ensures fates { (hosts : List Host) (b : log.Book) (v : Verdict) → SaysOf v hosts b → (v.unsuited ≡ None) ↔ AreSuited (reverse b.crossings) (program_lives hosts b) (program_fates hosts b) }
     ensures toward { TellsOf (λ v. v.toward) (λ hosts b. AreToward (λ h. is_host hosts h) (log.lives_of b) b.handed) }
@@ -169,17 +171,19 @@ pub fn worked_words()
     ensures partners { (at : Finding) → word_text (record kept { partners = Some at }) ≡ [] }
     ensures streams { (at : Finding) → word_text (record kept { streams = Some at }) ≡ [] }
     ensures grants { (at : Finding) → word_text (record kept { grants = Some at }) ≡ [] }
+    ensures sent { (at : Finding) → word_text (record kept { sent = Some at }) ≡ [] }
     ensures toward { (n : ℕ) → word_text (record kept { toward = Some n }) ≡ [] }
     ensures both { (at : Finding) (n : ℕ) → word_text (record kept { grants = Some at; unsuited = Some n }) ≡ [] }
 {}
 
 /// Places at which a part of a log isn't broken: partners are broken at two lives, the second one after the first, and
-/// streams, grants and closes at a life.
+/// streams, grants, what was sent, and closes at a life.
 pub fn worked_judged()
     ensures one { (n : ℕ) → NotSaid (record kept { partners = Some (finding.Life n) }) }
     ensures exchanged { (n : ℕ) → NotSaid (record kept { partners = Some (finding.Lives (n + 1) n) }) }
     ensures crossing { (n : ℕ) → NotSaid (record kept { streams = Some (finding.Crossing n) }) }
     ensures list { (n : ℕ) → NotSaid (record kept { grants = Some (finding.List n) }) }
+    ensures sent { (n : ℕ) → NotSaid (record kept { sent = Some (finding.Crossing n) }) }
     ensures match_past { IsNeverSaid matched_past }
 {}
 

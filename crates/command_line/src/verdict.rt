@@ -3,7 +3,7 @@
 ghost use Rattle.std.specs.Prelude.{◌≡◌, OnOk, false, true};
 ghost use Rattle.replay.specs.Failing.{TellsFailure};
 ghost use Rattle.std.specs.Io.KnownBytes.{Appends};
-ghost use Rattle.command_line.specs.Audits.{broken_text, closes_text, fates_text, found_text, is_kept, is_safe, lives_text, malformed_text, parts_text};
+ghost use Rattle.command_line.specs.Audits.{broken_text, closes_text, fates_text, found_text, is_kept, is_safe, lives_text, malformed_text, parts_text, sent_text};
 ghost use Rattle.command_line.specs.Audits.{run_text, toward_text, word_text};
 
 use crate::layout::Layout;
@@ -30,6 +30,9 @@ pub struct Verdict {
     pub streams: Option<Finding>,
     /// Where it shows that grants are broken; `None` where they are kept, or the book is malformed.
     pub grants: Option<Finding>,
+    /// Where it shows that a message which a life counts isn't the one with its number of a life that it matches; `None`
+    /// where each is, or the book is malformed.
+    pub sent: Option<Finding>,
     /// Where it shows that closes are broken; `None` where they are kept, or the book is malformed.
     pub closes: Option<Finding>,
     /// The place of the first life whose fate isn't one that what crossed leaves it, counted from 0; `None` where
@@ -60,6 +63,7 @@ impl Verdict {
             && self.partners.is_none()
             && self.streams.is_none()
             && self.grants.is_none()
+            && self.sent.is_none()
             && self.toward.is_none()
     }
 }
@@ -196,6 +200,28 @@ fn write_broken<W: Output>(
     }
 }
 
+/// Writes the lines where it shows that a message which a life counts isn't the one with its number of a life that it
+/// matches, if one isn't.
+///
+/// Errors: `WriteFailed`.
+fn write_sent<W: Output>(
+    layout: &Layout,
+    sent: Option<Finding>,
+    writer: &mut W,
+) -> Result<(), WriteFailed>
+    requires whole { W.failed writer.old ≡ false }
+    ensures written { OnOk result (Appends (W.contents writer.old) (W.contents writer.new) (sent_text layout.now sent)) }
+    ensures failed { TellsFailure result (W.failed writer.new) }
+{
+    match sent {
+        Some(found) => {
+            let lines = layout.program_lines(found);
+            writeln!(writer, "broken sent {lines}")
+        }
+        None => Ok(()),
+    }
+}
+
 /// Writes the lines where it shows that a life which its partner ended lost anything, if one did.
 ///
 /// Errors: `WriteFailed`.
@@ -259,7 +285,7 @@ fn write_toward<W: Output>(
     }
 }
 
-/// Writes a line for each part of a safe book that is broken, and for closes.
+/// Writes a line for each part of a safe book that is broken, for what was sent, and for closes.
 ///
 /// Errors: `WriteFailed`.
 fn write_parts<W: Output>(
@@ -275,6 +301,7 @@ fn write_parts<W: Output>(
     write_broken(layout, Part::Partners, found.partners, writer)?;
     write_broken(layout, Part::Streams, found.streams, writer)?;
     write_broken(layout, Part::Grants, found.grants, writer)?;
+    write_sent(layout, found.sent, writer)?;
     write_closes(layout, found.closes, writer)
 }
 

@@ -21,6 +21,7 @@ from dorydate.model.firsts import Data
 from dorydate.model.names import Flow, HostName, spell_flow, spell_host
 from dorydate.model.log import BadLog, Book, read_log
 from dorydate.model.mailboxes import Holds, Mailboxes, hosts_of
+from dorydate.explain.book import partners, sent as which_was_sent
 from dorydate.explain.faults import wrong_with_text, wrong_with_word
 from dorydate.given import shown
 from dorydate.where import here
@@ -240,6 +241,7 @@ def why_so(book: Book, verdict: str) -> str:
         "broken partners": why_partners,
         "broken streams": why_streams,
         "broken grants": why_grants,
+        "broken sent": why_sent,
         "broken closes": why_closes,
         "broken fates": why_fates,
         "broken toward": why_toward,
@@ -459,6 +461,12 @@ def why_grants(book: Book, numbers: list[int]) -> str:
     used = [(number, life_at(book, number)) for number in numbers]
     passed = [f"line {number} {'took' if it.receives() else 'sent'} {counted(it.messages, 'message')} with {counted(len(it.bits), 'bit')}" for number, it in used]
     return f"{left}: at most {max(messages, 0)} with {counted(max(bits, 0), 'bit')} may pass. But {' and '.join(passed)}."
+
+
+def why_sent(book: Book, numbers: list[int]) -> str:
+    """Which of the messages that a life counts isn't the one with its number of a life that it matches."""
+    life = life_at(book, numbers[0])
+    return which_was_sent(book, life, partners(book, life))
 
 
 def why_closes(book: Book, numbers: list[int]) -> str:

@@ -19,8 +19,9 @@ from dorydate.model.log import BadLog, Book, LogReader
 from dorydate.model.mailboxes import Mailboxes, first_break, hosts_of
 from dorydate.model.names import HostName
 from dorydate.model.runs import End
+from dorydate.model.was_sent import WasSent
 
-LIVES = [*PARTS[1:], "closes"]  # the parts that are about lives
+LIVES = [*PARTS[1:], "sent", "closes"]  # the parts that are about lives
 OF_ENDS = "broken closes ", "broken fates "  # what is promised of this program only
 T = TypeVar("T")
 
@@ -39,6 +40,7 @@ class Judge:
     mailboxes: type[Mailboxes] = Mailboxes
     firsts: type[Firsts] = Firsts
     fates: type[Fates] = Fates
+    was_sent: type[WasSent] = WasSent
 
     def says(self, octets: bytes) -> str:
         """What is to be said of a log, with the lines at which it is bad, malformed or broken."""
@@ -89,7 +91,7 @@ class Judge:
         return None if found is None else f"broken fates line {self.line(book, places[found - 1])}"
 
     def of_book(self, book: Book) -> list[str | None]:
-        """What is wrong with a book. Partners, streams, grants and closes are about requests, so they are judged where each stamp names one."""
+        """What is wrong with a book. Partners, streams, grants, sent and closes are about requests, so they are judged where each stamp names one."""
         found = [self.of_form(book), self.of_messages(book)]
         return found if found[0] else [*found, *(self.of_part(part, book) for part in LIVES)]
 
@@ -212,7 +214,7 @@ class Judge:
 
     def fails(self, part: str, log: Log, lives: Lives, life: Life) -> bool:
         """Whether a part fails at a life."""
-        fails = {"streams": self.stream_fails, "grants": self.grant_fails, "closes": self.close_fails}
+        fails = {"streams": self.stream_fails, "grants": self.grant_fails, "sent": self.sent_fails, "closes": self.close_fails}
         return fails[part](log, lives, life)
 
     def stream_fails(self, log: Log, lives: Lives, life: Life) -> bool:
@@ -225,6 +227,10 @@ class Judge:
         """A receiving life took more than it granted, or its sender sent more."""
         passed = [life, *(it for it in lives if match(log, life, it))] if life.receives() else []
         return not all(is_granted(life, it.messages, len(it.bits)) for it in passed)
+
+    def sent_fails(self, log: Log, lives: Lives, life: Life) -> bool:
+        """A receiving life counts a message that isn't, with its number, one that a life counts which it matches."""
+        return life.receives() and not self.was_sent().is_kept(log, lives, life)
 
     def close_fails(self, log: Log, lives: Lives, life: Life) -> bool:
         """A receiving life that its partner ended took less than a life sent that it matches, or than was handed over there."""

@@ -212,7 +212,7 @@ BrokenLog = tuple[int, bytes, bytes, str, str]
 BROKEN_LOGS: list[BrokenLog] = [
     (13, b"4849", b"4848", "broken lives line 13\nbroken streams lines 13 14", "Line 13 took what line 14 didn't send: at octet 2 what was taken has 48, and what was sent has 49."),
     (16, b"24 484950", b"8 48", "broken streams line 14", "what wasn't handed over in line 16: what was sent has 16 bits, and what was handed over has 8."),
-    (14, b"0/1 16 3", b"0/1 18 3", "broken lives line 14\nbroken streams line 13", "It took 16 bits, and no life matches it. That would be one of host 0/2, socket 33"),
+    (14, b"0/1 16 3", b"0/1 18 3", "broken lives line 14\nbroken streams line 13\nbroken sent line 13", "It took 16 bits, and no life matches it. That would be one of host 0/2, socket 33"),
     (13, b"100", b"15", "broken grants lines 13 14", "at most 1 with 15 bits may pass. But line 13 took 1 message with 16 bits and line 14 sent 1 message with 16 bits."),
     (13, b"0 0 open", b"0 85 open", "broken grants lines 13 14", "had 0 and 85 back: at most 1 with 15 bits may pass"),
     (13, b"open", b"ended", "broken closes lines 13 14\n" + SAFE_13, "all that was handed over in line 16, but octet 3 of what was handed over, 50, was not taken: what was taken has 16 bits, and what was handed over has 24."),

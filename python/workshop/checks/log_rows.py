@@ -12,7 +12,7 @@ from collections.abc import Iterator
 from workshop.checks import stranger_rows
 from workshop.parts import ROOT, text_of
 
-PAGE = text_of(f"{ROOT}/docs/audit.md")
+PAGE, OLD = (text_of(f"{ROOT}/{it}") for it in ("docs/audit.md", "logs/an-old-message"))
 # the log of that page without its ALL, of which the audit reads nothing
 LINES = text_of(f"{ROOT}/logs/two-octets").splitlines(keepends=True)
 SHORT = "".join(LINES[:6] + LINES[9:])
@@ -157,13 +157,13 @@ FATES = [
 ]
 
 
-def late(crossed: str, receiver: str, sender: str, named: int) -> tuple[str, str]:
+def late(crossed: str, receiver: str, sender: str, named: int, sent: str = "") -> tuple[str, str]:
     """The short log, where this crosses before its data, its lives with these fates, and which is the first that counts
-    them too late."""
+    them too late; and what is said of the messages that were sent."""
     crossings = f"{ASKS}{OFFERS}{crossed}{DATA}"
     lives = f"{RECEIVER.replace('open', receiver)}\n{SENDER.replace('open', sender)}\n"
     wanted = f"broken lives line {crossings.count(LINE_FEED) + named}" if named else "kept"
-    return f"{crossings}{lives}{ALL_TAKEN}end\n", wanted
+    return f"{crossings}{lives}{ALL_TAKEN}end\n", wanted + sent
 
 
 def contacted(words: str, named: int, between: str = "", peer: str = "0/2", after: str = "") -> tuple[str, str]:
@@ -234,7 +234,7 @@ LATE = [
     late("down 0/1\nup 0/1\n", "stopped", "open", 1),
     late(RST + RRP_BACK, "reset", "reset", 1),
     late(OWN_FAILS, "reset", "open", 1),
-    late(FAILS, "open", "reset", 2),
+    late(FAILS, "open", "reset", 2, "\nbroken sent lines 12 13"),  # the one that failed is the sender's first
     late(BOTH_CLS, "ended", "closed", 1),
     # after one CLS it may count more, and after what happens to others
     late(control("0/2", "0/1", CLS_BACK), "open", "open", 0),
@@ -249,6 +249,7 @@ FATES_10, FATES_11 = "broken fates line 10", "broken fates line 11"
 RFNM = "answer rfnm 0/2 0/1 5\n"
 SAFE_10, SAFE_11 = f"{FATES_10}\nsafe", f"{FATES_11}\nsafe"
 CLOSES = "broken closes lines 10 11\n" + FATES_10
+ALONE = "broken streams line 10\nbroken sent line 10"  # of a life that took something, and matches none
 VERDICTS = [
     ("", "", "kept"),
     # what isn't promised
@@ -303,14 +304,14 @@ VERDICTS = [
     # partners
     (f"{SENDER}\n{LIST}", f"{SENDER}\n{RECEIVER}\n{LIST}{LIST}", "broken partners lines 10 12\nbroken streams line 11"),
     (f"{SENDER}\n{LISTS}", f"{SENDER}\n{SENDER}\n{LISTS}handed 24 484950\n", "broken partners lines 11 12"),
-    ("33 0/1 16 3 1", "33 0/1 18 3 1", "broken lives line 11\nbroken streams line 10"),
+    ("33 0/1 16 3 1", "33 0/1 18 3 1", f"broken lives line 11\n{ALONE}"),
     # streams
     ("open 4849\nlife", "open 4848\nlife", "broken lives line 10\nbroken streams lines 10 11"),
     ("receive 1 16 1 100 0 0 open 4849", "receive 1 17 1 100 0 0 open 484900", "broken lives line 10\nbroken streams lines 10 11"),
     ("handed 24 484950", "handed 15 4848", "broken streams line 11"),
     ("handed 24 484950", "handed 0 -", "broken streams line 11"),
     ("send 1 16 0 0 0 0 open 4849", "send 1 17 0 0 0 0 open 484980", "broken lives line 11\nbroken streams line 11"),
-    (f"{SENDER}\n{LISTS}", LIST, "broken streams line 10"),
+    (f"{SENDER}\n{LISTS}", LIST, ALONE),
     # grants
     ("receive 1 16 1 100", "receive 1 16 1 15", "broken grants lines 10 11"),
     ("receive 1 16 1 100", "receive 1 16 0 100", "broken grants lines 10 11"),
@@ -329,11 +330,11 @@ VERDICTS = [
     (DATA + BOTH, f"{NONE_ENDED}\n{NONE_SENT}\n{LISTS}", "broken closes lines 7 8\nbroken fates line 7\nsafe"),
     (DATA + BOTH, f"{NONE_ENDED}\n{NONE_SENT}\n{LIST}{LIST}", "broken fates line 7\nsafe"),
     (BOTH, f"{SENDER}\n{ENDED}\n{LISTS_TURNED}", "broken closes lines 11 10\n" + SAFE_11),
-    (BOTH, f"{ENDED}\n{LIST}", "broken streams line 10\n" + FATES_10),
+    (BOTH, f"{ENDED}\n{LIST}", f"{ALONE}\n{FATES_10}"),
     (BOTH, f"{NONE_ENDED}\n{LIST}", SAFE_10),
     (BOTH, f"{ENDED.replace('receive 1', 'receive 0')}\n{SENDER}\n{ALL_TAKEN}", "broken lives line 10\n" + CLOSES),
     (BOTH, f"{ENDED}\n{SENDER.replace('4849', '4848')}\n{ALL_TAKEN.replace('4849', '4848')}", "broken lives line 11\nbroken streams lines 10 11\n" + CLOSES),
-    (BOTH, f"{ENDED}\n{SENDER.replace('33 0/1 16', '33 0/1 18')}\n{LISTS}", "broken lives line 11\nbroken streams line 10\n" + FATES_10),
+    (BOTH, f"{ENDED}\n{SENDER.replace('33 0/1 16', '33 0/1 18')}\n{LISTS}", f"broken lives line 11\n{ALONE}\n{FATES_10}"),
     (BOTH, f"{ENDED}\n{SENDER}\n{SENDER}\n{LIST}handed 16 4849\nhanded 24 484950\n", "broken partners lines 11 12\n" + CLOSES),
     (BOTH, f"{ENDED}\n{ENDED}\n{SENDER}\n{LIST}{LISTS}", "broken partners lines 10 11\nbroken closes lines 10 12\n" + FATES_10),
     (BOTH, f"{ENDED}\n{NONE_ENDED}\n{SENDER}\n{LIST}{ALL_TAKEN}", "broken partners lines 10 11\nbroken closes lines 11 12\n" + FATES_10),
@@ -355,6 +356,19 @@ VERDICTS = [
     ("0/2 0/1 5\nlife 0/1", "0/2 0/1 6\nlife 0/1", "broken run line 9\nbroken messages line 9"),
     # two senders of one life are odd partners, and its stream is that of either
     (BOTH, f"{RECEIVER}\n{SENDER.replace('4849', '4848')}\n{SENDER}\n{LISTS}handed 24 484950\n", "broken lives line 11\nbroken partners lines 11 12\nbroken streams line 11"),
+]
+
+# ---- the log of a message of before a reset that is taken after it, with a text changed, and the verdict
+
+TAKES_TWO, SENDS_TWO = OLD.splitlines()[27:29]
+SENT = [
+    ("", "", "broken sent lines 28 29"),
+    # the first alone isn't the sender's first, and none is counted
+    (TAKES_TWO, TAKES_TWO.replace("2 16 9", "1 8 9").replace("5858", "58"), "broken sent lines 28 29"),
+    (TAKES_TWO, TAKES_TWO.replace("2 16 9", "0 0 9").replace("5858", "-"), "kept"),
+    # whichever line is first, the receiver's is named first; and alone where its sender isn't there
+    (f"{TAKES_TWO}\n{SENDS_TWO}", f"{SENDS_TWO}\n{TAKES_TWO}", "broken streams line 28\nbroken sent lines 29 28"),
+    (SENDS_TWO, SENDS_TWO.replace("0/1 16 16", "0/1 18 16"), "broken lives line 29\nbroken streams line 28\nbroken sent line 28"),
 ]
 
 # ---- logs of one line and `end`, and the verdict; those that are bad
@@ -452,6 +466,7 @@ def rows() -> Iterator[tuple[bytes, str]]:
         if text not in SHORT:
             raise ValueError(f"the short log has no {text}")
         yield SHORT.replace(text, other, 1).encode(), wanted
+    yield from ((OLD.replace(text, other, 1).encode(), wanted) for text, other, wanted in SENT)
     yield from ((text.encode(), wanted) for text, wanted in [*FATES, *CONTACTED, *LATE])
     for wanted, lines in LINES.items():
         yield from ((f"{line}\nend\n".encode(), wanted) for line in lines)

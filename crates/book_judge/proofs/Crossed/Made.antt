@@ -51,7 +51,7 @@ both_made log x link until true has enough = (has, enough)
 both_made log x link until false has not = λ is. not is.1
 
 -- those that crossed before a place
-older_texts : (log : List Crossing) (x : Life) (link until : ℕ) → link_of (reverse log) x ≡ Some link
+pub older_texts : (log : List Crossing) (x : Life) (link until : ℕ) → link_of (reverse log) x ≡ Some link
     → length (texts_on x (link_of (reverse log) x) (before until (reverse log)))
     ≡ length (texts_by (receives x) (flow_of x link) (drop (since x) (take until log)))
 older_texts log x link until e =

@@ -39,14 +39,14 @@ texts_append comes f (c ∷ xs) ys =
     ap (λ (zs : List (List Bool)). text_of comes f c ++ zs) (texts_append comes f xs ys)
     ∙ sym (append_assoc (text_of comes f c) (texts_by comes f xs) (texts_by comes f ys))
 
-both_below : (a b n : ℕ) → (nat_lt a n && nat_lt b n) ≡ true → max a b + 1 ≤ n
+pub both_below : (a b n : ℕ) → (nat_lt a n && nat_lt b n) ≡ true → max a b + 1 ≤ n
 both_below a b n e =
     let t = and_true (nat_lt a n) (nat_lt b n) e in
     let x : a < n = ltb-true a n t.0 in
     let y : b < n = ltb-true b n t.1 in
     omega (arith, x, y)
 
-one_above : (a b n : ℕ) → (nat_lt a n && nat_lt b n) ≡ false → n ≤ max a b
+pub one_above : (a b n : ℕ) → (nat_lt a n && nat_lt b n) ≡ false → n ≤ max a b
 one_above a b n e = by (nat_lt a n) (nat_lt b n) refl refl e where
   by : (s t : Bool) → nat_lt a n ≡ s → nat_lt b n ≡ t → (s && t) ≡ false → n ≤ max a b
   by true true p q e = absurd (cc)

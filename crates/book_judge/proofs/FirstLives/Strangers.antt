@@ -102,7 +102,7 @@ no_kind : (n : ℕ) → (n == 0) ≡ true → (n == 1) ≡ true → ⊥
 no_kind n p q = let none : n ≡ 0 = eqb-true n 0 p in let one : n ≡ 1 = eqb-true n 1 q in omega (arith, none, one)
 
 -- one that receives doesn't send
-one_kind : (x : Life) → receives x ≡ true → sends x ≡ true → ⊥
+pub one_kind : (x : Life) → receives x ≡ true → sends x ≡ true → ⊥
 one_kind x comes goes = no_kind (x.socket % 2) comes goes
 
 pub toward_taken : (strange : Host → Bool) (x : Life) (text : List Bool) (r : Bool) → strange x.host ≡ false

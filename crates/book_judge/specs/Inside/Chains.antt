@@ -9,6 +9,7 @@ use Rattle.promise.specs.declared.life.Fate.{Fate}
 use Rattle.promise.specs.declared.life.Fate.TheVariants as fate
 use Rattle.promise.specs.declared.life.Life.{Life}
 use Rattle.book_judge.specs.Inside.Asked.{key, same_name}
+use Rattle.book_judge.specs.Inside.Starts.{counts_of}
 use Rattle.book_judge.specs.declared.sought.Sought.{Sought}
 use Rattle.book_judge.specs.declared.sought.Sought.TheVariants as sought
 
@@ -66,11 +67,13 @@ TookAll x y handed = (x.bits ≡ y.bits) × (x.messages ≡ y.messages) × (x.bi
 abbrev pub LosesOf : Life → Life → List (List Bool) → ℕ → Type 0
 LosesOf x y handed i = (h : List Bool) × (slice_get handed i ≡ Some h) × (TookAll x y h → ⊥)
 
--- what a sending life is looked for by: that it sent what the receiving one took, more than that granted, or something that it lost
+-- what a sending life is looked for by: that it sent what the receiving one took, more than that granted, or something that it lost;
+-- or that it counts a message as that does
 abbrev pub Meets : Sought → Life → Life → ℕ → Type 0
 Meets sought.Source x y i = IsPrefix x.bits y.bits
 Meets sought.Excess x y i = is_granted x y.messages (length y.bits) ≡ false
 Meets (sought.Loss handed) x y i = LosesOf x y handed.now i
+Meets (sought.Sender starts taking) x y i = counts_of (slice_get starts.now i) y taking ≡ true
 
 -- such a life at a place fits a receiving one, with its partner's request
 abbrev pub SoughtAt : Sought → Name → Life → List Name → List Life → ℕ → Type 0

@@ -93,3 +93,15 @@ NumberBy None n f was is =
 
 abbrev pub HasNumber : ℕ → Flow → Joined → Joined → Type 0
 HasNumber n f was is = NumberBy (map.get was.numbers f) n f was is
+
+-- ---- numbers
+
+-- the message of a flow with this number crosses at a place: so many crossed before it
+abbrev pub IsNth : Bool → Flow → List Crossing → ℕ → ℕ → Type 0
+IsNth comes f log n place =
+    (place < length log) × (length (texts_by comes f (take place log)) ≡ n) × (length (texts_by comes f (take (suc place) log)) ≡ suc n)
+
+-- where it is, or that there are no more
+abbrev pub PlaceOf : Bool → Flow → List Crossing → ℕ → Option ℕ → Type 0
+PlaceOf comes f log n None = length (texts_by comes f log) ≤ n
+PlaceOf comes f log n (Some place) = IsNth comes f log n place

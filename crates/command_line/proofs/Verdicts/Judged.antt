@@ -2,7 +2,7 @@
 use Rattle.command_line.proofs.Common.{◌≡◌, ℕ, Bool, true, false, List, ◌++◌, Option, Some, None, IfSome, Result, Ok, Err, MatchResult, OnOk, ap, codes, refl, sym, ◌∙◌, subst, false≢true, append_assoc, Appends, Keeps, IsLog, fates_of, lives_of, Crossing, Fate, Life, AuditsLog, IsAuditFault, IsBookFault, IsSomeLog, Judged, SaysOf, Finding, Verdict, AuditFault}
 use Rattle.book_log.specs.Log.{Book}
 use Rattle.interface.specs.Host.{Host, is_host}
-use Rattle.command_line.specs.Audits.{Audited, IsLogReadFault, Layout, closes_text, life_at, lines_of, lines_text}
+use Rattle.command_line.specs.Audits.{Audited, IsLogReadFault, Layout, closes_text, life_at, lines_of, lines_text, sent_text}
 use Rattle.command_line.specs.Audits.{toward_text, verdict_text}
 use Rattle.std.specs.Fmt.{decimal}
 use Rattle.std.specs.Prelude.{[]}
@@ -65,6 +65,15 @@ pub closes_told : {T E : Type 0} (r : Result T E) (layout : Layout) (o : Option 
 closes_told r layout o found l before after e f h =
     subst (λ (q : Option Finding). OnOk r (Appends before after (closes_text layout q))) (sym e)
     (subst (λ (k : Lines). OnOk r (Appends before after (codes "broken closes " ++ (lines_text k ++ codes "\n")))) f h)
+
+-- of what was sent
+pub sent_told : {T E : Type 0} (r : Result T E) (layout : Layout) (o : Option Finding) (found : Finding) (l : Lines)
+    (before after : Option (List ℕ)) → o ≡ Some found → l ≡ lines_of layout layout.among found
+    → OnOk r (Appends before after (codes "broken sent " ++ (lines_text l ++ codes "\n")))
+    → OnOk r (Appends before after (sent_text layout o))
+sent_told r layout o found l before after e f h =
+    subst (λ (q : Option Finding). OnOk r (Appends before after (sent_text layout q))) (sym e)
+    (subst (λ (k : Lines). OnOk r (Appends before after (codes "broken sent " ++ (lines_text k ++ codes "\n")))) f h)
 
 -- and of a life toward a stranger, by its line
 pub toward_told : {T E : Type 0} (r : Result T E) (layout : Layout) (o : Option ℕ) (place line : ℕ)

@@ -8,7 +8,8 @@ use Rattle.book_log.specs.Log.{Book}
 use Rattle.interface.specs.Host.{Host, is_host}
 use Rattle.command_line.specs.Audits.{IsSafeLog, KeepsEnds, is_safe, keeps_ends}
 use Rattle.command_line.proofs.Verdicts.Named.{closes_named, fates_named, formed_named, grants_named, lives_named}
-use Rattle.command_line.proofs.Verdicts.Named.{messages_named, partners_named, run_named, streams_named, toward_named}
+use Rattle.command_line.proofs.Verdicts.Named.{messages_named, partners_named, run_named, sent_named, streams_named}
+use Rattle.command_line.proofs.Verdicts.Named.{toward_named}
 
 none_is : {X : Type 0} (r : Option X) → is_none r ≡ true → r ≡ None
 none_is None e = refl
@@ -29,12 +30,14 @@ record NoneNamed (v : Verdict) : Type 0 where
   partners : v.partners ≡ None
   streams : v.streams ≡ None
   grants : v.grants ≡ None
+  sent : v.sent ≡ None
   toward : v.toward ≡ None
 
 none_named : (v : Verdict) → is_safe v ≡ true → NoneNamed v
 none_named v e =
     let whole = and_true _ (is_none v.toward) e in
-    let last = and_true _ (is_none v.grants) whole.0 in
+    let eighth = and_true _ (is_none v.sent) whole.0 in
+    let last = and_true _ (is_none v.grants) eighth.0 in
     let sixth = and_true _ (is_none v.streams) last.0 in
     let fifth = and_true _ (is_none v.partners) sixth.0 in
     let fourth = and_true _ (is_none v.messages) fifth.0 in
@@ -48,6 +51,7 @@ none_named v e =
       partners = none_is v.partners fifth.1;
       streams = none_is v.streams sixth.1;
       grants = none_is v.grants last.1;
+      sent = none_is v.sent eighth.1;
       toward = none_is v.toward whole.1;
     }
 
@@ -55,7 +59,7 @@ safe_unnamed : (v : Verdict) → NoneNamed v → is_safe v ≡ true
 safe_unnamed v n =
     rw (is_none_of v.stray n.stray, is_none_of v.unmade n.unmade, is_none_of v.malformed n.malformed)
     (rw (is_none_of v.messages n.messages, is_none_of v.partners n.partners, is_none_of v.streams n.streams)
-    (rw (is_none_of v.grants n.grants, is_none_of v.toward n.toward) refl))
+    (rw (is_none_of v.grants n.grants, is_none_of v.sent n.sent, is_none_of v.toward n.toward) refl))
 
 pub safe_said : (hosts : List Host) (b : Book) (v : Verdict) → SaysOf v hosts b → (is_safe v ≡ true) ↔ IsSafeLog hosts b
 safe_said hosts b v j =
@@ -73,6 +77,7 @@ safe_said hosts b v j =
             partners = (partners_named v strange log lives b.handed fates j n.malformed).0 n.partners;
             streams = (streams_named v strange log lives b.handed fates j n.malformed).0 n.streams;
             grants = (grants_named v strange log lives b.handed fates j n.malformed).0 n.grants;
+            sent = (sent_named v strange log lives b.handed fates j n.malformed).0 n.sent;
             toward = (toward_named v strange log lives b.handed fates j n.malformed).0 n.toward;
           }),
       λ s. (
@@ -85,6 +90,7 @@ safe_said hosts b v j =
             partners = (partners_named v strange log lives b.handed fates j none).1 s.partners;
             streams = (streams_named v strange log lives b.handed fates j none).1 s.streams;
             grants = (grants_named v strange log lives b.handed fates j none).1 s.grants;
+            sent = (sent_named v strange log lives b.handed fates j none).1 s.sent;
             toward = (toward_named v strange log lives b.handed fates j none).1 s.toward;
           })),
     )

@@ -7,7 +7,7 @@ use Rattle.std.proofs.Common.{MatchOption}
 use Rattle.std.specs.Prelude.{◌↔◌}
 use Rattle.std.proofs.lemmas.List.{take-append-drop}
 use Rattle.std.proofs.lemmas.List.Elements.{Contains-append_left}
-use Rattle.book_judge.specs.Broken.{IfFormed, first_closed}
+use Rattle.book_judge.specs.Broken.{IfFormed, first_closed, first_sent}
 use Rattle.book_judge.specs.Fates.{UnsuitedAt}
 use Rattle.book_judge.specs.Lives.{UnmadeAt}
 use Rattle.book_judge.specs.Runs.{StraysAt}
@@ -16,6 +16,7 @@ use Rattle.book_judge.specs.Toward.{AreToward, UntowardAt}
 use Rattle.interface.specs.Host.{Host}
 use Rattle.mixed_worlds.specs.Book.{beside_among, lives_among}
 use Rattle.promise.specs.Safe.{SafeBook}
+use Rattle.world_keeps_streams.specs.Sent.{EachWasSent}
 use Rattle.command_line.proofs.Verdicts.Among.{formed_among}
 use Rattle.interface.proofs.lemmas.{safe_messages}
 use Rattle.interface.specs.declared.crossing.Answer.TheVariants as answer
@@ -124,6 +125,11 @@ shown_grants found log lives g h =
       sent = λ x y c d m. g.sent x y (contains_front (h.place + 1) lives x c) d m;
     })
 
+shown_sent : (found : Finding) (log : List Crossing) (lives : List Life) → EachWasSent log lives
+    → ShowsLife (first_sent log lives) found log lives → ⊥
+shown_sent found log lives each h =
+    h.first.1 (λ x p m there comes crossed c. each x p m (contains_front (h.place + 1) lives x there) comes crossed c)
+
 shown_closes : (found : Finding) (log : List Crossing) (lives : List Life) (handed : List (List Bool)) (fates : List Fate)
     → ClosesWhole log lives handed fates → ShowsLife (first_closed log lives handed fates) found log lives → ⊥
 shown_closes found log lives handed fates w h = h.first.1 (closed_front log lives handed fates (h.place + 1) w)
@@ -210,6 +216,16 @@ grants_named v strange log lives handed fates j e =
     (λ found g h. shown_grants found (reverse log) xs g h)
     (looked_at v.malformed v.grants (SafeGrants (reverse log) xs) (λ found. ShowsLife (first_granted (reverse log) xs) found (reverse log) xs) e j.grants)
 
+pub sent_named : (v : Verdict) (strange : Host → Bool) (log : List Crossing) (lives : List Life)
+    (handed : List (List Bool)) (fates : List Fate)
+    → Judged v strange log lives handed fates → v.malformed ≡ None
+    → (v.sent ≡ None) ↔ EachWasSent (reverse log) (lives_among strange lives)
+sent_named v strange log lives handed fates j e =
+    let xs : List Life = some strange lives in
+    unnamed v.sent (λ found. ShowsLife (first_sent (reverse log) xs) found (reverse log) xs)
+    (λ found each h. shown_sent found (reverse log) xs each h)
+    (looked_at v.malformed v.sent (EachWasSent (reverse log) xs) (λ found. ShowsLife (first_sent (reverse log) xs) found (reverse log) xs) e j.sent)
+
 pub closes_named : (v : Verdict) (strange : Host → Bool) (log : List Crossing) (lives : List Life)
     (handed : List (List Bool)) (fates : List Fate)
     → Judged v strange log lives handed fates → v.malformed ≡ None
@@ -262,10 +278,11 @@ pub kept_from_safe : (strange : Host → Bool) (log : List Crossing) (lives : Li
     → IsSomeRun (reverse log) → AreMade (reverse log) (lives_among strange lives)
     → IsWellFormed (reverse log) lives handed
     → SafeBook (reverse log) (lives_among strange lives) (beside_among strange lives handed)
+    → EachWasSent (reverse log) (lives_among strange lives)
     → ClosesWhole (reverse log) (lives_among strange lives) (beside_among strange lives handed) (beside_among strange lives fates)
     → AreSuited (reverse log) (lives_among strange lives) (beside_among strange lives fates)
     → AreToward strange lives handed → Judged kept strange log lives handed fates
-kept_from_safe strange log lives handed fates run made formed safe closes suited toward = record {
+kept_from_safe strange log lives handed fates run made formed safe sent closes suited toward = record {
   run = run;
   made = made;
   formed = formed;
@@ -273,6 +290,7 @@ kept_from_safe strange log lives handed fates run made formed safe closes suited
   partners = safe.partners;
   streams = record { source = safe.streams.source; sent = safe.streams.sent };
   grants = safe.grants;
+  sent = sent;
   closes = closes;
   suited = suited;
   toward = toward;
@@ -316,7 +334,8 @@ only_kept v strange log lives handed fates k j =
     let partners : v.partners ≡ None = (partners_named v strange log lives handed fates j malformed).1 k.partners in
     let streams : v.streams ≡ None = (streams_named v strange log lives handed fates j malformed).1 k.streams in
     let grants : v.grants ≡ None = (grants_named v strange log lives handed fates j malformed).1 k.grants in
+    let sent : v.sent ≡ None = (sent_named v strange log lives handed fates j malformed).1 k.sent in
     let closes : v.closes ≡ None = (closes_named v strange log lives handed fates j malformed).1 k.closes in
     let unsuited : v.unsuited ≡ None = (fates_named v strange log lives handed fates j).1 k.suited in
     let toward : v.toward ≡ None = (toward_named v strange log lives handed fates j malformed).1 k.toward in
-    (λ i. record { stray = stray i; unmade = unmade i; malformed = malformed i; messages = messages i; partners = partners i; streams = streams i; grants = grants i; closes = closes i; unsuited = unsuited i; toward = toward i })
+    (λ i. record { stray = stray i; unmade = unmade i; malformed = malformed i; messages = messages i; partners = partners i; streams = streams i; grants = grants i; sent = sent i; closes = closes i; unsuited = unsuited i; toward = toward i })

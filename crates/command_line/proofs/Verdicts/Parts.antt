@@ -2,12 +2,13 @@
 use Rattle.command_line.proofs.Common.{◌≡◌, ℕ, Bool, List, Option, Some, None, ap, refl, subst, AreSuited, IsSomeRun}
 use Rattle.command_line.proofs.Common.{SafeMessages, Crossing, ClosesWhole, Fate, Host, Judged, Life, Finding, Verdict}
 use Rattle.std.proofs.Common.{MatchOption, reverse}
-use Rattle.book_judge.specs.Broken.{IfFormed, first_closed}
+use Rattle.book_judge.specs.Broken.{IfFormed, first_closed, first_sent}
 use Rattle.book_judge.specs.Fates.{UnsuitedAt}
 use Rattle.book_judge.specs.Lives.{AreMade, UnmadeAt}
 use Rattle.book_judge.specs.Runs.{StraysAt}
 use Rattle.book_judge.specs.Toward.{AreToward, UntowardAt}
 use Rattle.book_judge.specs.declared.broken.Broken.{Broken}
+use Rattle.world_keeps_streams.specs.Sent.{EachWasSent}
 use Rattle.mixed_worlds.specs.Book.{beside_among, lives_among}
 use Rattle.net_sim.specs.Audit.{IsWellFormed}
 use Rattle.net_sim.specs.Findings.{AreFed, ShowsCrossing, ShowsLife, ShowsMalformed, ShowsTwo, first_fed, first_granted}
@@ -24,6 +25,8 @@ pub record Parts (malformed : Option Finding) (b : Broken) (log : List Crossing)
       (λ found. ShowsLife (first_fed log lives handed) found log lives)
   pub grants : IfFormed malformed b.grants (SafeGrants log lives)
       (λ found. ShowsLife (first_granted log lives) found log lives)
+  pub sent : IfFormed malformed b.sent (EachWasSent log lives)
+      (λ found. ShowsLife (first_sent log lives) found log lives)
   pub closes : IfFormed malformed b.closes (ClosesWhole log lives handed fates)
       (λ found. ShowsLife (first_closed log lives handed fates) found log lives)
 
@@ -36,12 +39,14 @@ parts_of None b log lives handed fates formed is =
       partners = looked_at b.malformed b.partners (SafePartners log lives) (λ found. ShowsTwo found log lives) none is.partners;
       streams = looked_at b.malformed b.streams (AreFed log lives lives handed) (λ found. ShowsLife (first_fed log lives handed) found log lives) none is.streams;
       grants = looked_at b.malformed b.grants (SafeGrants log lives) (λ found. ShowsLife (first_granted log lives) found log lives) none is.grants;
+      sent = looked_at b.malformed b.sent (EachWasSent log lives) (λ found. ShowsLife (first_sent log lives) found log lives) none is.sent;
       closes = looked_at b.malformed b.closes (ClosesWhole log lives handed fates) (λ found. ShowsLife (first_closed log lives handed fates) found log lives) none is.closes;
     }
 parts_of (Some found) b log lives handed fates formed is = record {
   partners = ap (λ (x : Broken). x.partners) is;
   streams = ap (λ (x : Broken). x.streams) is;
   grants = ap (λ (x : Broken). x.grants) is;
+  sent = ap (λ (x : Broken). x.sent) is;
   closes = ap (λ (x : Broken). x.closes) is;
 }
 
@@ -61,6 +66,7 @@ verdict_of stray unmade malformed messages b unsuited toward = record {
   partners = b.partners;
   streams = b.streams;
   grants = b.grants;
+  sent = b.sent;
   closes = b.closes;
   unsuited = unsuited;
   toward = toward;
@@ -102,6 +108,7 @@ found_judged strange stray unmade malformed messages b unsuited toward log lives
       partners = all.partners;
       streams = all.streams;
       grants = all.grants;
+      sent = all.sent;
       closes = all.closes;
       suited = f.suited;
       toward = f.to;

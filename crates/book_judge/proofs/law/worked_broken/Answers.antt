@@ -18,11 +18,12 @@ returns-clause-whole c = record {
   };
   streams = record { source = λ x there r some. absurd (contains_none x there); sent = refl };
   grants = record { taken = λ x there r. absurd (contains_none x there); sent = λ x y there other m. absurd (contains_none x there) };
+  sent = λ x place m there receiving crossed counted. absurd (contains_none x there);
   closes = record { took_sent = λ x y beside there m. absurd beside; took_handed = λ x y text beside there m. absurd beside };
 }
 
 pub returns-clause-list : goal.returns-clause-list
-returns-clause-list c = λ h. record { formed = (omega arith, refl); partners = refl; streams = refl; grants = refl; closes = refl }
+returns-clause-list c = λ h. record { formed = (omega arith, refl); partners = refl; streams = refl; grants = refl; sent = refl; closes = refl }
 
 pub returns-clause-no_life : goal.returns-clause-no_life
 returns-clause-no_life c = λ h n b. elim b.formed [

@@ -14,6 +14,7 @@ use Rattle.net_sim.specs.Book.{Kept}
 use Rattle.net_sim.specs.Handed.{AreUnhanded}
 use Rattle.net_sim.specs.MixedWorlds.{strange_in}
 use Rattle.promise.specs.Safe.{SafeBook}
+use Rattle.world_keeps_streams.specs.Sent.{EachWasSent}
 use Rattle.topology.specs.declared.network.CarrierKind.TheVariants as kind
 use Rattle.command_line.specs.Audits.{IsKeptLog}
 use Rattle.command_line.specs.MixedLogs.{LoggedEither, MixedLogsFrom, MixedLogsOver}
@@ -45,6 +46,7 @@ judged {C} strange hosts w among toward lists =
     (twice (λ (cs : List Crossing). IsWellFormed cs k.book.lives k.handed) log
     (well_formed log k.book.lives k.handed toward.messages lists toward.asked))
     (twice (λ (cs : List Crossing). SafeBook cs some texts) log among.safe)
+    (twice (λ (cs : List Crossing). EachWasSent cs some) log among.sent)
     (twice (λ (cs : List Crossing). ClosesWhole cs some texts told) log
     (subst (λ (fs : List Fate). ClosesWhole log some texts fs) same (closes_logged log some texts ends among.whole)))
     (twice (λ (cs : List Crossing). AreSuited cs some told) log

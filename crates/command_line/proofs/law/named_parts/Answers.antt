@@ -5,7 +5,7 @@ use Rattle.book_log.specs.Log.{fates_of, lives_of}
 use Rattle.book_judge.proofs.lemmas.{made_formed}
 use Rattle.command_line.proofs.Verdicts.Named.{closes_named, fates_named, formed_named, grants_named, lives_named}
 use Rattle.command_line.proofs.Verdicts.Named.{messages_named, only_kept, partners_named, run_named, safe_from_kept}
-use Rattle.command_line.proofs.Verdicts.Named.{streams_named, toward_named}
+use Rattle.command_line.proofs.Verdicts.Named.{sent_named, streams_named, toward_named}
 use Rattle.command_line.proofs.law.named_parts.Goals as goal
 
 pub returns-clause-run : goal.returns-clause-run
@@ -40,6 +40,10 @@ returns-clause-streams c =
 pub returns-clause-grants : goal.returns-clause-grants
 returns-clause-grants c =
     λ hosts b v j. grants_named _ _ _ _ _ _ j
+
+pub returns-clause-sent : goal.returns-clause-sent
+returns-clause-sent c =
+    λ hosts b v j. sent_named v (λ h. is_host hosts h) b.crossings (lives_of b) b.handed (fates_of b) j
 
 pub returns-clause-closes : goal.returns-clause-closes
 returns-clause-closes c =

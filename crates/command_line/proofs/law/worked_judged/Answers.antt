@@ -15,6 +15,9 @@ returns-clause-crossing c = λ n hosts b says. says.streams.at
 pub returns-clause-list : goal.returns-clause-list
 returns-clause-list c = λ n hosts b says. says.grants.at
 
+pub returns-clause-sent : goal.returns-clause-sent
+returns-clause-sent c = λ n hosts b says. says.sent.at
+
 pub returns-clause-match_past : goal.returns-clause-match_past
 returns-clause-match_past c = λ hosts b says. (
     let less : length (program_lives hosts b) < length (program_lives hosts b) = says.closes.at.1.2 in

@@ -1,0 +1,48 @@
+use Rattle.book_judge.proofs.Common.{◌∙◌, ℕ, List, Option, ap, length, reverse, subst, sym, Crossing, FoundFirst}
+use Rattle.book_judge.specs.Inside.Arrivals.{AreArrivals}
+use Rattle.book_judge.specs.Inside.Sent.{SentAt}
+use Rattle.book_judge.specs.Inside.Starts.{AreStarts}
+use Rattle.book_judge.specs.declared.arrivals.Arrival.{Arrival}
+use Rattle.book_judge.specs.declared.starts.Start.{Start}
+use Rattle.book_judge.proofs.Counted.{sent_none, sent_some}
+use Rattle.book_judge.proofs.broken.unsent.Goals as goal
+
+pub unsent_at-requires-clause-counts : goal.unsent_at-requires-clause-counts
+unsent_at-requires-clause-counts c = (
+  c.requires.named.counts,
+  ap (λ (os : List (Option Start)). length os) c.deref-2.ensures.value ∙ c.in_ok-starts.ensures.counts,
+)
+
+pub with_match-requires : goal.with_match-requires
+with_match-requires c = (
+  (subst (λ (o : Option ℕ). FoundFirst (SentAt c.args.log.now c.deref-2.result.now c.args.names.now c.args.lives.now) (length c.args.lives.now) o)
+      c.in-Some.is (c.unsent_at.ensures c.args.log.now (
+        c.in_ok-into.ensures,
+        subst (λ (es : List Arrival). AreArrivals (length c.args.log.now) es c.args.log.now) (sym c.deref.ensures.value) c.in_ok-arrivals.ensures,
+      ))).0,
+  c.requires.named.counts,
+)
+
+pub returns-in-Some : goal.returns-in-Some
+returns-in-Some c =
+    sent_some c.args.log.now c.args.names.now c.args.lives.now c.deref-2.result.now c.requires.named
+    (subst (λ (os : List (Option Start)). AreStarts (length c.args.lives.now) os c.args.lives.now c.args.log.now)
+    (sym c.deref-2.ensures.value) c.in_ok-starts.ensures)
+    c.in-Some.place c.with_match.result
+    (subst (λ (o : Option ℕ). FoundFirst (SentAt c.args.log.now c.deref-2.result.now c.args.names.now c.args.lives.now) (length c.args.lives.now) o)
+    c.in-Some.is (c.unsent_at.ensures c.args.log.now (
+      c.in_ok-into.ensures,
+      subst (λ (es : List Arrival). AreArrivals (length c.args.log.now) es c.args.log.now) (sym c.deref.ensures.value) c.in_ok-arrivals.ensures,
+    )))
+    (c.with_match.ensures (reverse c.args.log.now) c.requires.named)
+
+pub returns : goal.returns
+returns c =
+    sent_none c.args.log.now c.args.names.now c.args.lives.now c.deref-2.result.now c.requires.named
+    (subst (λ (os : List (Option Start)). AreStarts (length c.args.lives.now) os c.args.lives.now c.args.log.now)
+    (sym c.deref-2.ensures.value) c.in_ok-starts.ensures)
+    (subst (λ (o : Option ℕ). FoundFirst (SentAt c.args.log.now c.deref-2.result.now c.args.names.now c.args.lives.now) (length c.args.lives.now) o)
+    c.in-None.is (c.unsent_at.ensures c.args.log.now (
+      c.in_ok-into.ensures,
+      subst (λ (es : List Arrival). AreArrivals (length c.args.log.now) es c.args.log.now) (sym c.deref.ensures.value) c.in_ok-arrivals.ensures,
+    )))
