@@ -18,6 +18,7 @@ from workshop.drawings.repository import layers
 from workshop.parts import ROOT
 
 PAGE = f"{ROOT}/docs/measured/planted.md"
+BY_ITSELF = "\n## Bodies that `rt plant` makes\n"
 RESULTS = f"{ROOT}/docs/measured/planted.json"
 HEAD = (
     "# Planted bugs\n\n`./check docs --write` makes this page. Refused counts the bugs that `./check edits --note` saw refused "
@@ -89,10 +90,20 @@ def page() -> str:
     return HEAD + table + (UNTRIED + "".join(left) if left else "")
 
 
+def stored() -> str:
+    """The page as it is."""
+    if not os.path.exists(PAGE):
+        return ""
+    with open(PAGE, encoding="utf-8") as file:
+        return file.read()
+
+
 def write() -> None:
+    """Writes the page, and leaves on it what `rt plant` made, which is written by hand."""
     text = page()
+    _, heading, rest = stored().partition(BY_ITSELF)
     with open(PAGE, "w", encoding="utf-8") as file:
-        file.write(text)
+        file.write(text + heading + rest)
 
 
 def faults_of(crate: str, found: Results, stored: str) -> Iterator[str]:
@@ -114,10 +125,6 @@ def faults_of(crate: str, found: Results, stored: str) -> Iterator[str]:
 def faults() -> list[str]:
     """Crates and planted bugs that the page lacks, bugs that don't fit the sources, and results of bugs that are gone. How
     many each crate has changes with every new bug, and isn't compared."""
-    stored = ""
-    if os.path.exists(PAGE):
-        with open(PAGE, encoding="utf-8") as file:
-            stored = file.read()
     found = results()
     crates = [it for layer in layers() for it in layer.crates if any(row(it, found)[0])]
-    return [fault for it in crates for fault in faults_of(it, found, stored)]
+    return [fault for it in crates for fault in faults_of(it, found, stored())]
