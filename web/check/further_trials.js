@@ -253,7 +253,7 @@ export async function distances({ $, one, all, press, load, want }) {
  *
  * @param {Page} page
  */
-export async function compared({ $, one, all, until, changed, press, load, want }) {
+export async function compared({ $, one, all, focused, until, changed, press, load, want }) {
     await load("rerouted-over-a-triangle");
     press("tab-compare");
     want(
@@ -294,6 +294,11 @@ export async function compared({ $, one, all, until, changed, press, load, want 
         $("index").open && all("#index [data-name]").length === $("lesson").options.length,
         "the index has other lessons than the list",
     );
+    want(focused().dataset.name === one("#index [data-name]").dataset.name, "the index doesn't begin at its first lesson");
+    const words = all("#index .words dt").map((it) => it.textContent);
+    const lacking = ["IMP", "host", "link", "RFNM", "Dead", "RST", "RTS", "STR", "ALL", "CLS", "allocation", "stranger", "calm"]
+        .filter((it) => !words.includes(it));
+    want(lacking.length === 0, "the index doesn't say what these are: " + lacking);
     want(
         all("#index .lessons ul > li").filter((it) => !it.querySelector("ol")).length === 12,
         "lessons without a question: " + all("#index .lessons ul > li").filter((it) => !it.querySelector("ol")).map(

@@ -16,7 +16,16 @@ export function wordOf(line) {
 }
 
 /**
- * All words and their meanings, for a list.
+ * The words of the network and their meanings, for a list.
+ *
+ * @returns {[string, string][]}
+ */
+export function networkWords() {
+    return Object.entries(/** @type {{[word: string]: string}} */ (TABLE.glossary));
+}
+
+/**
+ * The words of scripts and their meanings, for a list.
  *
  * @returns {[string, string][]}
  */

@@ -55,7 +55,8 @@ export const DOTS = { name: "dots", title: 10.5, text: 9.6, half: 8, pad: 3, rad
 
 const PLAIN = { width: 640, height: 360, unit: 1 };
 const MOST_BOXES = 12; // IMPs of a map with boxes
-const LETTER = 0.74; // the width of a capital letter, as a share of its height
+/** The widths of bold letters, as shares of their height: of those that are narrower or wider than others, and of others. */
+const WIDTHS = /** @type {[RegExp, number][]} */ ([[/[IJ ]/, 0.42], [/[MW]/, 1.05], [/[EFLPTXYZ0-9a-z]/, 0.7], [/./, 0.8]]);
 const EDGE = 8; // pixels around a map
 const ROOMY = { width: 640, height: 300, most: 1.2 }; // a frame that is larger has larger letters
 /** How much larger all is in the map of a few IMPs, where it has room at the largest text too. Each is below 5/4 of the next. */
@@ -125,13 +126,22 @@ function seenLength({ imps: places, boxes }, imps) {
  * @param {number} unit
  */
 export function boxesOf(network, { title, half, pad }, unit) {
-    const letters = (/** @type {import("./topology.js").Site} */ { name, number }) => (
-        (name || (half > 10 ? `IMP ${number}` : String(number))).length
+    const words = (/** @type {import("./topology.js").Site} */ { name, number }) => (
+        name || (half > 10 ? `IMP ${number}` : String(number))
     );
     return new Map(network.sites.map((site) => [
         site.number,
-        { w: unit * Math.max(half, (LETTER * title * letters(site)) / 2 + pad), h: unit * half },
+        { w: unit * Math.max(half, (title * widthOf(words(site))) / 2 + pad), h: unit * half },
     ]));
+}
+
+/**
+ * How wide a name is in bold letters, as a share of their height.
+ *
+ * @param {string} name
+ */
+export function widthOf(name) {
+    return [...name].reduce((sum, letter) => sum + (WIDTHS.find(([kind]) => kind.test(letter))?.[1] ?? 0), 0);
 }
 
 /**

@@ -40,7 +40,7 @@ export function drawFrame(map, state, element, { line, way, place, frame, count,
     const factor = map.factor * map.layout.unit;
     const gap = Math.min(factor * (map.layout.small ? 12 : 17), (0.9 * length) / Math.max(count, 1));
     const along = Math.max(0.06 * length, length / 2 + gap * ((count - 1) / 2 - place));
-    const side = factor * (map.layout.small ? 7 : 11);
+    const side = factor * (map.layout.small ? 7 : 13);
     const [wayX, wayY] = [(to.x - from.x) / length, (to.y - from.y) / length];
     const places = (map.layout.small ? SHIFTS : [0]).map((share) => {
         const far = Math.min(0.96 * length, Math.max(0.04 * length, along + share * length));

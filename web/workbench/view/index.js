@@ -1,6 +1,6 @@
 /** The index of all lessons with their questions: to choose from, and for paper. */
 
-import { glossary } from "../glossary.js";
+import { glossary, networkWords } from "../glossary.js";
 import { headComment, notesOf, readInput } from "../script.js";
 import { byId, h, sayWithCode, set } from "./dom.js";
 
@@ -38,8 +38,9 @@ export class Index {
 
     open() {
         const groups = () => this.groups((it) => this.button(it));
-        if (!this.list.firstChild) this.list.replaceChildren(this.words(), this.chronology(), ...groups());
+        if (!this.list.firstChild) this.list.replaceChildren(...groups(), this.chronology(), ...this.words());
         if (!this.dialog.open) this.dialog.showModal();
+        this.list.querySelector("button")?.focus();
     }
 
     close() {
@@ -59,14 +60,17 @@ export class Index {
         });
     }
 
-    /** The words of scripts, for who meets them for the first time. */
+    /** The words of the network and those of scripts, for who meets them for the first time. */
     words() {
-        const rows = glossary().map(([word, meaning]) => {
-            const told = h("dd");
-            sayWithCode(told, meaning);
-            return h("div", {}, h("dt", {}, word), told);
-        });
-        return h("section", { class: "words" }, h("h3", {}, "Words"), h("dl", {}, ...rows));
+        const section = (/** @type {string} */ title, /** @type {[string, string][]} */ words) => {
+            const rows = words.map(([word, meaning]) => {
+                const told = h("dd");
+                sayWithCode(told, meaning);
+                return h("div", {}, h("dt", {}, word), told);
+            });
+            return h("section", { class: "words" }, h("h3", {}, title), h("dl", {}, ...rows));
+        };
+        return [section("Words of the network", networkWords()), section("Words of scripts", glossary())];
     }
 
     /** What happened when, with the lesson of each year and event. */
@@ -105,7 +109,7 @@ export class Index {
     forPaper() {
         const answers = this.dialog.classList.contains("with-answers") ? "with-answers" : "";
         const groups = this.groups((it) => h("b", {}, it.title));
-        return h("div", { class: `lessons ${answers}` }, h("h1", {}, "Dorydate: all lessons"), this.words(), ...groups);
+        return h("div", { class: `lessons ${answers}` }, h("h1", {}, "Dorydate: all lessons"), ...groups, ...this.words());
     }
 }
 

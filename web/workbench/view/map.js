@@ -27,6 +27,7 @@ const GROWS = 0.3; // the power of that by which letters grow there, so that the
 const MOST_GROWN = 1.4;
 const DOT_BADGE = 7.5; // pixels from the middle of a number of packets to its edge
 const WORD = "mailboxes";
+const EDGE = 4; // pixels between a name and the edge of a map of dots
 const MARK = 8; // pixels from the middle of a dot with a number in it to its edge
 /** Where the number of lines that are drawn as one may stand, as shares of the way. */
 const SHARES = [0.5, 0.42, 0.58, 0.34, 0.66, 0.26, 0.74];
@@ -192,7 +193,7 @@ export class MapView {
         if (key === this.put) return;
         this.put = key;
         const { width, height } = this.frame;
-        const put = putLabels(labels, { x: 1, y: 1, width: width - 2, height: height - 2 }, taken);
+        const put = putLabels(labels, { x: EDGE, y: EDGE, width: width - 2 * EDGE, height: height - 2 * EDGE }, taken);
         this.network.sites.forEach(({ number }, place) => this.putTag(this.imps.children[place], number, labels[place].at, put[place]));
         const rects = put.flatMap((it, place) => (it ? [around(it, labels[place].width, labels[place].height)] : []));
         this.names = rects;

@@ -14,7 +14,7 @@ import { h, say } from "./dom.js";
 
 const SURPRISE = { tried: 160, kept: 10 };
 const LATER = 60; // milliseconds at a step until the program is asked what can happen at it
-const IDLE = ["take", "offer", "calm", "ask", "deliver", "resend", "route"]; // what is left out of a surprise where it prints nothing
+const IDLE = ["take", "offer", "calm", "ask", "deliver", "forget", "resend", "route"]; // what is left out of a surprise where it prints nothing
 const SECONDS = 60; // of a search
 const GROUPS = /** @type {[string, string][]} */ ([["hosts", "Hosts"], ["lines", "Lines"], ["IMPs", "IMPs"]]);
 
