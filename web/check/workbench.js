@@ -1,5 +1,8 @@
 /**
- * Tries the workbench in a browser: node web/check/workbench.js PAGE BROWSER..
+ * Tries the workbench in a browser: node web/check/workbench.js PAGE [PART..] BROWSER..
+ *
+ * The parts are --lessons, --deeds, --sizes, --maps, --looks and --faults; without one all of them are tried. Each is told when it
+ * is done, since all of them take minutes.
  *
  * Each lesson is stepped forth and back, parts are tapped, an address is opened again, keys and the focus are looked
  * at, and what a screen reader gets, and at each size nothing is cut and no text is on another. Faults that are
@@ -339,6 +342,13 @@ const PLANTED = /** @type {Planted[]} */ ([
         words: "sent: ",
     },
     {
+        what: "the index opens at a button of its head",
+        from: 'this.list.querySelector("button")?.focus();',
+        to: "",
+        by: "compared",
+        words: "doesn't begin at its first lesson",
+    },
+    {
         what: "the map as it was shows what is now",
         from: "const place = placeBeside(was.replay, history.replay, position);",
         to: "const place = was.length;",
@@ -467,17 +477,19 @@ async function darkAndPaper(browser) {
 }
 
 /**
- * All trials of a page.
+ * What a part of the trials found wrong, and what it tried, in words.
+ *
+ * @typedef {{wrong: string[], tried: string}} Found
+ */
+
+/**
+ * Each lesson is stepped forth and back.
  *
  * @param {Browser} browser
- * @param {string} address
+ * @returns {Promise<Found>}
  */
-async function whole(browser, address) {
-    /** @type {string[]} */
-    const wrong = [];
-    await browser.resize(...WIDE);
-    await browser.open(address);
-    wrong.push(...(await trial(browser, [trials.entered])));
+async function lessons(browser) {
+    const wrong = await trial(browser, [trials.entered]);
     const first = await browser.evaluate("return Math.round(performance.now());");
     const options = 'document.querySelectorAll("#lesson option")';
     const names = await browser.evaluate(`return [...${options}].map((it) => it.value);`);
@@ -487,9 +499,20 @@ async function whole(browser, address) {
         wrong.push(...(await trial(browser, [open, name], [trials.stepped, name])));
         steps += await browser.evaluate('return Number(document.getElementById("slider").max);');
     }
-    const { keys, tapped, holding, distances, compared, printed, hidden, typed, measured, contrast } = trials;
-    const { booked, bundles, followed, happening, judged, large, legible, linked, named, reached, sending } = trials;
-    const { touched, uncovered, unopened } = trials;
+    return { wrong, tried: `ready after ${first} ms, ${names.length} lessons with ${steps} steps forth and back` };
+}
+
+/**
+ * What one does in the page: large networks, menus, addresses, keys, tables, the editor; and what is heard.
+ *
+ * @param {Browser} browser
+ * @returns {Promise<Found>}
+ */
+async function deeds(browser) {
+    /** @type {string[]} */
+    const wrong = [];
+    const { keys, tapped, holding, distances, compared, printed, hidden, typed } = trials;
+    const { booked, bundles, followed, happening, judged, large, linked, named, sending, unopened } = trials;
     for (const size of LARGE) {
         await browser.resize(...size);
         wrong.push(...(await trial(browser, [large, largeNetwork()], [followed], [bundles])));
@@ -503,10 +526,22 @@ async function whole(browser, address) {
         wrong.push(...(await trial(browser, [sending])).map((it) => `${it}, at ${size.join(" by ")}`));
     }
     await browser.resize(...WIDE);
-    for (const body of [named, unopened, happening, judged, keys, tapped, holding, distances, compared, booked, printed, hidden, typed]) {
-        wrong.push(...(await trial(browser, [body])));
-    }
+    const bodies = [named, unopened, happening, judged, keys, tapped, holding, distances, compared, booked, printed, hidden, typed];
+    for (const body of bodies) wrong.push(...(await trial(browser, [body])));
     wrong.push(...(await spoken(browser)));
+    return { wrong, tried: `${bodies.length + 5} kinds of deeds` };
+}
+
+/**
+ * At each size nothing is cut and no text is on another.
+ *
+ * @param {Browser} browser
+ * @returns {Promise<Found>}
+ */
+async function sizes(browser) {
+    /** @type {string[]} */
+    const wrong = [];
+    const { measured, contrast, reached, touched } = trials;
     let places = 0;
     for (const [width, height] of SIZES) {
         await browser.resize(width, height);
@@ -529,11 +564,6 @@ async function whole(browser, address) {
             places += 1;
         }
     }
-    for (const [width, height] of READ_AT) {
-        await browser.resize(width, height);
-        const found = await trial(browser, ...MAPS.map((name) => /** @type {[Trial, any?]} */ ([legible, name])), [uncovered, PACKETS]);
-        wrong.push(...found.map((it) => `${it}, at ${width} by ${height}`));
-    }
     for (const [width, height] of LARGER) {
         await browser.resize(width, height);
         const at = ["arpanet-of-december-1969", 0.35];
@@ -541,8 +571,49 @@ async function whole(browser, address) {
         wrong.push(...found.map((it) => `the largest text at ${width} by ${height}: ${it}`));
         places += 1;
     }
-    wrong.push(...(await darkAndPaper(browser)));
-    return { wrong, steps, places, first, lessons: names.length };
+    return { wrong, tried: `${places} places at ${SIZES.length} sizes` };
+}
+
+/**
+ * Maps can be read at each size.
+ *
+ * @param {Browser} browser
+ * @returns {Promise<Found>}
+ */
+async function maps(browser) {
+    /** @type {string[]} */
+    const wrong = [];
+    const { legible, uncovered } = trials;
+    for (const [width, height] of READ_AT) {
+        await browser.resize(width, height);
+        const found = await trial(browser, ...MAPS.map((name) => /** @type {[Trial, any?]} */ ([legible, name])), [uncovered, PACKETS]);
+        wrong.push(...found.map((it) => `${it}, at ${width} by ${height}`));
+    }
+    return { wrong, tried: `${MAPS.length} maps at ${READ_AT.length} sizes` };
+}
+
+/** The parts of the trials that need only the page, by their names. */
+const PARTS = /** @type {{[name: string]: (browser: Browser) => Promise<Found>}} */ ({
+    lessons,
+    deeds,
+    sizes,
+    maps,
+    looks: async (browser) => ({ wrong: await darkAndPaper(browser), tried: "in the dark and on paper" }),
+});
+
+/**
+ * Plants each fault in the page; those that aren't found are wrong.
+ *
+ * @param {Browser} browser
+ * @param {string} page
+ * @returns {Promise<Found>}
+ */
+async function faults(browser, page) {
+    const room = mkdtempSync(`${tmpdir()}/workbench-`);
+    const missed = await planted(browser, readFileSync(page, "utf8"), `${room}/planted.html`);
+    rmSync(room, { recursive: true, force: true });
+    const found = `${PLANTED.length - missed.length} planted faults found`;
+    return { wrong: missed.map((it) => `a planted fault was not found: ${it}`), tried: found };
 }
 
 /**
@@ -582,28 +653,47 @@ async function planted(browser, page, file) {
     return missed;
 }
 
+/**
+ * Runs the parts that are asked for in one browser; whether something is wrong.
+ *
+ * @param {Browser} browser
+ * @param {string} page
+ * @param {string[]} asked
+ */
+async function failsIn(browser, page, asked) {
+    const is = (/** @type {string} */ name) => !asked.length || asked.includes(name);
+    let count = 0;
+    /** @type {(name: string, run: () => Promise<Found>) => Promise<void>} */
+    const tell = async (name, run) => {
+        const { wrong, tried } = await run();
+        for (const it of wrong.slice(0, 40)) console.log(`${browser.name}: ${it}`);
+        console.log(`${browser.name}: ${name}: ${tried}, ${wrong.length} things wrong`);
+        count += wrong.length;
+    };
+    await browser.resize(...WIDE);
+    await browser.open(`file://${page}`);
+    for (const [name, part] of Object.entries(PARTS)) {
+        if (is(name)) await tell(name, () => part(browser));
+    }
+    const others = browser.requests().filter((it) => !/^(?:file|blob|data):/.test(it));
+    if (others.length) console.log(`${browser.name}: the page asks for ${others[0]}`);
+    if (is("faults")) await tell("faults", () => faults(browser, page));
+    return count + others.length > 0;
+}
+
 async function main() {
-    const [page, ...programs] = process.argv.slice(2);
+    const [page, ...words] = process.argv.slice(2);
+    const asked = words.filter((it) => it.startsWith("--")).map((it) => it.slice(2));
+    const unknown = asked.filter((it) => it !== "faults" && !(it in PARTS));
+    if (unknown.length) throw new Error(`there is no part ${unknown}: ${Object.keys(PARTS)}, faults`);
     const octets = new TextEncoder().encode(readFileSync(page, "utf8")).length;
     let failed = octets > MOST_OCTETS;
     console.log(`the page has ${octets} octets${failed ? `, more than ${MOST_OCTETS}` : ""}`);
-    for (const program of programs) {
+    for (const program of words.filter((it) => !it.startsWith("--"))) {
         const start = /firefox/.test(program) ? firefox : /WebKit/.test(program) ? webkit : chromium;
         const browser = await start(program);
         try {
-            const { wrong, steps, places, first, lessons } = await whole(browser, `file://${page}`);
-            for (const it of wrong.slice(0, 40)) console.log(`${browser.name}: ${it}`);
-            const others = browser.requests().filter((it) => !/^(?:file|blob|data):/.test(it));
-            if (others.length) console.log(`${browser.name}: the page asks for ${others[0]}`);
-            const room = mkdtempSync(`${tmpdir()}/workbench-`);
-            const missed = await planted(browser, readFileSync(page, "utf8"), `${room}/planted.html`);
-            rmSync(room, { recursive: true, force: true });
-            for (const it of missed) console.log(`${browser.name}: a planted fault was not found: ${it}`);
-            failed ||= wrong.length + missed.length + others.length > 0;
-            const found = `${PLANTED.length - missed.length} planted faults found, ${wrong.length} things wrong`;
-            const tried = `${lessons} lessons with ${steps} steps forth and back`;
-            const measured = `${places} places at ${SIZES.length} sizes`;
-            console.log(`${browser.name}: ready after ${first} ms, ${tried}, ${measured}, ${found}`);
+            if (await failsIn(browser, page, asked)) failed = true;
         } finally {
             await browser.close();
         }

@@ -12,8 +12,8 @@ proved and has one):
 - random lines have a fault here exactly where the reader in Python finds one;
 - planted faults in all of these are found.
 
-TypeScript (`node-typescript`) checks the types where it is there. With --browser the page of `./build --wasm` is
-opened in Chromium, Firefox and WebKit (Debian's packages `chromium`, `firefox-esr`, and `webkit2gtk-driver` with
+TypeScript (`node-typescript`) checks the types where it is there. With --browser the page of `./build --wasm`, or that
+of the released module where it is of these sources, is opened in Chromium, Firefox and WebKit (Debian's packages `chromium`, `firefox-esr`, and `webkit2gtk-driver` with
 `xvfb`), as many of them as there are: each lesson is stepped forth and back, parts are tapped, sizes measured, planted faults found.
 """
 
@@ -325,9 +325,9 @@ def check_browsers(command: str) -> None:
     if not browsers:
         left_out("workbench", "the page in a browser", "neither Chromium, Firefox nor WebKit is installed")
         return
-    made = subprocess.run([f"{ROOT}/build", "--wasm"], stdout=subprocess.PIPE, text=True)
+    made = subprocess.run([f"{ROOT}/tools/keep-wasm", "--any"], stdout=subprocess.PIPE, text=True)
     if made.returncode:
-        raise Wrong("./build --wasm made no page")
+        raise Wrong("tools/keep-wasm made no page")
     page = made.stdout.strip().splitlines()[-1]
     if subprocess.run([command, f"{ROOT}/web/check/workbench.js", page, *browsers]).returncode:
         raise Wrong("the page in a browser")
