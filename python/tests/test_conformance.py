@@ -20,7 +20,7 @@ from dorydate.contract import judge, read_log
 from dorydate.coupling import Mute, Process, shown
 from dorydate.model.commands import ECO, NOP, RRP, RST, alone, control_message, header
 from dorydate.script import Script
-from dorydate.where import found
+from tests.fast import NeedsFastProgram
 from workshop.parts import ROOT, text_of
 
 NCP = f"{ROOT}/examples/ncp.py"
@@ -166,12 +166,7 @@ class Programs(unittest.TestCase):
             self.assertIn(words, str(tried(Only(line), NAMED["reset"])))
 
 
-class Dialogues(unittest.TestCase):
-    @classmethod
-    def setUpClass(cls) -> None:
-        if found().path.endswith("-unproved"):
-            raise unittest.SkipTest("the program without proofs is too slow for all dialogues")
-
+class Dialogues(NeedsFastProgram):
     def test_the_small_program_is_right(self) -> None:
         for dialogue in DIALOGUES:
             with self.subTest(dialogue.name):

@@ -64,8 +64,7 @@ class Rules(unittest.TestCase):
     def test_a_script_that_shows_something_else_is_found(self) -> None:
         text = file(f"{ROOT}/without/contract/idle")
         rows = [
-            ("# lacks: idle", "# lacks: nosuch", "no rule"),
-            ("# lacks: idle", "# lacks: alone", "still breaks"),
+            ("# lacks: idle", "# lacks: nosuch", "no rule"), ("# lacks: idle", "# lacks: alone", "still breaks"),
             ("# host: 0/2", "# host: 0/1", "still breaks"),
             ("# breaks: bits same", "# breaks: same", "it breaks bits same, not same"),
             ("answer rfnm 0/1 0/2 0\n", "", "no run"),

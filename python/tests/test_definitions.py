@@ -95,33 +95,31 @@ class OfTerms(unittest.TestCase):
 
 
 class OfStatements(unittest.TestCase):
-    def test_computed(self) -> None:
-        self.assertTrue(holds("twice 21 ≡ 42"))
-        self.assertFalse(holds("twice 21 ≡ 41"))
-        self.assertTrue(holds("swapped (record { one = 1; other = 2 }) ≡ record { other = 1; one = 2 }"))
-        self.assertTrue(holds("record (record { one = 1; other = 2 }) { one = 3 } ≡ record { one = 3; other = 2 }"))
-
-    def test_there_is(self) -> None:
-        self.assertTrue(holds("(xs ys : List ℕ) × (xs ++ 5 ∷ ys ≡ 4 ∷ 5 ∷ [])"))
-        self.assertFalse(holds("(xs ys : List ℕ) × (xs ++ 6 ∷ ys ≡ 4 ∷ 5 ∷ [])"))
-        self.assertTrue(holds("IsBelow (record { one = 3; other = 0 }) 5"))
-        self.assertFalse(holds("IsBelow (record { one = 4; other = 0 }) 5"))
-
-    def test_for_all(self) -> None:
-        self.assertTrue(holds("(n : ℕ) → Contains (3 ∷ 5 ∷ []) n → n < 6"))
-        self.assertFalse(holds("(n : ℕ) → Contains (3 ∷ 5 ∷ []) n → n < 5"))
-        self.assertTrue(holds("(b : Bool) → (b && not b) ≡ false"))
-        self.assertTrue(holds("(n : ℕ) → n < 3 → twice n ≡ n + n"))
+    def test_what_holds_and_what_does_not(self) -> None:
+        right = [
+            *("twice 21 ≡ 42", "swapped (record { one = 1; other = 2 }) ≡ record { other = 1; one = 2 }"),
+            "record (record { one = 1; other = 2 }) { one = 3 } ≡ record { one = 3; other = 2 }",
+            # there is
+            *("(xs ys : List ℕ) × (xs ++ 5 ∷ ys ≡ 4 ∷ 5 ∷ [])", "IsBelow (record { one = 3; other = 0 }) 5"),
+            # for all
+            *("(n : ℕ) → Contains (3 ∷ 5 ∷ []) n → n < 6", "(b : Bool) → (b && not b) ≡ false"),
+            "(n : ℕ) → n < 3 → twice n ≡ n + n",
+            # statements as arguments
+            "AreSmall (λ n. n < 4) (1 ∷ 3 ∷ [])",
+        ]
+        wrong = [
+            *("twice 21 ≡ 41", "(n : ℕ) → Contains (3 ∷ 5 ∷ []) n → n < 5"),
+            *("(xs ys : List ℕ) × (xs ++ 6 ∷ ys ≡ 4 ∷ 5 ∷ [])", "IsBelow (record { one = 4; other = 0 }) 5"),
+            *("AreSmall (λ n. n < 3) (1 ∷ 3 ∷ [])", "AreSmall (λ n. n < 4) (1 ∷ 3 ∷ []) → ⊥"),
+        ]
+        for text in (*right, *wrong):
+            with self.subTest(text):
+                self.assertEqual(holds(text), text in right)
 
     def test_what_is_said_of_all_numbers_is_not_decided(self) -> None:
         for text in ("(n : ℕ) → n ≡ 3", "(n : ℕ) → (n ≡ 3 → ⊥) → n < 3", "(n : ℕ) → twice n ≡ n + n"):
             with self.assertRaises(Unbound):
                 holds(text)
-
-    def test_statements_as_arguments(self) -> None:
-        self.assertTrue(holds("AreSmall (λ n. n < 4) (1 ∷ 3 ∷ [])"))
-        self.assertFalse(holds("AreSmall (λ n. n < 3) (1 ∷ 3 ∷ [])"))
-        self.assertFalse(holds("AreSmall (λ n. n < 4) (1 ∷ 3 ∷ []) → ⊥"))
 
 
 class OfWords(unittest.TestCase):

@@ -24,6 +24,7 @@ from dorydate.inside import CannotFollow, state_of
 from dorydate.program import PrintedTooMuch, Program, TookTooLong
 from dorydate.where import found
 from dorydate.script import BadLine, Calm, Contact, Event, Flow, Out, Script, read_event
+from tests.fast import NeedsFastProgram
 
 RING = Network.joined("WEST-A-B-EAST-C-D-WEST", hosts={"A": 0, "B": 0, "C": 0, "D": 0})
 
@@ -204,12 +205,7 @@ class Insides(unittest.TestCase):
             state_of(Program("/bin/false"), TWO, [Calm(0)])
 
 
-class Explorations(unittest.TestCase):
-    @classmethod
-    def setUpClass(cls) -> None:
-        if found().path.endswith("-unproved"):
-            raise unittest.SkipTest("the program without proofs is too slow for explorations")
-
+class Explorations(NeedsFastProgram):
     def test_side_by_side_is_alone(self) -> None:
         script = [*pools(TWO_RAW)["out"], Calm(2)]
         many, one = Many(TWO_RAW, found()), One(TWO_RAW, found())

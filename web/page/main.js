@@ -29,18 +29,11 @@ function part(id, kind) {
 }
 
 const box = part("script", HTMLTextAreaElement);
-const list = part("example", HTMLSelectElement);
-const task = part("task", HTMLSelectElement);
-const texts = part("texts", HTMLInputElement);
-const book = part("book", HTMLInputElement);
-const seconds = part("seconds", HTMLInputElement);
-const runButton = part("run", HTMLButtonElement);
-const stopButton = part("stop", HTMLButtonElement);
-const said = part("said", HTMLElement);
+const [list, task] = ["example", "task"].map((id) => part(id, HTMLSelectElement));
+const [texts, book, seconds] = ["texts", "book", "seconds"].map((id) => part(id, HTMLInputElement));
+const [runButton, stopButton] = ["run", "stop"].map((id) => part(id, HTMLButtonElement));
 const printed = part("printed", HTMLPreElement);
-const chart = part("chart", HTMLElement);
-const drawing = part("drawing", HTMLElement);
-const rest = part("rest", HTMLElement);
+const [said, chart, drawing, rest] = ["said", "chart", "drawing", "rest"].map((id) => part(id, HTMLElement));
 
 /** @type {Uint8Array} */
 let output = new Uint8Array();

@@ -79,6 +79,14 @@ class AtEnd:
 
 
 @dataclass(frozen=True)
+class Amount(AtEnd):
+    """How much more may be sent there, or no longer."""
+
+    messages: int
+    bits: int
+
+
+@dataclass(frozen=True)
 class Asks(AtEnd):
     """A user asks for a connection; its request goes out later."""
 
@@ -91,11 +99,8 @@ class Hands(AtEnd):
 
 
 @dataclass(frozen=True)
-class Grants(AtEnd):
+class Grants(Amount):
     """A user lets the partner send so much more."""
-
-    messages: int
-    bits: int
 
 
 @dataclass(frozen=True)
@@ -120,11 +125,8 @@ class Arrived(AtEnd):
 
 
 @dataclass(frozen=True)
-class Returned(AtEnd):
+class Returned(Amount):
     """The partner gave back so much of what it was granted."""
-
-    messages: int
-    bits: int
 
 
 @dataclass(frozen=True)

@@ -125,9 +125,7 @@ class Going(State):
 
     def grant_goes(self, pair: Pair, it: Command, link: int, messages: int, bits: int) -> None:
         """An ALL goes out."""
-        end = pair.on(link, True)
-        if end is None or end.asked is None or end.gone:
-            self.breaks("grants", f"{it} is about no end that has that link")
+        end = self.named_by(pair, it, link, True, "grants")
         if end is None:
             return
         if end.partner is None:
@@ -138,11 +136,17 @@ class Going(State):
         if not end.granted.covers(*end.said):
             self.breaks("grants", f"ALLs say {end.said}, and granted were {end.granted}")
 
+    def named_by(self, pair: Pair, it: Command, link: int, receives: bool, rule: str) -> End | None:
+        """The end that a command names by its link: a receiving one has asked, and a sending one is open."""
+        end = pair.on(link, receives)
+        begun = None if end is None or end.gone else end.asked if receives else end.opened
+        if begun is None:
+            self.breaks(rule, f"{it} is about no {'' if receives else 'open '}end that has that link")
+        return end
+
     def gives_back(self, pair: Pair, it: Command, link: int, messages: int, bits: int) -> None:
         """A RET goes out."""
-        end = pair.on(link, False)
-        if end is None or end.opened is None or end.gone:
-            self.breaks("returns", f"{it} is about no open end that has that link")
+        end = self.named_by(pair, it, link, False, "returns")
         if end is None:
             return
         if not end.allowed.covers(*end.used.plus(messages, bits)):

@@ -254,13 +254,19 @@ def known(expression: Expression, env: Env) -> Value | None:
         return None
 
 
-class Join(Expression):
-    """One list after another."""
+class Sides(Expression):
+    """What has a left side and a right one, and no more."""
 
     __slots__ = ("left", "right")
 
     def __init__(self, left: Expression, right: Expression) -> None:
         self.left, self.right = left, right
+
+
+class Join(Sides):
+    """One list after another."""
+
+    __slots__ = ()
 
     def value(self, env: Env) -> Value:
         left = self.left.value(env)
@@ -313,13 +319,10 @@ class Arithmetic(Expression):
         raise Unbound
 
 
-class Same(Expression):
+class Same(Sides):
     """Whether two values are the same."""
 
-    __slots__ = ("left", "right")
-
-    def __init__(self, left: Expression, right: Expression) -> None:
-        self.left, self.right = left, right
+    __slots__ = ()
 
     def value(self, env: Env) -> Value:
         return truth(self.left.value(env) == self.right.value(env))

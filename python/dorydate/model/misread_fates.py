@@ -144,18 +144,26 @@ class SecondFirst(Fates):
         return over and over._replace(closed=over.closed[::-1])
 
 
-class AnyBegin(Fates):
-    """What ends lives may come between a life's two requests."""
+class NeverEarly:
+    """A reading by which nothing comes too early for a life."""
 
     def is_early(self, asked: set[str]) -> bool:
         return False
 
 
-class EarlyBegin(Fates):
-    """What ends lives may not come before a life's requests."""
+class EarlyTillBoth:
+    """A reading by which all is too early for a life before both of its requests."""
 
     def is_early(self, asked: set[str]) -> bool:
         return len(asked) < 2
+
+
+class AnyBegin(NeverEarly, Fates):
+    """What ends lives may come between a life's two requests."""
+
+
+class EarlyBegin(EarlyTillBoth, Fates):
+    """What ends lives may not come before a life's requests."""
 
 
 class EachByItself(Fates):

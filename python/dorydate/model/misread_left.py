@@ -8,6 +8,7 @@ from dorydate.model.book import Life
 from dorydate.model.crossings import Crossing
 from dorydate.model.fates import Deed
 from dorydate.model.left import LEFT, Contact, Leaving, Left
+from dorydate.model.misread_fates import EarlyTillBoth, NeverEarly
 
 
 class EndedByPartner(Left):
@@ -29,18 +30,12 @@ class LastCls(Left):
         return closed[-1]
 
 
-class BetweenRequests(Left):
+class BetweenRequests(NeverEarly, Left):
     """What would end a life may come between its two requests."""
 
-    def is_early(self, asked: set[str]) -> bool:
-        return False
 
-
-class BeforeRequests(Left):
+class BeforeRequests(EarlyTillBoth, Left):
     """What would end a life may not come before its requests."""
-
-    def is_early(self, asked: set[str]) -> bool:
-        return len(asked) < 2
 
 
 class NoContacts(Left):

@@ -223,32 +223,37 @@ class SenderEnded(Judge):
         return life.receives() and any(match(log, life, it) and it.fate == "ended" and not self.took_all(life, it) for it in lives)
 
 
-class AllWhole(Judge):
+class OneFateMore(Judge):
+    """A life of one fate more has to have taken all."""
+
+    fate = ""
+
+    def is_judged(self, life: Life) -> bool:
+        return super().is_judged(life) or life.receives() and life.fate == self.fate
+
+
+class AllWhole(OneFateMore):
     """A life that is open has to have taken all."""
 
-    def is_judged(self, life: Life) -> bool:
-        return super().is_judged(life) or life.receives() and life.fate == "open"
+    fate = "open"
 
 
-class WholeWhereClosed(Judge):
+class WholeWhereClosed(OneFateMore):
     """A life that its own user closed has to have taken all."""
 
-    def is_judged(self, life: Life) -> bool:
-        return super().is_judged(life) or life.receives() and life.fate == "closed"
+    fate = "closed"
 
 
-class WholeWhereReset(Judge):
+class WholeWhereReset(OneFateMore):
     """A life that was reset has to have taken all."""
 
-    def is_judged(self, life: Life) -> bool:
-        return super().is_judged(life) or life.receives() and life.fate == "reset"
+    fate = "reset"
 
 
-class WholeWhereStopped(Judge):
+class WholeWhereStopped(OneFateMore):
     """A life whose host stopped has to have taken all."""
 
-    def is_judged(self, life: Life) -> bool:
-        return super().is_judged(life) or life.receives() and life.fate == "stopped"
+    fate = "stopped"
 
 
 class BitsOnly(Judge):

@@ -21,10 +21,9 @@ BITS = rf"{NUMBER} (-|(?:[0-9A-F][0-9A-F])+)"
 OF_HOST = re.compile(f"(take|hostdown|hostup) {HOST}")
 OF_FLOW = re.compile(f"(giveup|ask|abandon) {FLOW}")
 OF_FRAME = re.compile(rf"(deliver|drop) {NUMBER} ([+-]) {NUMBER}")
-OF_IMP = re.compile(f"(resend|route|impdown|impup) {IMP}")
-OF_END = re.compile(f"(enddown|endup) {IMP} {NUMBER}")
-OF_IMPS = re.compile(f"(forget) {IMP} {IMP}")
-CALM = re.compile(f"(calm) {NUMBER}")
+OF_NUMBERS = re.compile(
+    rf"(resend|route|impdown|impup) {IMP}|(enddown|endup) {IMP} {NUMBER}|(forget) {IMP} {IMP}|(calm) {NUMBER}"
+)
 OUT = re.compile(f"out {FLOW} {BITS}")
 
 MOST_TEXT = 8063
@@ -93,8 +92,9 @@ def read_line(line: str, raw: bool = True, runs: Collection[str] = EVERYTHING, s
         return found[1], read_flow(found.groups()[1:])
     if found := OF_FRAME.fullmatch(line):
         return found[1], read_number(found[2]), found[3], read_number(found[4])
-    if found := OF_IMP.fullmatch(line) or OF_END.fullmatch(line) or OF_IMPS.fullmatch(line) or CALM.fullmatch(line):
-        return found[1], *(read_number(word) for word in found.groups()[1:])
+    if found := OF_NUMBERS.fullmatch(line):
+        name, *numbers = filter(None, found.groups())
+        return name, *map(read_number, numbers)
     return read_raw_line(line) if raw or strangers and line.startswith("out ") else read_world_line(line, runs)
 
 

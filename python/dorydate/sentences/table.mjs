@@ -503,11 +503,8 @@ export const TABLE = {
 "ALLOWED": ["the number of bits", 0, 4294967295]
 },
 "rules of lines": [
-["", "\\r", "carriage return"],
-["", "[^ -~]", "not ASCII"],
-["raw", "^ |  | $", "spaces"],
-["programs", "^ |^(?!type(?: |$)).*(?:  | $)", "spaces"],
-["", "^%(?: |$)", "second marker"],
+["", "\\r", "carriage return"], ["", "[^ -~]", "not ASCII"], ["raw", "^ |  | $", "spaces"],
+["programs", "^ |^(?!type(?: |$)).*(?:  | $)", "spaces"], ["", "^%(?: |$)", "second marker"],
 ["programs", "^out(?: |$)", "of raw"]
 ],
 "rules of events": [
@@ -517,11 +514,9 @@ export const TABLE = {
 ["", "^(?:out|send) .* 0[xX](?<digits>[^ ]*)$", "0x"]
 ],
 "rules of users": [
-["", "^(?:cut|break|sever|unplug|linedown)$", "to cut"],
-["", "^(?:mend|repair|splice|plug|lineup)$", "to mend"],
+["", "^(?:cut|break|sever|unplug|linedown)$", "to cut"], ["", "^(?:mend|repair|splice|plug|lineup)$", "to mend"],
 ["", "^(?:crash|stop|kill|halt|shutdown|fail)$", "to crash"],
-["", "^(?:restart|start|boot|reboot|recover)$", "to restart"],
-["", "^(?:lose|loss|discard)$", "to lose"],
+["", "^(?:restart|start|boot|reboot|recover)$", "to restart"], ["", "^(?:lose|loss|discard)$", "to lose"],
 ["", "^(?:duplicate|repeat|retransmit|copy)$", "to repeat"],
 ["", "^(?:wait|run|round|rounds|step|sleep|tick|settle)$", "to wait"],
 ["raw", "^(?:receive|recv|accept|read|get)$", "to receive raw"],
@@ -529,17 +524,13 @@ export const TABLE = {
 ["raw", "^(?:say|write|put|transmit|message|msg|type)$", "to say raw"],
 ["programs", "^(?:say|write|put|transmit|message|msg)$", "to say"],
 ["raw", "^(?:connect|open|dial|login|telnet|disconnect|hangup)$", "to connect raw"],
-["programs", "^(?:connect|open|dial)$", "to connect"],
-["programs", "^(?:login|telnet|logon)$", "to log in"],
+["programs", "^(?:connect|open|dial)$", "to connect"], ["programs", "^(?:login|telnet|logon)$", "to log in"],
 ["programs", "^(?:disconnect|hangup|shut|end)$", "to disconnect"],
-["programs", "^(?:allocate|alloc|all|permit)$", "to allocate"],
-["programs", "^(?:ping)$", "to ping"],
+["programs", "^(?:allocate|alloc|all|permit)$", "to allocate"], ["programs", "^(?:ping)$", "to ping"],
 ["programs", "^(?:reset|rst)$", "to reset"]
 ],
 "rules of words": [
-["S D H P", "^[^/]*/[^/]*$", "not a host"],
-["+|-", "^[+-]$", "not a direction"],
-["OCTET", "^(?!0x)", "hexadecimal"]
+["S D H P", "^[^/]*/[^/]*$", "not a host"], ["+|-", "^[+-]$", "not a direction"], ["OCTET", "^(?!0x)", "hexadecimal"]
 ],
 "rules of markers": [
 ["^[ \\t]*%\\r$", "marker", "marker and return"],

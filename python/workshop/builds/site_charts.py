@@ -8,18 +8,16 @@ import textwrap
 from collections.abc import Iterator, Sequence
 from dataclasses import dataclass
 
-LANE, CHARACTER, LINE = (
-    164,
-    6.6,
-    17,
-)  # pixels from one lane to the next, so that a telephone has room for two, and of a character and a line at most
-PARTICIPANT = re.compile(r"participant (\w+) as (.+)")
-ARROW = re.compile(r"(\w+)(->>|-->>|-x)(\w+): (.*)")
-NOTE = re.compile(r"Note over (\w+): (.*)")
-
 
 class NotDrawn(Exception):
     """Why a chart isn't drawn."""
+
+
+# pixels from one lane to the next, so that a telephone has room for two, and of a character and a line at most
+LANE, CHARACTER, LINE = 164, 6.6, 17
+PARTICIPANT = re.compile(r"participant (\w+) as (.+)")
+ARROW = re.compile(r"(\w+)(->>|-->>|-x)(\w+): (.*)")
+NOTE = re.compile(r"Note over (\w+): (.*)")
 
 
 @dataclass(frozen=True)

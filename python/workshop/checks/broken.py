@@ -2,8 +2,8 @@
 
 from __future__ import annotations
 
-from collections.abc import Iterator
-from typing import Any
+from collections.abc import Callable, Iterator
+from typing import Any, Protocol, TypeVar
 
 from dorydate.model import arrived, was_sent
 from dorydate.model.audit import Lives, Log, audit, match
@@ -15,7 +15,35 @@ from dorydate.model.firsts import determined
 from dorydate.model.host import Host
 from dorydate.model.left import late, strange
 from dorydate.model.names import HostName
+from dorydate.model.topology import Topology
 from dorydate.model.world import World
+
+
+class AsRun(Protocol):
+    """A random run: what it breaks, its network and its script."""
+
+    @property
+    def part(self) -> str | None: ...
+    @property
+    def network(self) -> Topology: ...
+    @property
+    def lines(self) -> list[str]: ...
+
+
+class Broken(Exception):
+    """That a random run breaks something, with its network and its script."""
+
+
+R = TypeVar("R", bound=AsRun)
+
+
+def runs_that_keep(kind: str, runs: int, run: Callable[[int], R]) -> Iterator[R]:
+    """Random runs, of which each keeps all; one that doesn't is raised."""
+    for seed in range(runs):
+        ran = run(seed)
+        if ran.part:
+            raise Broken("\n".join([f"{kind} {seed} breaks {ran.part}: {ran.network}", *ran.lines]))
+        yield ran
 
 
 def pairs_that_differ(log: Log, lives: Lives) -> Iterator[tuple[Life, Life]]:

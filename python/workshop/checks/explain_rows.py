@@ -8,8 +8,7 @@ from collections.abc import Callable
 REFUSALS = [
     ("first-message", 13, "That of line 11 waits for host 0/2: `take 0/2`"),
     ("two-flows", 18, "That of line 12 waits for host 0/2: `take 0/2`"),
-    ("no-such-host", 11, "no host 0/3: IMP 3 has none."),
-    ("no-such-host", 12, "no host 0/3: IMP 3 has none."),
+    *(("no-such-host", line, "no host 0/3: IMP 3 has none.") for line in (11, 12)),
     ("no-such-host", 18, "no host 3/2: IMP 2 has only 0/2."),
     ("a-message-given-up", 25, "the message of line 22 was answered in line 24"),
     ("a-host-stops-and-starts", 13, "Host 0/2 is down already, since line 12"),

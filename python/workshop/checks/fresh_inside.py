@@ -14,7 +14,7 @@ import time
 from collections.abc import Callable, Sequence
 from dataclasses import asdict, dataclass
 from pathlib import Path
-from typing import Any, TypeVar
+from typing import Any, TypedDict, TypeVar
 
 from workshop.checks.installed import FORMS, Form, check_examples, file_of
 from workshop.checks.installed_wheel import native_in
@@ -38,8 +38,7 @@ Words = Sequence[str]
 Answer = TypeVar("Answer")
 
 
-@dataclass(frozen=True)
-class Took:
+class Took(TypedDict):
     """The seconds of a call: by the clock, and of the processor, with all that it starts."""
 
     clock: float
@@ -63,7 +62,8 @@ def timed(words: Words, given: bytes = FIRST, **how: Any) -> tuple[Took, bytes]:
     took, now = time.perf_counter() - began, resource.getrusage(resource.RUSAGE_CHILDREN)
     if ran.returncode or not ran.stdout:
         raise Wrong(f"{' '.join(words)} ended with {ran.returncode}: {ran.stderr.decode()[-2000:]}")
-    return Took(took, now.ru_utime + now.ru_stime - used.ru_utime - used.ru_stime), ran.stdout
+    processor = now.ru_utime + now.ru_stime - used.ru_utime - used.ru_stime
+    return Took(clock=took, processor=processor), ran.stdout
 
 
 def called(what: str, words: Words, given: bytes = FIRST, **how: Any) -> Row:
@@ -90,8 +90,8 @@ def cloned(room: str) -> str:
 def of_clone(what: str, clone: str, before: Words = ()) -> Row:
     """The row of `./arpasim` in a new clone; of the examples, what that starts."""
     row = called(what, [*before, f"{clone}/arpasim"])
-    if row.first.processor > SECONDS:
-        raise Wrong(f"{what}: the first call takes {row.first.processor:.2f} s of the processor")
+    if row.first["processor"] > SECONDS:
+        raise Wrong(f"{what}: the first call takes {row.first['processor']:.2f} s of the processor")
     return with_examples(row, call(*before, f"{clone}/tools/program").strip())
 
 
@@ -221,7 +221,7 @@ def search_rows(room: str) -> list[dict[str, object]]:
         by_node, again = hidden(native, lambda: timed(words))
         if found != again:
             raise Wrong(f"by Node `{' '.join(words)}` finds something else")
-        rows.append({"what": f"`dorydate explore {line}`", "native": own.processor, "by_node": by_node.processor})
+        rows.append({"what": f"`dorydate explore {line}`", "native": own["processor"], "by_node": by_node["processor"]})
     return rows
 
 

@@ -250,6 +250,7 @@ RFNM = "answer rfnm 0/2 0/1 5\n"
 SAFE_10, SAFE_11 = f"{FATES_10}\nsafe", f"{FATES_11}\nsafe"
 CLOSES = "broken closes lines 10 11\n" + FATES_10
 ALONE = "broken streams line 10\nbroken sent line 10"  # of a life that took something, and matches none
+BAD_10, BAD_11 = (f"broken lives line {line}\nmalformed line {line}" for line in (10, 11))
 VERDICTS = [
     ("", "", "kept"),
     # what isn't promised
@@ -287,13 +288,9 @@ VERDICTS = [
     ("in 0/2 0/1 5 56 00080002004849\n", "", "broken run line 8\nbroken lives line 9\nbroken messages line 8"),
     ("answer rfnm 0/2 0/1 5", "answer rfnm 0/2 0/1 4", "broken run line 9\nbroken messages line 9"),
     # stamps: one that names no such message, and which life comes first
-    ("16 0/2 33 0 4", "16 0/2 33 7 4", "broken lives line 10\nmalformed line 10"),
-    ("16 0/2 33 0 4", "16 0/2 33 1 4", "broken lives line 10\nmalformed line 10"),
-    ("16 0/2 33 0 4", "16 0/2 33 0 3", "broken lives line 10\nmalformed line 10"),
-    ("16 0/2 33 0 4", "16 0/2 33 0 9", "broken lives line 10\nmalformed line 10"),
-    ("33 0/1 16 3 1", "33 0/1 16 3 7", "broken lives line 11\nmalformed line 11"),
-    ("33 0/1 16 3 1", "33 0/1 16 18446744073709551615 1", "broken lives line 11\nmalformed line 11"),
-    ("life 0/2 33 0/1", "life 0/3 33 0/1", "broken lives line 11\nmalformed line 11"),
+    *(("16 0/2 33 0 4", f"16 0/2 33 {stamps}", BAD_10) for stamps in ("7 4", "1 4", "0 3", "0 9")),
+    *(("33 0/1 16 3 1", f"33 0/1 16 {stamps}", BAD_11) for stamps in ("3 7", "18446744073709551615 1")),
+    ("life 0/2 33 0/1", "life 0/3 33 0/1", BAD_11),
     ("0/2 0/1 0", "0/2 0/1 1", "broken run line 5\nbroken lives line 11\nmalformed line 10\nbroken messages line 5"),
     # numbers of lives and lists
     ("handed 24 484950\n", "", "malformed line 11"),

@@ -15,7 +15,7 @@ from __future__ import annotations
 from collections import Counter
 from typing import NamedTuple
 
-from workshop.checks.broken import broken, broken_book
+from workshop.checks.broken import Broken, broken, broken_book, runs_that_keep
 from workshop.checks.toward import CLAUSES, STRONGER, Clause, Watching, broken_toward
 from dorydate.model.chance.strangers import mixed_script
 from dorydate.model.crossings import Passed
@@ -125,13 +125,11 @@ def check(runs: int) -> int:
     if held := [it.name for it in STRONGER if is_needless(it)]:
         print("check worlds: no mixed world breaks toward a stranger what isn't promised there:", *held, sep="\n")
         return 1
-    came_to: Counter[str] = Counter()
-    for seed in range(runs):
-        ran = run(seed)
-        if ran.part:
-            print(f"check worlds: mixed run {seed} breaks {ran.part}: {ran.network}", *ran.lines, sep="\n")
-            return 1
-        came_to += ran.counts
+    try:
+        came_to = sum((it.counts for it in runs_that_keep("mixed run", runs, run)), Counter[str]())
+    except Broken as why:
+        print(f"check worlds: {why}")
+        return 1
     wrong = f"{len(LEAKS)} programs that mix up their peers and {len(MISTAKES)} that ask wrongly"
     print(f"check worlds: {wrong}, each found, and one that does no harm")
     for kind, count in sorted(came_to.items()):

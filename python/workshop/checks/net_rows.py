@@ -210,11 +210,15 @@ class PieceRows:
 # ---- flows
 
 
-class SourceRows:
-    """Flows at their source."""
+class FlowRows:
+    """Flows at an IMP that has just come up."""
 
     def __init__(self) -> None:
         self.state = ImpState(1, 0, 0)
+
+
+class SourceRows(FlowRows):
+    """Flows at their source."""
 
     def answers(self, call: str, wanted: list[str]) -> list[str]:
         name, *words = call.split(" ")
@@ -274,11 +278,8 @@ class SourceRows:
         return " ".join(f"{first}-{last}" for first, last in runs)
 
 
-class DestinationRows:
+class DestinationRows(FlowRows):
     """Flows at their destination."""
-
-    def __init__(self) -> None:
-        self.state = ImpState(1, 0, 0)
 
     def answers(self, call: str, wanted: list[str]) -> list[str]:
         name, *words = call.split(" ")

@@ -52,14 +52,10 @@ DISTANCES = "010001" + "3F" * 60
 
 # a reader, octets (of bits their number before them), and what is read
 WORKED = [
-    ("from_host", "00020500", "regular 0/2 5 = 00020500"),
-    ("from_host", "F0C2FF99AB", "regular 3/2 255 = 00C2FF00"),
-    ("from_host", "04000000", "nop = 04000000"),
-    ("from_host", "02000500", "unknown type 2"),
-    ("from_imp", "00410500", "regular 1/1 5 = 00410500"),
-    ("from_imp", "05020500", "rfnm 0/2 5 = 05020500"),
-    ("from_imp", "07BF0000", "dead 2/63 0 = 07BF0000"),
-    ("from_imp", "39020507FF00", "incomplete 0/2 5 = 09020500"),
+    ("from_host", "00020500", "regular 0/2 5 = 00020500"), ("from_host", "F0C2FF99AB", "regular 3/2 255 = 00C2FF00"),
+    ("from_host", "04000000", "nop = 04000000"), ("from_host", "02000500", "unknown type 2"),
+    ("from_imp", "00410500", "regular 1/1 5 = 00410500"), ("from_imp", "05020500", "rfnm 0/2 5 = 05020500"),
+    ("from_imp", "07BF0000", "dead 2/63 0 = 07BF0000"), ("from_imp", "39020507FF00", "incomplete 0/2 5 = 09020500"),
     ("from_imp", "84010203", "nop = 04000000"),
     ("body", "16 8000", "0 - = 16 8000"),
     ("body", "32 41424380", "24 414243 = 32 41424380"),

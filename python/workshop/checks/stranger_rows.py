@@ -35,15 +35,12 @@ CHANGED = [
     (FOREIGN, f"foreign 1/2\n{FOREIGN}", "kept"),
     (FOREIGN, f"foreign 3/1\n{FOREIGN}foreign 1/3\nforeign 0/63\n", "kept"),
     # what a host took from a stranger is within what it granted, with what it had back; what it took is not looked at
-    (GRANTED, "receive 1 8 1 7 0 0 open 51", "broken toward line 30"),
-    (GRANTED, "receive 1 8 0 8 0 0 open 51", "broken toward line 30"),
-    (GRANTED, "receive 1 8 1 8 0 1 open 51", "broken toward line 30"),
-    (GRANTED, "receive 1 8 1 8 1 0 open 51", "broken toward line 30"),
-    (GRANTED, "receive 1 8 2 9 1 1 open 51", "kept"),
-    (GRANTED, "receive 1 8 9 99 0 0 open 51", "kept"),
-    (GRANTED, "receive 1 8 1 8 0 0 open 50", "kept"),
-    (GRANTED, "receive 0 0 0 0 0 0 open -", "kept"),
-    (GRANTED, "receive 2 16 2 16 0 0 open 5152", "kept"),
+    *(
+        (GRANTED, f"receive 1 8 {it} open 51", "broken toward line 30")
+        for it in ("1 7 0 0", "0 8 0 0", "1 8 0 1", "1 8 1 0")
+    ),
+    *((GRANTED, f"receive 1 8 {it}", "kept") for it in ("2 9 1 1 open 51", "9 99 0 0 open 51", "1 8 0 0 open 50")),
+    *((GRANTED, f"receive {it}", "kept") for it in ("0 0 0 0 0 0 open -", "2 16 2 16 0 0 open 5152")),
     # what it sent to one is a prefix of what was handed over; what crossed is not looked at, nor what was granted
     (GIVEN_LIST, "handed 8 52\n", "kept"),
     (GIVEN_LIST, "handed 7 52\n", "broken toward line 32"),

@@ -26,7 +26,7 @@ from dataclasses import replace
 from typing import Any, NamedTuple, TypeVar
 
 from workshop.checks import mixed
-from workshop.checks.broken import Watched, broken
+from workshop.checks.broken import Broken, Watched, broken, runs_that_keep
 from workshop.checks.lefts import Books
 from workshop.words import Words
 from dorydate.model import arrived
@@ -242,13 +242,13 @@ def main() -> int:
         return 1
     came_to: Counter[str] = Counter()
     tried: Counter[str] = Counter()
-    for seed in range(runs):
-        ran = run(seed)
-        if ran.part:
-            print(f"check worlds: run {seed} breaks {ran.part}: {ran.network}", *ran.lines, sep="\n")
-            return 1
-        came_to += ran.reached
-        tried += ran.tried
+    try:
+        for ran in runs_that_keep("run", runs, run):
+            came_to += ran.reached
+            tried += ran.tried
+    except Broken as why:
+        print(f"check worlds: {why}")
+        return 1
     print(f"check worlds: {len([*wrong_books(), *wrong_partners()])} books written by hand, each judged rightly, and by {len(MISREADINGS)} wrong readings of the safe book not all")
     readings = f"{len(MISREAD_ENDINGS)} wrong readings of endings and {len(MISREAD_ARRIVED)} of RFNM"
     print(f"check worlds: books by hand tell {len(MISREAD_LEFT)} wrong readings of the fates that lives are left from the right one")

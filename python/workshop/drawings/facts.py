@@ -37,6 +37,14 @@ def defined(value: int, *places: tuple[str, str]) -> Fact:
     return Fact(value, places)
 
 
+def of_format(value: int, definition: str) -> Fact:
+    """A number that the format of packets defines."""
+    return defined(value, ("packetiser/specs/Format.antt", rf"^{definition} = (\d+)"))
+
+
+# where a packet's header has what, and the octets of kinds of packets that carry no piece
+PLACES = {"source_at": 1, "destination_at": 2, "link_at": 3, "number_at": 4, "place_at": 6, "count_at": 7}
+KINDS = {"Rfnm": 1, "Dead": 2, "Ask": 3, "Never": 4}
 FACTS = {
     # messages and their addresses
     "text_bits": defined(8063, ("bit_messages/specs/Body.antt", r"^most_text_bits = (\d+)"), ("bit_messages/src/bits.rt", r"MAX_TEXT_BITS: usize = ([\d_]+)")),
@@ -48,20 +56,12 @@ FACTS = {
     "message_numbers": defined(65536, ("interface/specs/Flow.antt", r"^message_numbers = (\d+)"), ("interface/src/address.rt", r"MESSAGE_NUMBERS: u32 = ([\d_]+)")),
     "window": defined(32767, ("link_table/specs/Numbers.antt", r"^window = (\d+)"), ("link_table/src/numbers.rt", r"WINDOW: u32 = ([\d_]+)")),
     # packets
-    "source_at": defined(1, ("packetiser/specs/Format.antt", r"^source_at = (\d+)")),
-    "destination_at": defined(2, ("packetiser/specs/Format.antt", r"^destination_at = (\d+)")),
-    "link_at": defined(3, ("packetiser/specs/Format.antt", r"^link_at = (\d+)")),
-    "number_at": defined(4, ("packetiser/specs/Format.antt", r"^number_at = (\d+)")),
-    "place_at": defined(6, ("packetiser/specs/Format.antt", r"^place_at = (\d+)")),
-    "count_at": defined(7, ("packetiser/specs/Format.antt", r"^count_at = (\d+)")),
+    **{name: of_format(place, name) for name, place in PLACES.items()},
     "header_octets": defined(9, ("packetiser/specs/Limits.antt", r"^header_octets = (\d+)"), ("packetiser/src/format.rt", r"HEADER_OCTETS: usize = ([\d_]+)")),
     "piece_bits": defined(1008, ("packetiser/specs/Limits.antt", r"^piece_bits = (\d+)"), ("packetiser/src/format.rt", r"PACKET_BITS: usize = ([\d_]+)")),
     "most_pieces": defined(8, ("packetiser/specs/Limits.antt", r"^most_pieces = (\d+)"), ("packetiser/src/format.rt", r"MAX_PACKETS: u8 = ([\d_]+)")),
     "most_slots": defined(8, ("packetiser/src/format.rt", r"SLOTS: usize = ([\d_]+)")),
-    "kind_rfnm": defined(1, ("packetiser/specs/Format.antt", r"^kind_octet kind.Rfnm = (\d+)")),
-    "kind_dead": defined(2, ("packetiser/specs/Format.antt", r"^kind_octet kind.Dead = (\d+)")),
-    "kind_ask": defined(3, ("packetiser/specs/Format.antt", r"^kind_octet kind.Ask = (\d+)")),
-    "kind_never": defined(4, ("packetiser/specs/Format.antt", r"^kind_octet kind.Never = (\d+)")),
+    **{f"kind_{kind.lower()}": of_format(octet, f"kind_octet kind.{kind}") for kind, octet in KINDS.items()},
     # frames and lines
     "version": defined(0xF2, ("imp_channel/specs/Format.antt", r"^version = (\d+)"), ("imp_channel/src/frame.rt", r"VERSION: u8 = (0x\w+)")),
     "frame_packet": defined(0, ("imp_channel/specs/Format.antt", r"^kind_octet \(content.Packet carried\) = (\d+)")),

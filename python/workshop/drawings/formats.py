@@ -31,8 +31,10 @@ class Octets:
         self.y += 17
         self.drawing.text(LEFT, self.y, words, kind, size=12.5, at="start")
 
-    def whole(self) -> Drawing:
-        """The drawing, as high as what is on it."""
+    def whole(self, *notes: str) -> Drawing:
+        """The drawing with these lines below it, as high as what is on it."""
+        for words in notes:
+            self.note(words)
         self.drawing.height = self.y + 16
         return self.drawing
 
@@ -55,9 +57,7 @@ def leader() -> Drawing:
     octets.row("1", *address("the other end", "green"))
     octets.row("2", (8, "link 0 to 255", "orange"))
     octets.row("3", (8, "ignored", "plain"), dash=True)
-    octets.note("type: 0 message, 4 NOP; from an IMP also 5 RFNM,")
-    octets.note("7 destination dead, 9 incomplete")
-    return octets.whole()
+    return octets.whole("type: 0 message, 4 NOP; from an IMP also 5 RFNM,", "7 destination dead, 9 incomplete")
 
 
 def packet() -> Drawing:
@@ -79,9 +79,9 @@ def packet() -> Drawing:
     octets.row(shown("place_at"), (1, "last", "purple"), (4, "zeros", "plain"), (3, f"place 0 to {value('most_pieces') - 1}", "purple"))
     octets.row(f"{shown('count_at')}, 8", (8, f"number of bits, at most {shown('piece_bits')}", "purple"), rows=2)
     octets.row(f"{shown('header_octets')} ..", (8, f"the bits of the piece, in units of {shown('unit_bits')}", "plain"), dash=True)
-    octets.note("An answer or a question has place 0, the last flag and no bits.")
-    octets.note("Of two octets the first is the higher one.")
-    return octets.whole()
+    return octets.whole(
+        "An answer or a question has place 0, the last flag and no bits.", "Of two octets the first is the higher one."
+    )
 
 
 def frame() -> Drawing:

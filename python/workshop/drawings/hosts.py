@@ -50,23 +50,21 @@ def end() -> Drawing:
         "and a sending end first drains what waits. The CLS goes out, the partner's comes in, and the end is over. The partner's CLS, if it comes first, drops what waits and closes this end too. A reset or a stop ends it at once.",
         458,
     )
-    steps = (
-        ("asked", "requests are under way", "plain"),
-        ("open", "bits are sent and taken", "green"),
-        ("closing", "a sender drains what waits", "orange"),
-        ("CLS queued", "nothing more is sent", "orange"),
-        ("CLS sent", "the partner's is awaited", "orange"),
-        ("over", "both CLS have passed", "plain"),
-    )
-    for at, (name, does, kind) in enumerate(steps):
+    states = {
+        "asked": "requests are under way", "open": "bits are sent and taken", "closing": "a sender drains what waits",
+        "CLS queued": "nothing more is sent", "CLS sent": "the partner's is awaited", "over": "both CLS have passed",
+    }  # fmt: skip
+    kinds = ("plain", "green", "orange", "orange", "orange", "plain")
+    until = "RTS and STR have crossed", "its user closes it", "all is sent and answered", "it goes out", "the partner's CLS"
+    for at, ((name, does), kind) in enumerate(zip(states.items(), kinds)):
         y = 44 + at * 70
         drawing.label(20, y, 206, 46, [name, does], kind, soft_after=1)
         if at:
             drawing.arrow(123, y - 24, 123, y - 2)
     drawing.text(20, 14, "a user asks, or a listening socket is asked", "soft", size=12, at="start")
     drawing.arrow(123, 24, 123, 42)
-    for y, words in ((102, "RTS and STR have crossed"), (172, "its user closes it"), (242, "all is sent and answered"), (312, "it goes out"), (382, "the partner's CLS")):
-        drawing.text(133, y, words, "soft", size=12, at="start")
+    for at, words in enumerate(until):
+        drawing.text(133, 102 + at * 70, words, "soft", size=12, at="start")
     drawing.box(318, 114, 150, 46, "blue")
     drawing.lines(393, 137, ["user is told:", "opened"], "ink", size=12.5)
     drawing.arrow(228, 137, 316, 137, "blue")

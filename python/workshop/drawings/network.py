@@ -176,17 +176,14 @@ def message() -> Drawing:
         "The destination's IMP joins the packets. The host takes the message from the mailbox, its program finds the socket, and the echo service gets the octets. An RFNM goes back the same way.",
         430,
     )
-    steps = (
-        ("terminal", "types a line", "orange"),
-        ("host's program", "queues it, waits for a grant", "orange"),
-        ("source's IMP", "numbers it, cuts packets", "green"),
-        ("echo service", "gets the octets", "orange"),
-        ("host's program", "finds the socket", "orange"),
-        ("destination's IMP", "joins packets: new? whole?", "green"),
+    rows = (
+        (("terminal", "types a line"), ("echo service", "gets the octets"), "orange"),
+        (("host's program", "queues it, waits for a grant"), ("host's program", "finds the socket"), "orange"),
+        (("source's IMP", "numbers it, cuts packets"), ("destination's IMP", "joins packets: new? whole?"), "green"),
     )
-    for at, (name, does, kind) in enumerate(steps):
-        x, y = (14, 34 + at * 118) if at < 3 else (260, 34 + (at - 3) * 118)
-        drawing.label(x, y, 206, 54, [name, does], kind, soft_after=1)
+    for column, x in enumerate((14, 260)):
+        for at, (left, right, kind) in enumerate(rows):
+            drawing.label(x, 34 + at * 118, 206, 54, [*(left, right)[column]], kind, soft_after=1)
     drawing.text(117, 16, "host 0/1", "ink bold")
     drawing.text(363, 16, "host 0/2", "ink bold")
     drawing.arrow(100, 88, 100, 150)

@@ -43,6 +43,7 @@ import sys
 import tempfile
 from collections.abc import Callable, Sequence
 
+from dorydate.model.topology import Topology, spelled_input
 from workshop.measure import best_of_all, most_memory, processor_time, words_with, written
 from workshop.parts import proved_program
 
@@ -51,27 +52,20 @@ CONNECTIONS = 40
 Script = tuple[list[str], dict[str, int]]  # its lines, and how many lines of some kinds it has to print
 Make = Callable[[str, int, int], Script]
 Carrier = tuple[str, str, int]
+
+
+def head(carrier: str, hosts: Sequence[int], lines: Sequence[tuple[int, int]] = ()) -> str:
+    """A topology with this many hosts at each of its IMPs, and these lines, up to its script."""
+    return spelled_input(Topology(carrier, False, [*enumerate(hosts, 1)], [*lines]), []).decode()
+
+
 # For each carrier: its topology, its second host, and the rounds of a calm in which one message or one request passes.
 CARRIERS: dict[str, Carrier] = {
-    "plain mailboxes": ('carrier = "plain"\nraw = false\n[[imp]]\nid=1\nhosts=1\n[[imp]]\nid=2\nhosts=1\n%\n', "0/2", 1),
-    "a chain of 4 IMPs": (
-        'carrier = "subnet"\nraw = false\n'
-        + "".join(f"[[imp]]\nid={number}\nhosts={int(number in (1, 4))}\n" for number in range(1, 5))
-        + "".join(f"[[line]]\na={number}\nb={number + 1}\n" for number in range(1, 4))
-        + "%\n",
-        "0/4",
-        4,
-    ),
-    "plain mailboxes of 64 hosts": (
-        'carrier = "plain"\nraw = false\n' + "".join(f"[[imp]]\nid={number}\nhosts=4\n" for number in range(1, 17)) + "%\n",
-        "0/2",
-        1,
-    ),
+    "plain mailboxes": (head("plain", [1, 1]), "0/2", 1),
+    "a chain of 4 IMPs": (head("subnet", [1, 0, 0, 1], [(imp, imp + 1) for imp in range(1, 4)]), "0/4", 4),
+    "plain mailboxes of 64 hosts": (head("plain", [4] * 16), "0/2", 1),
     "a ring of 16 IMPs with 4 hosts": (
-        'carrier = "subnet"\nraw = false\n'
-        + "".join(f"[[imp]]\nid={number}\nhosts=4\n" for number in range(1, 17))
-        + "".join(f"[[line]]\na={number}\nb={number % 16 + 1}\n" for number in range(1, 17))
-        + "%\n",
+        head("subnet", [4] * 16, [(imp, imp % 16 + 1) for imp in range(1, 17)]),
         "0/2",
         9,
     ),

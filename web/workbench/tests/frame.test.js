@@ -12,18 +12,11 @@ const page = readFileSync(new URL("../page.html", import.meta.url).pathname, "ut
 
 test("each size has its arrangement", () => {
     const rows = /** @type {[number, number, string, boolean][]} */ ([
-        [1440, 900, "wide", false],
-        [1024, 768, "wide", false],
-        [1024, 400, "mid", true],
-        [720, 450, "mid", false],
-        [844, 390, "mid", true],
-        [740, 360, "mid", true],
-        [640, 320, "mid", true],
-        [512, 384, "mid", true],
-        [768, 1024, "narrow", false],
-        [360, 740, "narrow", false],
-        [360, 500, "narrow", true],
-        [320, 256, "narrow", true],
+        [1440, 900, "wide", false], [1024, 768, "wide", false],
+        [720, 450, "mid", false], [1024, 400, "mid", true], [844, 390, "mid", true], [740, 360, "mid", true],
+        [640, 320, "mid", true], [512, 384, "mid", true],
+        [768, 1024, "narrow", false], [360, 740, "narrow", false],
+        [360, 500, "narrow", true], [320, 256, "narrow", true],
     ]);
     for (const [width, height, layout, isLow] of rows) {
         assert.deepEqual(arrangement(width, height), { layout, isLow }, `${width} by ${height}`);

@@ -15,24 +15,16 @@ const told = process.env.STATES ? JSON.parse(readFileSync(process.env.STATES, "u
 
 test("patterns match as they say", () => {
     const taken = ["out 0/1 0/2 5 8", "in 0/1 0/2 5 8", "answer incomplete 0/1 0/2 5"];
-    const rows = /** @type {[string, string[], boolean][]} */ ([
-        ["in A B N ..", taken, true],
-        ["in A B N", taken, false],
-        ["in A B N .. then answer incomplete A B N", taken, true],
-        ["in A B N .. then answer incomplete B A N", taken, false],
-        ["answer _ A B N then in A B N ..", taken, false],
-        ["out A .. then not in .. then answer .. A B N", taken, false],
-        ["out A .. then answer incomplete ..", taken, true],
-        ["in A B .. then not answer ..", taken, false],
-        ["in A B .. then not refused ..", taken, true],
-        ["in A B N M where N < M", taken, true],
-        ["in A B N M where M < N", taken, false],
-        ["in A B .. where A != B", taken, true],
-        ["in A .. and answer incomplete A ..", taken, true],
-    ]);
-    for (const [pattern, lines, isMatch] of rows) {
-        assert.equal(match(readPattern(pattern), lines) !== null, isMatch, pattern);
-    }
+    const right = [
+        "in A B N ..", "in A B N M where N < M", "in A B .. where A != B", "out A .. then answer incomplete ..",
+        "in A B N .. then answer incomplete A B N", "in A B .. then not refused ..", "in A .. and answer incomplete A ..",
+    ];
+    const wrong = [
+        "in A B N", "in A B N M where M < N", "in A B .. then not answer ..", "answer _ A B N then in A B N ..",
+        "in A B N .. then answer incomplete B A N", "out A .. then not in .. then answer .. A B N",
+    ];
+    for (const pattern of right) assert(match(readPattern(pattern), taken), pattern);
+    for (const pattern of wrong) assert.equal(match(readPattern(pattern), taken), null, pattern);
     const calm = readPattern("calm 5: no ready, 2 lines");
     assert(match(calm, [], ["up 0/1", "down 0/1"]) && !match(calm, [], ["up 0/1"]) && !match(calm, [], ["up 0/1", "ready 0/1"]));
     for (const bad of ["", "not in A", "In A", "in A where A", "calm 5: some", "noted never A"]) {

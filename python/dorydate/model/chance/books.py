@@ -4,7 +4,7 @@ or broken on purpose in one place; and small ones of few hosts and sockets, in w
 
 from __future__ import annotations
 
-from collections.abc import Sequence
+from collections.abc import Callable, Iterable, Sequence
 from dataclasses import replace
 from random import Random
 
@@ -41,8 +41,13 @@ def changed(change: Change, chance: Random, book: Book) -> Book | None:
 
 def broken(chance: Random, book: Book) -> tuple[str, Book]:
     """A book that is broken in one place, and by which way."""
-    for name in chance.sample([*WAYS], len(WAYS)):
-        other = changed(WAYS[name], chance, book)
+    return first_broken(chance.sample([*WAYS], len(WAYS)), lambda name: changed(WAYS[name], chance, book))
+
+
+def first_broken(names: Iterable[str], changed_by: Callable[[str], Book | None]) -> tuple[str, Book]:
+    """The first of some ways to change a book that breaks it, and the broken book."""
+    for name in names:
+        other = changed_by(name)
         if other is not None and verdict(other) != "kept":
             return name, other
     raise ValueError("no way breaks this book")

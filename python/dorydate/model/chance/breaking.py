@@ -8,6 +8,7 @@ from __future__ import annotations
 from collections.abc import Callable, Sequence
 from dataclasses import replace
 from random import Random
+from typing import TypeVar
 
 from dorydate.model.audit import CONTROL, match
 from dorydate.model.bits import Bits
@@ -24,6 +25,7 @@ FATES: list[Fate] = ["open", "closed", "ended", "reset", "stopped"]
 STRANGER = HostName(3, 63)
 
 Change = Callable[[Random, Book], None]
+T = TypeVar("T")
 
 
 # ---- what a book is changed in
@@ -46,6 +48,12 @@ def remove(book: Book, place: int) -> None:
     """Takes a crossing out of the log. A stamp that named it names the next one."""
     del book.log[place]
     moved(book, place + 1, -1)
+
+
+def exchange(chance: Random, things: list[T]) -> None:
+    """Two of these things change places."""
+    one, other = chance.sample(range(len(things)), 2)
+    things[one], things[other] = things[other], things[one]
 
 
 def places(book: Book, kind: str) -> list[int]:
@@ -176,8 +184,7 @@ def missing(chance: Random, book: Book) -> None:
 
 @way("two crossings change places")
 def swapped(chance: Random, book: Book) -> None:
-    one, other = chance.sample(range(len(book.log)), 2)
-    book.log[one], book.log[other] = book.log[other], book.log[one]
+    exchange(chance, book.log)
 
 
 @way("an own stamp at another message")
@@ -321,8 +328,7 @@ def handed_otherwise(chance: Random, book: Book) -> None:
 
 @way("lists of handed bits change places")
 def handed_swapped(chance: Random, book: Book) -> None:
-    one, other = chance.sample(range(len(book.handed)), 2)
-    book.handed[one], book.handed[other] = book.handed[other], book.handed[one]
+    exchange(chance, book.handed)
 
 
 @way("the sender's life is missing, with its list")

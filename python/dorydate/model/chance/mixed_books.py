@@ -13,13 +13,12 @@ from random import Random
 from dorydate.model.audit import partner_request
 from dorydate.model.bits import Bits
 from dorydate.model.book import Life
-from dorydate.model.chance.books import HOSTS, copied, small
+from dorydate.model.chance.books import HOSTS, copied, first_broken, small
 from dorydate.model.chance.breaking import FATES, HARMLESS, STRANGER, WAYS, Change, on_control, receives, sends, some_bits
 from dorydate.model.chance.strangers import MixedScript, mixed_script, naming
 from dorydate.model.log import Book, book_of, in_order, spelled_log
 from dorydate.model.names import HostName
 from dorydate.model.topology import Topology
-from dorydate.model.verdict import verdict
 
 Changed = Callable[[Random, Book], Book]  # changes a copy, or gives another book
 TOWARD: dict[str, Changed] = {}  # ways to break a book in what it says of strangers
@@ -201,11 +200,8 @@ def changed(change: Changed, chance: Random, book: Book) -> Book | None:
 def broken(chance: Random, book: Book) -> tuple[str, Book]:
     """A book that is broken in one place, and by which way: as a rule in what it says of strangers."""
     ways = [*chance.sample([*TOWARD], len(TOWARD))] if chance.random() < 0.7 else []
-    for name in [*ways, *chance.sample([*EVERY_WAY], len(EVERY_WAY))]:
-        other = changed(EVERY_WAY[name], chance, book)
-        if other is not None and verdict(other) != "kept":
-            return name, other
-    raise ValueError("no way breaks this book")
+    every = chance.sample([*EVERY_WAY], len(EVERY_WAY))
+    return first_broken([*ways, *every], lambda name: changed(EVERY_WAY[name], chance, book))
 
 
 def of_mixed_world(seed: int) -> tuple[str, Book, Topology, MixedScript]:

@@ -203,26 +203,29 @@ class GrantsReplace(Host):
         return super().take_open(pair, end, code, *numbers)
 
 
-class ReturnsKept(Host):
+class Unsubtracted(Host):
+    """A command after which counters are as before."""
+
+    command: int
+
+    def take_open(self, pair: Pair, end: End, code: int, *numbers: int) -> int | None:
+        before = end.messages, end.bits
+        wrong = super().take_open(pair, end, code, *numbers)
+        if code == self.command:
+            end.messages, end.bits = before
+        return wrong
+
+
+class ReturnsKept(Unsubtracted):
     """A sender returns what it was granted, and keeps it."""
 
-    def take_open(self, pair: Pair, end: End, code: int, *numbers: int) -> int | None:
-        before = end.messages, end.bits
-        wrong = super().take_open(pair, end, code, *numbers)
-        if code == GVB:
-            end.messages, end.bits = before
-        return wrong
+    command = GVB
 
 
-class ReturnsUnseen(Host):
+class ReturnsUnseen(Unsubtracted):
     """A receiver doesn't subtract what was returned to it."""
 
-    def take_open(self, pair: Pair, end: End, code: int, *numbers: int) -> int | None:
-        before = end.messages, end.bits
-        wrong = super().take_open(pair, end, code, *numbers)
-        if code == RET:
-            end.messages, end.bits = before
-        return wrong
+    command = RET
 
 
 class CountsMessages(End):
