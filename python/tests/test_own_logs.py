@@ -8,12 +8,12 @@ import unittest
 from dorydate.contract import RULES
 from dorydate.contract.acts import Act, Comes, Contacts, Ended, Goes, Opened, Starts, Stops
 from dorydate.contract.texts import Command, text_of
-from dorydate.definitions.deciding import Decider
+from dorydate.definitions.compiling import Decider
 from dorydate.definitions.library import Library
 from dorydate.definitions.promise import crates_folder, deeply, sources_below
 from dorydate.model.commands import CLS, RRP, RST, RTS, STR
 from workshop.parts import ROOT, text_of as file_text
-from workshop.second.own_logs import Contract, by_definitions, by_judge, difference, of_interface
+from workshop.contract.own_logs import Contract, by_definitions, by_judge, difference, of_interface
 
 CONTRACT = "host_contract/specs/Contract.antt"
 REQUEST = Command(RTS, (16, 33, 2))

@@ -5,38 +5,45 @@ from __future__ import annotations
 import shutil
 import unittest
 
-from dorydate.definitions.deciding import Decider
+from dorydate.definitions.compiling import Decider
 from dorydate.definitions.files import Definition, Structure, read_file
 from dorydate.definitions.library import Library, Module
 from dorydate.definitions.promise import BOOK, Judge, deeply
 from dorydate.definitions.reading import term_of
-from workshop.second import agda, laws, mutants
+from workshop.second import laws, mutants
+from workshop.second.agda import Writer
 from workshop.second.mutants import changes, page, spread
-from workshop.second.proofs import ProofWriter
 from workshop.second.rows import Row, all_rows, computed, rows_of, sources
+from workshop.second.rust import Rust, mangled, parts_of
 
 FORMED = "Rattle.promise.specs.Formed"
-WRONG = "abbrev pub f : ℕ → ℕ\nf zero = 0\nf (suc n) = f (suc n)\n"
 
 
 class OfAgda(unittest.TestCase):
     def test_a_definition(self) -> None:
-        text = agda.written(Judge(), [BOOK], "Promise").text
+        text = laws.of_page(Judge(), [BOOK]).texts["Promise"]
         self.assertIn("--safe", text)
         self.assertNotIn("postulate", text)
-        self.assertIn("is-over Fate°.Open = false", text)
-        self.assertIn("record Match (log : (List Crossing°)) (receiver sender : Life°) : Set where", text)
+        self.assertIn("is-over-of-promise-Fates Fate°.Open = false", text)
+        self.assertIn("record Match-of-promise-Safe (log : (List Crossing°)) (receiver sender : Life°) : Set where", text)
 
     def test_what_never_ends_is_refused(self) -> None:
         if not shutil.which("agda"):
             self.skipTest("agda is not installed")
-        lines = "f : ℕ → ℕ\nf zero = 0\nf (suc n) = f (suc n)"
-        head = "{-# OPTIONS --safe #-}\nmodule Wrong where\nopen import Base\n"
-        self.assertIn("Termination", agda.said_of(agda.Written(head + lines, 1, 0), "Wrong"))
-        self.assertEqual(agda.said_of(agda.Written(f"{head}n : ℕ\nn = 1", 1, 0), "Wrong"), "")
+        for last, wrong in (("f (suc n)", "Termination"), ("f n", "")):
+            made = laws.Modules({})
+            made.add("Recursion", ["f : ℕ → ℕ", "f zero = 0", f"f (suc n) = {last}"], ["Base"])
+            self.assertIn(wrong, found := laws.checked(made).said)
+            self.assertEqual(bool(wrong), bool(found))
 
     def test_names(self) -> None:
-        self.assertEqual([agda.mangled(it) for it in ("own_stamp", "to", "x")], ["own-stamp", "to′", "x"])
+        self.assertEqual([mangled(it) for it in ("own_stamp", "to", "x")], ["own-stamp", "to′", "x"])
+
+    def test_types_of_rust(self) -> None:
+        self.assertEqual(parts_of("pub struct S { a: [u8; 4], b: Option<(u8, u16)> } rest", 14), ["a: [u8; 4]", "b: Option<(u8, u16)>"])
+        rust = Rust()
+        self.assertEqual(rust.type("Option<Flow>", "interface"), "(Option Flow°)")
+        self.assertIn("    #link : Link°", rust.written["Flow"])
 
 
 class OfRows(unittest.TestCase):
@@ -51,6 +58,21 @@ pub record IsTwo : Type 0 where
 
 abbrev pub number_of : IsTwo → ℕ
 number_of it = it.number
+
+pub record IsMore (less more : ℕ) : Type 0 where
+  pub over : less < more
+
+abbrev pub lesser : {less more : ℕ} → IsMore less more → ℕ
+lesser {less} {more} it = less
+
+abbrev pub Property : Type 0 → Type 1
+Property A = A → Type 0
+
+abbrev pub IsSmall : Property ℕ
+IsSmall n = n < 3
+
+abbrev pub Twice : Property ℕ → Property ℕ
+Twice P n = P (n + n)
 """
 
     def rows(self) -> list[Row]:
@@ -96,6 +118,14 @@ number_of it = it.number
     def test_a_function_of_evidence(self) -> None:
         self.assertEqual(self.said("(it : IsTwo) × (number_of it ≡ 2)"), "holds")
         self.assertEqual(self.said("(it : IsTwo) × (number_of it ≡ 3)"), "fails")
+
+    def test_a_function_that_takes_in_braces_what_its_evidence_is_of(self) -> None:
+        self.assertEqual(self.said("(it : IsMore 2 5) × (lesser it ≡ 2)"), "holds")
+        self.assertEqual(self.said("(it : IsMore 2 5) × (lesser it ≡ 3)"), "fails")
+
+    def test_a_statement_that_is_given_as_an_argument(self) -> None:
+        for text, found in (("Twice IsSmall 1", "holds"), ("Twice IsSmall 2", "fails"), ("Twice (λ n. n < 9) 4", "holds")):
+            self.assertEqual(self.said(text), found, text)
 
 
 class OfChanges(unittest.TestCase):
@@ -164,24 +194,24 @@ pub never : (l : Light) → l ≡ Green → goes l ≡ false → ⊥
 never l e f = let both : true ≡ false = sym (ap goes e) ∙ f in absurd (cc)
 """
 
-    def written(self, text: str) -> str:
+    def written(self, text: str) -> laws.Modules:
         library = Library(sources())
         name = "Rattle.a_test.proofs.Lights"
         library.modules[name] = Module(name, *read_file(text))
-        writer = ProofWriter(library)
+        writer = Writer(library)
         writer.owners = [(name, "Light")]
         lines = laws.items(writer, library.module(name).items, name)
-        head = [laws.HEAD, "module Lights where", *map(laws.public, ("Base", "Words", "Lemmas")), laws.TACTICS]
-        return "\n".join([*head, *lines])
+        found = laws.words(library)
+        found.add("Lights", lines, [*map(laws.public, ("Base", "Words", "Lemmas")), laws.TACTICS])
+        return found
 
     def said(self, text: str) -> str:
         if not shutil.which("agda"):
             self.skipTest("agda is not installed")
-        library = Library(sources())
-        return laws.checked(laws.Laws("a_test", {"Words": laws.words(library), "Lights": self.written(text)})).said
+        return laws.checked(self.written(text)).said
 
     def test_a_clause_of_several_forms_is_written_for_each(self) -> None:
-        lines = [it for it in self.written(self.FILE).split("\n") if it.startswith("goes-once-of-a-test-Lights ")]
+        lines = [it for it in self.written(self.FILE).texts["Lights"].split("\n") if it.startswith("goes-once-of-a-test-Lights ")]
         self.assertEqual(len(lines), 4)  # its type, and a clause for each light
 
     def test_lemmas_are_proved(self) -> None:
@@ -195,9 +225,9 @@ never l e f = let both : true ≡ false = sym (ap goes e) ∙ f in absurd (cc)
                 self.assertNotEqual(self.said(self.FILE.replace(right, wrong)), "")
 
     def test_nothing_is_taken_on_trust(self) -> None:
-        found = laws.written(Library(sources()), "stream_law")
+        found = laws.of_laws(Library(sources()), "stream_law")
         hand = "".join(laws.file_of(it).read_text(encoding="utf-8") for it in laws.BY_HAND)
-        for text in (*found.modules.values(), hand):
+        for text in (*found.texts.values(), hand):
             self.assertIn("{-# OPTIONS --safe #-}", text)
             for word in ("postulate", "TERMINATING", "primTrustMe", "trustMe"):
                 self.assertNotIn(word, text)

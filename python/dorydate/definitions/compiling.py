@@ -1,236 +1,230 @@
-"""Makes of the terms of a library what can be computed: an expression of each, and a function of each definition."""
+"""Makes of the terms of a library what can be computed and decided: an expression of each, and one of each definition."""
 
 from __future__ import annotations
 
 import re
-from collections.abc import Callable, Iterator, Sequence
+from collections.abc import Callable, Iterator, Mapping, Sequence
+from functools import cached_property
 
 from dorydate.definitions.computing import (  # fmt: skip
-    NOTHING, Abstraction, Arithmetic, Bound, Build, Call, Change, Choice, Connective, Construct, Delayed, Env,
-    Expression, Get, Join, Literal, Local, NotComputed, OfFields, OfForm, Pattern, Same, Slot, Successor, Unfolded,
+    Abstraction, Arithmetic, Build, Call, Change, Choice, Construct, Defining, Env, Evidence, Expression,
+    Get, Goals, Join, Literal, Local, OfFields, OfForm, Pattern, Same, Selection, Slot, Slots, Unbound, Unread,
+    braced, forced, goals_of, known_value,
 )
-from dorydate.definitions.files import Structure
-from dorydate.definitions.library import WORDS, Constant, Declared, Defined, Form, Library, Meaning, Typed, Word
-from dorydate.definitions.maps import MAPS, made
+from dorydate.definitions.deciding import (  # fmt: skip
+    DONE, AllOf, Conjunct, Either, Equal, Every, Fixed, Implied, Less, Member, Search,
+)
+from dorydate.definitions.files import Definition, Structure
+from dorydate.definitions.library import WORDS, Constant, Declared, Defined, Form, Library, Meaning, NoMeaning, Typed, Word
 from dorydate.definitions.terms import (  # fmt: skip
-    Apply, Both, Changed, Field, ForAll, Function, If, Implicit, Let, Match, Name, Number, Operation, Record, Section,
-    Term, Text, Tuple, Universe, Unknown, arity, head_of, result_of,
+    Apply, Both, Changed, Field, ForAll, Function, If, Implicit, Let, Match, Name, Number, Operation, Record,
+    Section, Term, Text, Tuple, Universe, Unknown, arity, binders_of, head_of, inside, result_of, taken_types,
 )
-from dorydate.definitions.values import FALSE, NIL, NONE, TRUE, Data, Lambda, Value, applied, data, forget, listed
+from dorydate.definitions.values import FALSE, NIL, NONE, TRUE, TYPE, Data, Lambda, NotComputed, Struct, Value, applied, forget
 from dorydate.definitions.words import NATIVE
 
 Scope = frozenset[str]
 NO_NAMES: Scope = frozenset()
-PLAIN: dict[str, Value] = {"true": TRUE, "false": FALSE, "[]": NIL, "None": NONE, "zero": 0}
+PLAIN: dict[str, Value] = {"true": TRUE, "false": FALSE, "[]": NIL, "None": NONE, "zero": 0, "tt": NIL}
 FORMS = {"Some", "Ok", "Err", "∷", "inl", "inr", "pos", "negsuc"}
+FIXED = {"Unit": True, "⊥": False}
 INFIX_NAME = re.compile("◌(.*)◌")
-ARITHMETIC = ("+", "-", "*", "/", "%", "^")
 VALUE_TYPES = {"ℕ", "ℤ", "Bool", "List", "Option", "Result", "String", "Ordering", "Vec", "Width", "FinMap.FinMap"}
+SUCCESSOR = Abstraction([Pattern("n")], Arithmetic("+", Local("n"), Literal(1)))
 
 
-TYPE = Data("a type", (), 0)  # nothing is computed of a type
+class Decider(Search):
+    """Decides statements over a library. Each expression and each definition is made once."""
 
-
-class Compiler:
-    """Expressions and functions of a library, each made once."""
-
-    def __init__(self, library: Library) -> None:
+    def __init__(self, library: Library, domains: Mapping[str, Sequence[Value]] | None = None) -> None:
+        super().__init__(domains)
         self.library = library
-        self.functions: dict[tuple[str, str], Lambda | Expression] = {}
-        self.memory: dict[tuple[object, ...], Value] = {}
+        self.made: dict[tuple[str, str], Clauses | Fields] = {}
         self.kinds: dict[tuple[str, str], bool] = {}
-        self.calls, self.most_calls = (
-            0,
-            0,
-        )  # how many definitions were computed since, and how many may be; 0 is any number
+        self.memory: dict[tuple[object, ...], Value] = {}
+        self.decided: dict[tuple[object, ...], bool] = {}
+        self.calls, self.most_calls = 0, 0  # how many definitions were computed since, and how many may be; 0 is any number
 
     def forget(self) -> None:
-        """Forgets all values that were computed."""
+        """Forgets all that was computed and decided."""
         self.calls = 0
         self.memory.clear()
+        self.decided.clear()
         forget()
 
     # ---- names
-
-    def alias_of(self, term: Term, module: str, scope: Scope) -> str:
-        """The module's alias that a term is; nothing where it is none."""
-        if isinstance(term, Name) and term.text not in scope:
-            here = self.library.module(module)
-            if term.text in here.aliases:
-                return term.text
-        return ""
 
     def meaning(self, term: Term, module: str, scope: Scope) -> Meaning | None:
         """What a name means, or a name of another module; None of a local name, and of all other terms."""
         if isinstance(term, Name) and term.text not in scope:
             return self.library.meaning(module, term.text)
-        if isinstance(term, Field) and (alias := self.alias_of(term.of, module, scope)):
-            return self.library.meaning(module, term.name, alias)
-        if (
-            isinstance(term, Field)
-            and isinstance(term.of, Name)
-            and term.of.text[0].isupper()
-            and term.of.text not in scope
-        ):
-            return Form(term.of.text, term.name)  # a constructor, by its type
+        if isinstance(term, Field) and isinstance(term.of, Name) and term.of.text not in scope:
+            if term.of.text in self.library.module(module).aliases:
+                return self.library.meaning(module, term.name, term.of.text)
+            if term.of.text[0].isupper():
+                return Form(term.of.text, term.name)  # a constructor, by its type
         return None
+
+    def defined(self, meaning: Defined | Typed) -> Clauses | Fields:
+        """A definition, or a record of statements."""
+        key = meaning.module, meaning.item.name
+        if key not in self.made:
+            self.made[key] = Clauses(self, meaning) if isinstance(meaning, Defined) else Fields(self, meaning)
+        return self.made[key]
 
     # ---- kinds of types
 
     def is_statement(self, type_: Term, module: str, scope: Scope = NO_NAMES) -> bool:
         """Whether a type is a statement, so that what has it is evidence, and not a type of values."""
-        if isinstance(type_, Operation):
-            return True
-        if isinstance(type_, ForAll):
-            return self.is_statement(type_.body, module, scope | {*type_.binder.names})
-        if isinstance(type_, Both):
-            return any(self.is_statement(it.type, module, scope) for it in type_.parts)
+        match type_:
+            case Operation():
+                return True
+            case ForAll(binder, body):
+                return self.is_statement(body, module, scope | {*binder.names})
+            case Both(parts):
+                return any(self.is_statement(it.type, module, scope) for it in parts)
         head = head_of(type_)
         if isinstance(head, Name) and head.text in scope:
             return isinstance(type_, Apply)  # a name by itself is a type, unless nothing has it: see `conjuncts`
-        if isinstance(head, Name) and head.text in ("Unit", "⊥"):
-            return True
         if isinstance(head, (Universe, Unknown)):
             return False
         meaning = self.meaning(head, module, scope)
         if meaning is None and isinstance(head, Field):
             return not head.name[0].isupper()  # what a field of a value says, unless it is a type
-        if isinstance(meaning, (Declared, Word)):
-            return isinstance(meaning, Word) and meaning.name not in VALUE_TYPES
         return self.is_statement_of(meaning)
 
     def is_statement_of(self, meaning: Meaning | None) -> bool:
+        if isinstance(meaning, Word):
+            return meaning.name not in VALUE_TYPES
+        if isinstance(meaning, Declared):
+            return False
         if isinstance(meaning, Typed):
-            key = meaning.module, meaning.structure.name
+            key = meaning.module, meaning.item.name
             if key not in self.kinds:
                 self.kinds[key] = False  # of a type that speaks of itself
-                self.kinds[key] = self.is_law(meaning.structure, meaning.module)
+                self.kinds[key] = self.is_law(meaning.item, meaning.module)
             return self.kinds[key]
-        if isinstance(meaning, Defined):
-            type_, value = meaning.definition.type, meaning.definition.clauses[0].value
-            names = frozenset(it.text for it in meaning.definition.clauses[0].patterns if isinstance(it, Name))
-            if arity(type_) > 0 and isinstance(head_of(value), Field):
-                inner = self.meaning(head_of(value), meaning.module, names)
-                return not isinstance(inner, Word) or inner.name not in VALUE_TYPES
-            return arity(type_) > 0 or self.is_statement(value, meaning.module, names)
-        raise NotComputed("a type of another kind")
+        if not isinstance(meaning, Defined):
+            raise NotComputed("a type of another kind")
+        first, takes = meaning.item.clauses[0], arity(meaning.item.type) > 0
+        names = frozenset(it.text for it in first.patterns if isinstance(it, Name))
+        if takes and isinstance(head_of(first.value), Field):
+            inner = self.meaning(head_of(first.value), meaning.module, names)
+            return not isinstance(inner, Word) or inner.name not in VALUE_TYPES
+        return takes or self.is_statement(first.value, meaning.module, names)
 
     def is_law(self, structure: Structure, module: str) -> bool:
         """Whether a record is a statement: it is about values, or a field of it is."""
-        if not structure.is_record:
-            return False
         types = [it for it in structure.binders if isinstance(it.type, Universe)]
-        if len(types) < len(structure.binders):
-            return True
-        names = frozenset(name for it in types for name in it.names)
-        return any(
-            self.is_statement(it.type, module, names | {member.name for member in structure.members})
-            for it in structure.members
+        names = frozenset(name for it in types for name in it.names) | {it.name for it in structure.members}
+        return structure.is_record and (
+            len(types) < len(structure.binders) or any(self.is_statement(it.type, module, names) for it in structure.members)
         )
 
-    def gives_statement(self, type_: Term) -> bool:
-        """Whether what has this type is a statement, once it has its arguments."""
-        return isinstance(result_of(type_), Universe)
+    def takes(self, type_: Term, module: str) -> int | None:
+        """Of how many arguments something of this type says something; None where it says nothing."""
+        result, own = result_of(type_), arity(type_)
+        if isinstance(result, Universe):
+            return own
+        meaning = self.meaning(head_of(result), module, NO_NAMES)
+        more = self.takes(meaning.item.clauses[0].value, meaning.module) if isinstance(meaning, Defined) else None
+        return None if more is None else own + more
 
     # ---- expressions
 
-    def expression(self, term: Term, module: str, scope: Scope) -> Expression:
-        """What a term computes to, by the values of the local names."""
-        if isinstance(term, Name):
-            return self.name(term, module, scope)
-        if isinstance(term, Number):
-            return Literal(term.value)
-        if isinstance(term, Text):
-            return Codes(term.value)
-        if isinstance(term, Apply):
-            return self.application(term, module, scope)
-        if isinstance(term, Operation):
-            return self.operation(
-                term.word, self.expression(term.left, module, scope), self.expression(term.right, module, scope)
-            )
-        if isinstance(term, If):
-            return Choice(*(self.expression(it, module, scope) for it in (term.condition, term.then, term.otherwise)))
-        if isinstance(term, Field):
-            meaning = self.meaning(term, module, scope)
-            return (
-                Get(self.expression(term.of, module, scope), term.name) if meaning is None else self.constant(meaning)
-            )
-        if isinstance(term, Tuple):
-            return Build([(str(at), self.expression(it, module, scope)) for at, it in enumerate(term.items)])
-        if isinstance(term, Record):
-            return Build([(name, self.expression(it, module, scope)) for name, it in term.fields])
-        if isinstance(term, Changed):
-            return Change(
-                self.expression(term.of, module, scope),
-                [(name, self.expression(it, module, scope)) for name, it in term.fields],
-            )
+    def expression(self, term: Term, module: str, scope: Scope = NO_NAMES) -> Expression:
+        """What a term computes to or says, by what the local names mean."""
+        try:
+            return self.expressed(term, module, scope)
+        except (NotComputed, NoMeaning) as why:
+            return Unread(why)
+
+    def expressed(self, term: Term, module: str, scope: Scope) -> Expression:
+        def of(it: Term) -> Expression:
+            return self.expression(it, module, scope)
+
+        match term:
+            case Name(text) if text in scope:
+                return Local(text)
+            case Name(text) if text in PLAIN:
+                return Literal(PLAIN[text])
+            case Name(text) if text in FIXED:
+                return Fixed(FIXED[text])
+            case Name() | Field():
+                meaning = self.meaning(term, module, scope)
+                return self.constant(meaning) if meaning else Get(of(term.of), term.name)  # type: ignore[union-attr]
+            case Number(value):
+                return Literal(value)
+            case Text(text):
+                codes: Expression = Literal(NIL)
+                for code in reversed(text.encode()):
+                    codes = Construct("∷", [Literal(code), codes])
+                return codes
+            case Apply():
+                return self.application(term, [of(it) for it in term.given], module, scope)
+            case Operation(word, left, right):
+                return self.operation(word, of(left), of(right))
+            case If(condition, then, otherwise):
+                return Choice(of(condition), of(then), of(otherwise))
+            case Tuple(items):
+                return Build([(str(at), of(it)) for at, it in enumerate(items)])
+            case Record(fields):
+                return Build([(name, of(it)) for name, it in fields])
+            case Changed(other, fields):
+                return Change(of(other), [(name, of(it)) for name, it in fields])
+            case Match(other, cases) if other is not None:
+                return Selection(of(other), [self.case(it.pattern, it.body, module, scope) for it in cases])
         return self.binding(term, module, scope)
 
     def binding(self, term: Term, module: str, scope: Scope) -> Expression:
-        """An expression that gives names to values."""
-        if isinstance(term, Function):
-            names: set[str] = set()
-            patterns = [self.pattern(it.pattern, module, names) for it in term.parameters]
-            try:
-                return Abstraction(patterns, self.expression(term.body, module, scope | names))
-            except NotComputed:
-                return Saying(term, module, len(term.parameters))
-        if isinstance(term, Let):
-            names = set()
-            pattern = self.pattern(term.pattern, module, names)
-            return Bound(
-                pattern, self.expression(term.value, module, scope), self.expression(term.body, module, scope | names)
-            )
-        if isinstance(term, Section):
-            other, local = self.expression(term.term, module, scope), Local("◌")
-            body = self.operation(term.word, *((local, other) if term.is_right else (other, local)))
-            return Abstraction([Pattern("◌")], body)
-        if isinstance(term, Match) and term.of is not None:
-            return Selection(self.expression(term.of, module, scope), self.cases(term, module, scope))
+        """A term that gives names to values."""
+        match term:
+            case Function(parameters, body):
+                return Abstraction(*self.clause([it.pattern for it in parameters], body, module, scope))
+            case Let(pattern, _, value, body):
+                return Selection(self.expression(value, module, scope), [self.case(pattern, body, module, scope)])
+            case Section(word, other, is_right):
+                sides = [Local("◌"), self.expression(other, module, scope)]
+                return Abstraction([Pattern("◌")], self.operation(word, *(sides if is_right else sides[::-1])))
+            case Both(parts):
+                return AllOf(self.conjuncts([(it.name or "", it.type) for it in parts], module, scope))
+            case ForAll():
+                return self.every(term, module, scope)
         raise NotComputed(f"a {type(term).__name__} is no value")
 
-    def cases(self, term: Match, module: str, scope: Scope) -> list[tuple[Pattern, Expression]]:
-        found = []
-        for case in term.cases:
-            names: set[str] = set()
-            pattern = self.pattern(case.pattern, module, names)
-            found.append((pattern, self.expression(case.body, module, scope | names)))
-        return found
+    def clause(self, patterns: Sequence[Term], body: Term, module: str, scope: Scope) -> tuple[list[Pattern], Expression]:
+        """What some arguments have to be, and the value that has their names."""
+        names: set[str] = set()
+        found = [self.pattern(it, module, names) for it in patterns]
+        return found, self.expression(body, module, scope | names)
 
-    def name(self, term: Name, module: str, scope: Scope) -> Expression:
-        if term.text in scope:
-            return Local(term.text)
-        if term.text in PLAIN:
-            return Literal(PLAIN[term.text])
-        return self.constant(self.library.meaning(module, term.text))
+    def case(self, pattern: Term, body: Term, module: str, scope: Scope) -> tuple[Pattern, Expression]:
+        (found,), value = self.clause([pattern], body, module, scope)
+        return found, value
 
     def constant(self, meaning: Meaning) -> Expression:
         """What a name means that isn't local."""
         if isinstance(meaning, Form):
-            return FormOf(meaning.name)
+            return Construct(meaning.name)
         if isinstance(meaning, Word):
             return self.word(meaning.name)
-        if isinstance(meaning, Defined):
-            return Named(self, meaning)
         if isinstance(meaning, Constant):
             return Literal(self.declared_number(meaning))
-        if isinstance(meaning, Typed) and self.is_statement_of(meaning):
-            return Saying(Name(meaning.structure.name), meaning.module, len(meaning.structure.binders))
+        if isinstance(meaning, Defined) or isinstance(meaning, Typed) and self.is_statement_of(meaning):
+            return self.defined(meaning)
         return Literal(TYPE)
 
     def word(self, name: str) -> Expression:
-        if name in PLAIN:
-            return Literal(PLAIN[name])
-        if name in VALUE_TYPES or name in ("Unit", "⊥"):
+        if name in VALUE_TYPES:
             return Literal(TYPE)
         if name in FORMS:
-            return FormOf(name)
+            return Construct(name)
         if name == "suc":
-            return Abstraction([Pattern("n")], Successor(Local("n")))
+            return SUCCESSOR
+        if name == "FinMap.empty":
+            return Construct("map", [Literal(NIL)])
         if name in NATIVE:
             return Literal(NATIVE[name])
-        if name.startswith("FinMap.") and name != "FinMap.FinMap":
-            return OfMaps(name.removeprefix("FinMap."))
         if infix := INFIX_NAME.fullmatch(name):
             return Abstraction([Pattern("a"), Pattern("b")], self.operation(infix[1], Local("a"), Local("b")))
         raise NotComputed(f"the library's word {name}")
@@ -243,63 +237,84 @@ class Compiler:
             raise NotComputed(f"the constant {meaning.name}")
         return int(found[1].replace("_", ""))
 
-    def application(self, term: Apply, module: str, scope: Scope) -> Expression:
-        if isinstance(term.function, Name) and term.function.text == "if◌then◌else◌":
-            return Choice(*(self.expression(it, module, scope) for it in term.given))
+    def application(self, term: Apply, arguments: Sequence[Expression], module: str, scope: Scope) -> Expression:
+        if term.function == Name("if◌then◌else◌"):
+            return Choice(*arguments)
+        if term.function == Name("¬"):
+            return Implied(self, arguments, Fixed(False))
         function = self.expression(term.function, module, scope)
-        arguments = [self.expression(it, module, scope) for it in term.given]
-        if isinstance(function, FormOf):
-            return Construct(function.form, arguments)
-        if isinstance(function, Abstraction) and isinstance(function.body, Successor) and len(arguments) == 1:
-            return Successor(arguments[0])
-        if (
-            isinstance(function, Named)
-            and (names := function.plain_names()) is not None
-            and len(names) == len(arguments)
-        ):
-            return Opening(function, arguments, names)
+        if function is SUCCESSOR and arguments:
+            return Arithmetic("+", arguments[0], Literal(1))
+        if isinstance(function, Construct):
+            return Construct(function.form, [*function.arguments, *arguments])
+        if isinstance(function, Clauses) and (function.module, function.item.name, len(arguments)) == (WORDS, "Contains", 2):
+            return Member(*arguments)
         return Call(function, arguments) if arguments else function
 
     def operation(self, word: str, left: Expression, right: Expression) -> Expression:
-        if word == "∷":
-            return Construct("∷", [left, right])
-        if word == "++":
-            return Join(left, right)
-        if word == "==":
-            return Same(left, right)
-        if word in ("&&", "||"):
-            return Connective(FALSE if word == "&&" else TRUE, left, right)
-        if word in ARITHMETIC:
-            return Arithmetic(word, left, right)
-        raise NotComputed(f"a statement with {word} is no value")
+        if word in OPERATIONS:
+            return OPERATIONS[word](left, right)
+        if word == "≢":
+            return Implied(self, [Equal(left, right)], Fixed(False))
+        if word == "↔":
+            both = (Implied(self, [one], other) for one, other in ((left, right), (right, left)))
+            return AllOf([Conjunct("", it, "", False) for it in both])
+        return Arithmetic(word, left, right)
+
+    # ---- statements
+
+    def conjuncts(self, parts: Sequence[tuple[str, Term]], module: str, scope: Scope, after: Sequence[Term] = ()) -> list[Conjunct]:
+        """The parts of a product, or the premises of something that comes after them."""
+        found = []
+        for at, (name, type_) in enumerate(parts):
+            later = [*(it for _, it in parts[at + 1 :]), *after]
+            is_local = not name and isinstance(type_, Name) and type_.text in scope
+            is_statement = is_local or self.is_statement(type_, module, scope)
+            statement = self.expression(type_, module, scope) if is_statement else None
+            found.append(Conjunct(name, statement, type_name(type_), bool(name) and any(mentions(it, name) for it in later)))
+            scope = scope | {name} if name else scope
+        return found
+
+    def every(self, term: Term, module: str, scope: Scope) -> Expression:
+        parts: list[tuple[str, Term]] = []
+        while isinstance(term, ForAll):
+            parts += [(it, term.binder.type) for it in term.binder.names or ("",)]
+            term = term.body
+        premises = self.conjuncts(parts, module, scope, [term])
+        conclusion = self.expression(term, module, scope | {name for name, _ in parts if name})
+        plain = [it.statement for it in premises if it.statement is not None and not it.is_named]
+        return Implied(self, plain, conclusion) if len(plain) == len(premises) else Every(self, AllOf(premises), conclusion)
 
     # ---- patterns
 
     def pattern(self, term: Term, module: str, names: set[str]) -> Pattern:
         """What a pattern takes; the names that it gives are added."""
-        if isinstance(term, (Unknown, Implicit)):
-            return Pattern()
-        if isinstance(term, (Name, Field)):
-            if form := self.form_of(term, module):
-                return OfForm(form, [])
-            if isinstance(term, Field):
-                raise NotComputed("a pattern of another kind")
-            names.add(term.text)
-            return Pattern(term.text)
-        if isinstance(term, Apply):
-            return OfForm(self.form_of(term.function, module), [self.pattern(it, module, names) for it in term.given])
-        if isinstance(term, Operation) and term.word == "∷":
-            return OfForm("∷", [self.pattern(it, module, names) for it in (term.left, term.right)])
-        if isinstance(term, Tuple):
-            return OfFields([(str(at), self.pattern(it, module, names)) for at, it in enumerate(term.items)])
-        if isinstance(term, Record):
-            return OfFields([(name, self.pattern(it, module, names)) for name, it in term.fields])
+
+        def of(it: Term) -> Pattern:
+            return self.pattern(it, module, names)
+
+        match term:
+            case Unknown() | Implicit():
+                return Pattern()
+            case Name() | Field() if form := self.form_of(term, module):
+                return OfForm(form)
+            case Name(text):
+                names.add(text)
+                return Pattern(text)
+            case Apply(function, _) if form := self.form_of(function, module):
+                return OfForm(form, [*map(of, term.given)])
+            case Operation("∷", left, right):
+                return OfForm("∷", [of(left), of(right)])
+            case Tuple(items):
+                return OfFields("", [(str(at), of(it)) for at, it in enumerate(items)])
+            case Record(fields):
+                return OfFields("", [(name, of(it)) for name, it in fields])
         raise NotComputed("a pattern of another kind")
 
     def form_of(self, term: Term, module: str) -> str:
         """The constructor that a pattern's head is; nothing where it is a name."""
         if isinstance(term, Name):
-            if term.text in PLAIN or term.text in FORMS or term.text == "suc" or term.text == "tt":
+            if term.text in PLAIN or term.text in FORMS or term.text == "suc":
                 return term.text
             here = self.library.module(module)
             if term.text not in here.names and term.text not in here.forms:
@@ -307,231 +322,165 @@ class Compiler:
         meaning = self.meaning(term, module, NO_NAMES)
         return meaning.name if isinstance(meaning, Form) else ""
 
-    # ---- definitions
 
-    def function(self, meaning: Defined) -> Lambda | Expression:
-        """The function that a definition is, or where it takes nothing its value."""
-        key = meaning.module, meaning.definition.name
-        if key not in self.functions:
-            taken = max((len(it.given) for it in meaning.definition.clauses), default=0)
-            if meaning.module == WORDS and meaning.definition.name in NATIVE:
-                self.functions[key] = Literal(NATIVE[meaning.definition.name])
-            elif taken:
-                running = Running(self, meaning)
-                found = Lambda(taken, running.run, opens=self.opening(meaning, running))
-                if self.gives_statement(meaning.definition.type):
-                    found.says = Delayed(Name(meaning.definition.name), meaning.module, {}, None)
-                self.functions[key] = found
-            else:
-                self.functions[key] = self.expression(meaning.definition.clauses[0].value, meaning.module, NO_NAMES)
-        return self.functions[key]
-
-    def running(self, meaning: Meaning) -> Lambda:
-        """The function that a definition is by its clauses, though it may be computed at once."""
-        assert isinstance(meaning, Defined)
-        return Lambda(max(len(it.given) for it in meaning.definition.clauses), Running(self, meaning).run)
-
-    def opening(self, meaning: Defined, running: Running) -> Callable[[Sequence[Expression]], Expression]:
-        """What opens a call of a definition: of one that has one clause and no patterns the term that it means."""
-        named = Named(self, meaning)
-        names = named.plain_names()
-        if names is None:
-            return lambda arguments: Fitting(named, arguments, running)
-        known = names
-        return lambda arguments: Opening(named, arguments, known)
-
-    def delayed(self, term: Term, module: str, scope: Scope, env: Env, is_statement: bool) -> Delayed:
-        """A term to be computed, or looked at as a statement, when it is wanted."""
-        return Delayed(term, module, env, None if is_statement else self.expression(term, module, scope))
+OPERATIONS: dict[str, Callable[[Expression, Expression], Expression]] = {
+    "∷": lambda left, right: Construct("∷", [left, right]),
+    "++": Join,
+    "==": Same,
+    "&&": lambda left, right: Choice(left, right, Literal(FALSE)),
+    "||": lambda left, right: Choice(left, Literal(TRUE), right),
+    "≡": Equal,
+    "<": lambda left, right: Less(left, right, 0),
+    "≤": lambda left, right: Less(left, right, 1),
+    "⊎": lambda left, right: Either([left, right]),
+}
 
 
-class Saying(Expression):
-    """A function that gives a statement, as a value."""
-
-    __slots__ = ("term", "module", "arity")
-
-    def __init__(self, term: Term, module: str, arity: int) -> None:
-        self.term, self.module, self.arity = term, module, arity
-
-    def value(self, env: Env) -> Value:
-        def run(*arguments: Value) -> Value:
-            raise NotComputed("a statement is no value")
-
-        found = Lambda(self.arity, run)
-        found.says = Delayed(self.term, self.module, env, None)
-        return found
+# ---- definitions
 
 
-class OfMaps(Expression):
-    """A word of the library's maps."""
+class Saying(Defining):
+    """What says something of arguments: a definition, or a record. What was decided of given values is kept."""
 
-    __slots__ = ("word",)
+    def __init__(self, decider: Decider, module: str, item: Definition | Structure, takes: int | None) -> None:
+        self.decider, self.module, self.item, self.takes = decider, module, item, takes
 
-    def __init__(self, word: str) -> None:
-        self.word = word
+    def says(self, env: Env, given: Slots, evidence: Evidence | None) -> Iterator[Goals]:
+        values = [known_value(it) for it in given]
+        if evidence is not None or None in values:
+            yield from self.opens(given, evidence)
+            return
+        decided, key = self.decider.decided, (self, *values)
+        if key not in decided:
+            decided[key] = any(self.decider.holds(it) for it in self.opens(given, None))
+        if decided[key]:
+            yield DONE
 
-    def value(self, env: Env) -> Value:
-        return made([]) if self.word == "empty" else MAPS[self.word]
-
-
-class Codes(Expression):
-    """The codes of a string's characters."""
-
-    __slots__ = ("octets",)
-
-    def __init__(self, text: str) -> None:
-        self.octets = text.encode()
-
-    def value(self, env: Env) -> Value:
-        return listed(self.octets)
+    def opens(self, given: Slots, evidence: Evidence | None) -> Iterator[Goals]:
+        """What it comes to, of these arguments."""
+        raise NotImplementedError
 
 
-class FormOf(Expression):
-    """A constructor without its arguments."""
-
-    __slots__ = ("form",)
-
-    def __init__(self, form: str) -> None:
-        self.form = form
-
-    def value(self, env: Env) -> Value:
-        return data(self.form)
+Clause = tuple[list[Pattern], Expression, dict[str, tuple[int, int] | None]]
 
 
-class Named(Expression):
-    """A definition by its name."""
+class Clauses(Saying):
+    """A definition by clauses. What it gave is kept."""
 
-    __slots__ = ("compiler", "meaning", "known")
+    def __init__(self, decider: Decider, meaning: Defined) -> None:
+        self.definition = meaning.item
+        super().__init__(decider, meaning.module, self.definition, decider.takes(self.definition.type, meaning.module))
+        native = NATIVE.get(self.definition.name) if self.module == WORDS else None
+        taken = max((len(it.given) for it in self.definition.clauses), default=0)
+        self.function = Lambda(taken, self.run, (), self, {}) if native is None else native
+        self.by_form: dict[str, list[Clause]] = {}
 
-    def __init__(self, compiler: Compiler, meaning: Defined) -> None:
-        self.compiler, self.meaning = compiler, meaning
-        self.known: Lambda | None = None
-
-    def value(self, env: Env) -> Value:
-        if self.known is not None:
-            return self.known
-        found = self.compiler.function(self.meaning)
-        if isinstance(found, Lambda):
-            self.known = found
-            return found
-        key = self.meaning.module, self.meaning.definition.name
-        if key not in self.compiler.memory:
-            self.compiler.memory[key] = found.value({})
-        return self.compiler.memory[key]
-
-    def plain_names(self) -> list[str] | None:
-        """What its one clause calls its arguments; None where it has several clauses, or patterns."""
-        clauses = self.meaning.definition.clauses
-        if len(clauses) != 1 or not all(
-            isinstance(it, Name) and not self.compiler.form_of(it, self.meaning.module) for it in clauses[0].given
-        ):
-            return None
-        return [it.text for it in clauses[0].given if isinstance(it, Name)]
-
-
-class Opening(Unfolded):
-    """A call of a definition that is opened only where it has to be matched."""
-
-    __slots__ = ()
-
-    def __init__(self, function: Named, arguments: Sequence[Expression], names: Sequence[str]) -> None:
-        super().__init__(function, arguments, names, LateBody(function, frozenset(names)))
-
-
-class LateBody(Expression):
-    """The value of a definition's one clause, made when it is wanted."""
-
-    __slots__ = ("named", "scope", "body")
-
-    def __init__(self, named: Named, scope: Scope) -> None:
-        self.named, self.scope = named, scope
-        self.body: Expression | None = None
-
-    def made(self) -> Expression:
-        if self.body is None:
-            meaning = self.named.meaning
-            self.body = self.named.compiler.expression(meaning.definition.clauses[0].value, meaning.module, self.scope)
-        return self.body
-
-    def value(self, env: Env) -> Value:
-        return self.made().value(env)
-
-    def match(self, env: Env, wanted: Value) -> Iterator[None]:
-        return self.made().match(env, wanted)
-
-
-class Selection(Expression):
-    """A value by the form of another."""
-
-    __slots__ = ("of", "cases")
-
-    def __init__(self, of: Expression, cases: Sequence[tuple[Pattern, Expression]]) -> None:
-        self.of, self.cases = of, cases
-
-    def value(self, env: Env) -> Value:
-        of = self.of.value(env)
-        for pattern, body in self.cases:
-            inner: dict[str, Slot] = dict(env)
-            if pattern.fits(of, inner):
-                return body.value(inner)
-        raise NotComputed("no case fits")
-
-
-class Running:
-    """Runs a definition: its first clause that fits. What it gave is kept."""
-
-    def __init__(self, compiler: Compiler, meaning: Defined) -> None:
-        self.compiler, self.meaning = compiler, meaning
-        self.clauses: list[tuple[list[Pattern], Expression]] | None = None
-
-    def made(self) -> list[tuple[list[Pattern], Expression]]:
-        """Its clauses: their patterns and values."""
-        if self.clauses is None:
-            self.clauses = self.compiled()
-        return self.clauses
-
-    def compiled(self) -> list[tuple[list[Pattern], Expression]]:
+    @cached_property
+    def clauses(self) -> list[Clause]:
+        """Its clauses: patterns and values, and the names in braces."""
         found = []
-        for clause in self.meaning.definition.clauses:
-            names = {it.term.text for it in clause.patterns if isinstance(it, Implicit) and isinstance(it.term, Name)}
-            patterns = [self.compiler.pattern(it, self.meaning.module, names) for it in clause.given]
-            if clause.where:
+        for it in self.definition.clauses:
+            if it.where:
                 raise NotComputed("a definition within another")
-            found.append((patterns, self.compiler.expression(clause.value, self.meaning.module, frozenset(names))))
+            in_braces = self.in_braces([part for part in it.patterns if isinstance(part, Implicit)])
+            found.append((*self.decider.clause(it.given, it.value, self.module, frozenset(in_braces)), in_braces))
         return found
+
+    def fitting(self, given: Slots) -> list[Clause]:
+        """The clauses that may fit: by the form of the first argument that the first of them takes apart."""
+        place = next((at for at, it in enumerate(self.clauses[0][0]) if isinstance(it, OfForm)), None)
+        if place is None or len(self.clauses) == 1:
+            return self.clauses
+        value = forced(given[place])
+        form = value.form if isinstance(value, Data) else "suc" if value else "zero"
+        if form not in self.by_form:
+            self.by_form[form] = [it for it in self.clauses if not isinstance(it[0][place], OfForm) or it[0][place].name == form]
+        return self.by_form[form]
+
+    def in_braces(self, patterns: Sequence[Implicit]) -> dict[str, tuple[int, int] | None]:
+        """The names that patterns in braces give: where an argument says of what it is evidence; None of types."""
+        binders = [(name, it.type) for it in binders_of(self.definition.type) if it.implicit for name in it.names]
+        types = [*enumerate(taken_types(self.definition.type))]
+        found: dict[str, tuple[int, int] | None] = {}
+        for it, (name, type_) in zip(patterns, binders):
+            places = ((at, place) for at, one in types if isinstance(one, Apply) for place, part in enumerate(one.given) if part == Name(name))
+            if isinstance(it.term, Name):
+                found[it.term.text] = None if isinstance(type_, Universe) else next(places, None)
+        return found
+
+    def value(self, env: Env) -> Value:
+        return self.run() if isinstance(self.function, Lambda) and not self.function.arity else self.function
 
     def run(self, *arguments: Value) -> Value:
-        key = (self, *arguments)
-        memory = self.compiler.memory
-        if key in memory:
-            return memory[key]
-        clauses = self.made()
-        self.compiler.calls += 1
-        if 0 < self.compiler.most_calls < self.compiler.calls:
-            raise NotComputed("too many calls")
-        for patterns, body in clauses:
-            env: Env = {}
-            if all([pattern.fits(it, env) for pattern, it in zip(patterns, arguments)]):
-                value = body.value(env)
-                if len(arguments) > len(patterns):
-                    value = applied(value, arguments[len(patterns) :])
-                memory[key] = value
-                return value
-        raise NotComputed(f"no clause of {self.meaning.definition.name} fits")
+        decider, key = self.decider, (self, *arguments)
+        found = decider.memory.get(key)
+        if found is None:
+            decider.calls += 1
+            if 0 < decider.most_calls < decider.calls:
+                raise NotComputed("too many calls")
+            body, env, rest = self.opened(arguments)
+            found = decider.memory[key] = applied(body.value(env), tuple(map(forced, rest)))
+        return found
+
+    def opened(self, given: Slots) -> tuple[Expression, Env, Slots]:
+        for patterns, body, in_braces in self.fitting(given):
+            env: Env = {name: TRUE if place is None else said_of(given[place[0]], place[1]) for name, place in in_braces.items()}
+            if all([pattern.fits(it, env) for pattern, it in zip(patterns, given)]):
+                return body, env, given[len(patterns) :]
+        raise NotComputed(f"no clause of {self.definition.name} fits")
+
+    def opens(self, given: Slots, evidence: Evidence | None) -> Iterator[Goals]:
+        return goals_of(*self.opened(given), evidence)
 
 
-class Fitting(Call):
-    """A call of a definition by clauses: the first that fits can be matched, once its patterns can be compared."""
+def said_of(slot: Slot, place: int) -> Slot:
+    """Of what evidence is said, at a place."""
+    if isinstance(slot, Evidence):
+        return slot.given[place]
+    record = forced(slot)
+    if not isinstance(record, Struct) or braced(place) not in record.fields:
+        raise Unbound
+    return record.fields[braced(place)]
 
-    __slots__ = ("running",)
 
-    def __init__(self, function: Named, arguments: Sequence[Expression], running: Running) -> None:
-        super().__init__(function, arguments)
-        self.running = running
+class Fields(Saying):
+    """A record of statements."""
 
-    def match(self, env: Env, wanted: Value) -> Iterator[None]:
-        for patterns, body in self.running.made():
-            inner: Env = {}
-            if all(pattern.fits(Delayed(NOTHING, "", env, it), inner) for pattern, it in zip(patterns, self.arguments)):
-                yield from body.ways(inner, wanted)
-                return
+    def __init__(self, decider: Decider, meaning: Typed) -> None:
+        self.structure = meaning.item
+        self.names = [name for it in self.structure.binders if not it.implicit for name in it.names]
+        super().__init__(decider, meaning.module, self.structure, len(self.names))
+
+    @cached_property
+    def parts(self) -> AllOf:
+        names = frozenset(name for it in self.structure.binders for name in it.names)
+        members = [(it.name, it.type) for it in self.structure.members]
+        return AllOf(self.decider.conjuncts(members, self.module, names))
+
+    def value(self, env: Env) -> Value:
+        return Lambda(len(self.names), self.run, (), self, {})
+
+    def run(self, *given: Value) -> Value:
+        raise NotComputed("a statement is no value")
+
+    def opens(self, given: Slots, evidence: Evidence | None) -> Iterator[Goals]:
+        if evidence is not None:
+            evidence.given = given
+        yield self.parts.goals(dict(zip(self.names, given)), evidence)
+
+
+def called(statement: Expression) -> tuple[Clauses | Fields | None, Sequence[Expression]]:
+    """The definition or record that a statement is, and of what it is said."""
+    function, arguments = (statement.function, statement.arguments) if isinstance(statement, Call) else (statement, ())
+    return (function if isinstance(function, (Clauses, Fields)) else None), arguments
+
+
+def type_name(type_: Term) -> str:
+    """The name of a type's head; nothing where it has none."""
+    head = head_of(type_)
+    return head.text if isinstance(head, Name) else head.name if isinstance(head, Field) else ""
+
+
+def mentions(term: object, name: str) -> bool:
+    """Whether a term speaks of a name."""
+    return any(isinstance(it, Name) and it.text == name for it in inside(term))

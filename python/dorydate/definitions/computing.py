@@ -6,21 +6,18 @@ computed without it raises `Unbound`, and is tried later.
 
 from __future__ import annotations
 
-from collections.abc import Iterator, Sequence
+from collections.abc import Callable, Iterator, Sequence
+from dataclasses import dataclass, field
 from typing import Union
 
-from dorydate.definitions.terms import Term, Unknown
 from dorydate.definitions.values import (  # fmt: skip
-    NIL, TRUE, Data, Lambda, Struct, Value, applied, data, items_of, listed, struct, truth,
+    NIL, TRUE, Data, Lambda, NotComputed, Struct, Value, applied, data, items_of, list_of, listed, number, reversed_list,
+    struct, truth,
 )
 
 
 class Unbound(Exception):
     """A variable has no value yet."""
-
-
-class NotComputed(Exception):
-    """A term of a kind that isn't computed here."""
 
 
 class Lacking(NotComputed):
@@ -29,6 +26,15 @@ class Lacking(NotComputed):
     def __init__(self, field: str) -> None:
         super().__init__(f"there is no field {field}")
         self.field = field
+
+
+class Trail:
+    """The variables that have a value, in the order in which they got it; and how many statements about all of a type
+    are being looked at, one in another. Where one is, only its own variables get values: those outside it are fixed,
+    known or not."""
+
+    variables: list[Variable] = []
+    level = 0
 
 
 class Variable:
@@ -41,40 +47,35 @@ class Variable:
         self.value: Value | None = None
 
 
+@dataclass(eq=False, slots=True)
 class Evidence:
-    """That a statement holds: the values and the evidence that its fields have."""
+    """That a statement holds: the values and the evidence that its fields have, and of what it is said."""
 
-    __slots__ = ("fields",)
-
-    def __init__(self) -> None:
-        self.fields: dict[str, Slot] = {}
+    fields: dict[str, Slot] = field(default_factory=dict)
+    given: Slots = ()
 
     def record(self) -> Value:
-        """The record of its values, as functions of evidence see it."""
-        return struct({name: forced(it) for name, it in self.fields.items()})
+        """The record of its values, as functions of evidence see it; what it is said of is there by its place."""
+        given = {braced(at): it for at, it in enumerate(map(known_value, self.given)) if it is not None}
+        return struct({name: forced(it) for name, it in self.fields.items()} | given)
 
 
+@dataclass(eq=False, slots=True)
 class Delayed:
     """A term that is computed when it is wanted, or a statement."""
 
-    __slots__ = ("term", "module", "env", "expression")
-
-    def __init__(self, term: Term, module: str, env: Env, expression: Expression | None) -> None:
-        self.term, self.module, self.env, self.expression = term, module, env, expression
+    term: Expression
+    env: Env
 
 
 Slot = Union[int, Data, Struct, Lambda, Variable, Evidence, Delayed]
+Slots = Sequence[Slot]
 Env = dict[str, Slot]
-NOTHING = Unknown()
 
 
-class Trail:
-    """The variables that have a value, in the order in which they got it; and how many statements about all of a type
-    are being looked at, one in another. Where one is, only its own variables get values: those outside it are fixed,
-    known or not."""
-
-    variables: list[Variable] = []
-    level = 0
+def braced(place: int) -> str:
+    """How a record of evidence calls what it is said of."""
+    return f"{{{place}}}"
 
 
 def bound_so_far() -> int:
@@ -96,27 +97,49 @@ def unbind(to: int) -> None:
 
 def forced(slot: Slot) -> Value:
     """The value of what a name means."""
-    while True:
-        if isinstance(slot, Variable):
-            if slot.value is None:
-                raise Unbound
-            return slot.value
-        if isinstance(slot, Delayed):
-            if slot.expression is None:
-                raise NotComputed("a statement is no value")
-            return slot.expression.value(slot.env)
-        if isinstance(slot, Evidence):
-            return slot.record()
-        return slot
+    if isinstance(slot, Variable):
+        if slot.value is None:
+            raise Unbound
+        return slot.value
+    if isinstance(slot, Delayed):
+        return slot.term.value(slot.env)
+    return slot.record() if isinstance(slot, Evidence) else slot
+
+
+def known_value(slot: Slot) -> Value | None:
+    """The value of what a name means; None where it isn't known, is a function or a statement."""
+    found: Slot | None = slot
+    if isinstance(slot, Variable):
+        found = slot.value
+    elif isinstance(slot, Delayed):
+        found = None if slot.term.states else known(slot.term, slot.env)
+    return found if isinstance(found, (int, Data, Struct)) else None
+
+
+@dataclass(frozen=True)
+class Goal:
+    """A statement of the values of names, and the evidence that is made where it holds, if anybody looks at that."""
+
+    statement: Expression
+    env: Env
+    evidence: Evidence | None = None
+
+
+Goals = tuple[Goal, ...]
 
 
 class Expression:
-    """A term that can be computed."""
+    """A term, with the ways in which it is looked at: computed, matched with a value, or held as a statement."""
 
     __slots__ = ()
 
+    @property
+    def states(self) -> bool:
+        """Whether it is a statement, which has no value."""
+        return False
+
     def value(self, env: Env) -> Value:
-        raise NotImplementedError
+        raise NotComputed("a statement is no value")
 
     def match(self, env: Env, wanted: Value) -> Iterator[None]:
         """Each way to give variables values so that the term is this value."""
@@ -133,6 +156,33 @@ class Expression:
         if found == wanted:
             yield
 
+    def says(self, env: Env, given: Slots, evidence: Evidence | None) -> Iterator[Goals]:
+        """The goals that are left, for each way in which it may hold of these arguments."""
+        found = self.value(env)
+        if not isinstance(found, Lambda) or found.term is None:
+            raise NotComputed("a value is no statement")
+        yield from found.term.says(found.env, (*found.before, *given), evidence)
+
+    def slot(self, env: Env) -> Slot:
+        """The term as an argument: its value, if it has one yet."""
+        try:
+            return Delayed(self, env) if self.states else self.value(env)
+        except Unbound:
+            return Delayed(self, env)
+
+
+def goals_of(statement: Expression, env: Env, rest: Slots, evidence: Evidence | None) -> Iterator[Goals]:
+    """A statement as the goal that is left, or what it says of the arguments that it lacks."""
+    return statement.says(env, rest, evidence) if rest else iter([(Goal(statement, env, evidence),)])
+
+
+def known(expression: Expression, env: Env) -> Value | None:
+    """The value of a term, if it has one yet."""
+    try:
+        return expression.value(env)
+    except Unbound:
+        return None
+
 
 def ways_of_all(pairs: Sequence[tuple[Expression, Value]], env: Env) -> Iterator[None]:
     """Each way to give variables values so that all these terms are these values."""
@@ -144,48 +194,70 @@ def ways_of_all(pairs: Sequence[tuple[Expression, Value]], env: Env) -> Iterator
         yield from ways_of_all(rest, env)
 
 
-class Literal(Expression):
-    __slots__ = ("known",)
+def ways_of_slot(slot: Slot, wanted: Value) -> Iterator[None]:
+    """Each way in which what a name means is this value."""
+    if isinstance(slot, Variable) and slot.value is None:
+        before = bound_so_far()
+        bind(slot, wanted)
+        yield
+        unbind(before)
+    elif isinstance(slot, Delayed):
+        yield from slot.term.ways(slot.env, wanted)
+    elif forced(slot) == wanted:
+        yield
 
-    def __init__(self, known: Value) -> None:
-        self.known = known
+
+@dataclass(eq=False, slots=True)
+class Literal(Expression):
+    known: Value
 
     def value(self, env: Env) -> Value:
         return self.known
 
 
+@dataclass(eq=False, slots=True)
+class Unread(Expression):
+    """A term that isn't computed here, and why; a branch of it may never be looked at."""
+
+    why: Exception
+
+    @property
+    def states(self) -> bool:
+        return True
+
+    def value(self, env: Env) -> Value:
+        raise self.why
+
+
+@dataclass(eq=False, slots=True)
 class Local(Expression):
     """A variable, or what a function takes."""
 
-    __slots__ = ("name",)
-
-    def __init__(self, name: str) -> None:
-        self.name = name
+    name: str
 
     def value(self, env: Env) -> Value:
         slot = env[self.name]
-        return slot if isinstance(slot, (Data, int)) else forced(slot)
+        return slot if type(slot) is Data else forced(slot)
 
     def match(self, env: Env, wanted: Value) -> Iterator[None]:
+        return ways_of_slot(env[self.name], wanted)
+
+    def says(self, env: Env, given: Slots, evidence: Evidence | None) -> Iterator[Goals]:
         slot = env[self.name]
-        if isinstance(slot, Variable) and slot.value is None:
-            before = bound_so_far()
-            bind(slot, wanted)
-            yield
-            unbind(before)
-        elif isinstance(slot, Delayed) and slot.expression is not None:
-            yield from slot.expression.ways(slot.env, wanted)
-        elif forced(slot) == wanted:
-            yield
+        if isinstance(slot, Delayed):
+            return slot.term.says(slot.env, given, evidence)
+        return Expression.says(self, env, given, evidence)
+
+    def slot(self, env: Env) -> Slot:
+        return env[self.name]
 
 
+@dataclass(eq=False, slots=True)
 class Construct(Expression):
-    """A constructor with all of its arguments."""
+    """A constructor with arguments."""
 
-    __slots__ = ("form", "arguments")
-
-    def __init__(self, form: str, arguments: Sequence[Expression]) -> None:
-        self.form, self.arguments = form, arguments
+    form: str
+    arguments: Sequence[Expression] = ()
 
     def value(self, env: Env) -> Value:
         return data(self.form, *[it.value(env) for it in self.arguments])
@@ -195,27 +267,17 @@ class Construct(Expression):
             yield from ways_of_all([*zip(self.arguments, wanted.parts)], env)
 
 
-class Successor(Expression):
-    __slots__ = ("of",)
-
-    def __init__(self, of: Expression) -> None:
-        self.of = of
-
-    def value(self, env: Env) -> Value:
-        return number(self.of.value(env)) + 1
-
-    def match(self, env: Env, wanted: Value) -> Iterator[None]:
-        if isinstance(wanted, int) and wanted > 0:
-            yield from self.of.ways(env, wanted - 1)
-
-
+@dataclass(eq=False, slots=True)
 class Call(Expression):
-    """A function of some arguments."""
+    """A function of some arguments, or a statement about them."""
 
-    __slots__ = ("function", "arguments")
+    function: Expression
+    arguments: Sequence[Expression]
 
-    def __init__(self, function: Expression, arguments: Sequence[Expression]) -> None:
-        self.function, self.arguments = function, arguments
+    @property
+    def states(self) -> bool:
+        takes = self.function.takes if isinstance(self.function, Defining) else None
+        return takes is not None and takes <= len(self.arguments)
 
     def value(self, env: Env) -> Value:
         return applied(self.function.value(env), tuple([it.value(env) for it in self.arguments]))
@@ -224,64 +286,55 @@ class Call(Expression):
         function = self.function.value(env)
         if isinstance(function, Data):
             yield from Construct(function.form, [*map(Literal, function.parts), *self.arguments]).match(env, wanted)
-        elif isinstance(function, Lambda) and function.opens:
-            yield from function.opens(self.arguments).match(env, wanted)
+        elif isinstance(function, Lambda) and isinstance(function.term, Defining):
+            body, inner, rest = function.term.opened([*function.before, *(Delayed(it, env) for it in self.arguments)])
+            if rest:
+                raise Unbound
+            yield from body.ways(inner, wanted)
+        elif isinstance(function, Lambda) and function.run is reversed_list:
+            yield from self.arguments[0].ways(env, reversed_list(wanted))
         else:
             raise Unbound
 
-
-class Unfolded(Call):
-    """A call of a definition by one clause without patterns: the term that it means can be matched."""
-
-    __slots__ = ("names", "body")
-
-    def __init__(
-        self, function: Expression, arguments: Sequence[Expression], names: Sequence[str], body: Expression
-    ) -> None:
-        super().__init__(function, arguments)
-        self.names, self.body = names, body
-
-    def match(self, env: Env, wanted: Value) -> Iterator[None]:
-        inner: Env = {name: Delayed(NOTHING, "", env, it) for name, it in zip(self.names, self.arguments)}
-        yield from self.body.ways(inner, wanted)
+    def says(self, env: Env, given: Slots, evidence: Evidence | None) -> Iterator[Goals]:
+        return self.function.says(env, [*(it.slot(env) for it in self.arguments), *given], evidence)
 
 
-def known(expression: Expression, env: Env) -> Value | None:
-    """The value of a term, if it has one yet."""
-    try:
-        return expression.value(env)
-    except Unbound:
-        return None
-
-
-class Sides(Expression):
-    """What has a left side and a right one, and no more."""
-
-    __slots__ = ("left", "right")
-
-    def __init__(self, left: Expression, right: Expression) -> None:
-        self.left, self.right = left, right
-
-
-class Join(Sides):
-    """One list after another."""
+class Defining(Expression):
+    """A definition by its name."""
 
     __slots__ = ()
+    takes: int | None  # of how many arguments it says something; None where it says nothing
+
+    @property
+    def states(self) -> bool:
+        return self.takes == 0
+
+    def opened(self, given: Slots) -> tuple[Expression, Env, Slots]:
+        """The value of the first clause that fits these arguments, the names in it, and the arguments that are left."""
+        raise NotImplementedError
+
+
+@dataclass(eq=False, slots=True)
+class Join(Expression):
+    """One list after another."""
+
+    left: Expression
+    right: Expression
 
     def value(self, env: Env) -> Value:
-        left = self.left.value(env)
-        right = self.right.value(env)
-        return joined(left, right)
+        left, right = self.left.value(env), self.right.value(env)
+        return list_of(right) if left is NIL else listed(items_of(left), list_of(right))
 
     def match(self, env: Env, wanted: Value) -> Iterator[None]:
-        members = [*items_of(list_of(wanted))]
+        members = [*items_of(wanted)]
         tails = [list_of(wanted)]
         for _ in members:
             tails.append(list_of(tails[-1].parts[1]))
         left, right = known(self.left, env), known(self.right, env)
-        places = range(len(members) + 1)
+        places = range(len(tails))
         if left is not None:
-            places = range(min(list_of(left).length, len(tails)), min(list_of(left).length + 1, len(tails)))
+            places = places[list_of(left).length : list_of(left).length + 1]
         elif right is not None:
             at = len(members) - list_of(right).length
             places = range(at, at + 1) if at >= 0 and tails[at] is right else range(0)
@@ -294,113 +347,138 @@ class Join(Sides):
         return known(self.left, env) is None and known(self.right, env) is None
 
 
+@dataclass(eq=False, slots=True)
 class Arithmetic(Expression):
     """A sum, a difference, a product, a quotient, a remainder or a power."""
 
-    __slots__ = ("word", "left", "right")
-
-    def __init__(self, word: str, left: Expression, right: Expression) -> None:
-        self.word, self.left, self.right = word, left, right
+    word: str
+    left: Expression
+    right: Expression
 
     def value(self, env: Env) -> Value:
-        return calculated(self.word, number(self.left.value(env)), number(self.right.value(env)))
+        return CALCULATED[self.word](number(self.left.value(env)), number(self.right.value(env)))
 
     def match(self, env: Env, wanted: Value) -> Iterator[None]:
-        if self.word != "+":
+        one, other = known(self.left, env), known(self.right, env)
+        if self.word != "+" or one is None and other is None:
             raise Unbound
-        for one, other in ((self.left, self.right), (self.right, self.left)):
-            try:
-                less = number(one.value(env))
-            except Unbound:
-                continue
-            if less <= number(wanted):
-                yield from other.ways(env, number(wanted) - less)
-            return
-        raise Unbound
+        less, unknown = (number(one), self.right) if one is not None else (number(other or 0), self.left)
+        if less <= number(wanted):
+            yield from unknown.ways(env, number(wanted) - less)
 
 
-class Same(Sides):
+# a difference is at least 0; a division by 0 gives 0, and leaves all
+CALCULATED: dict[str, Callable[[int, int], int]] = {
+    "+": lambda a, b: a + b,
+    "-": lambda a, b: max(a - b, 0),
+    "*": lambda a, b: a * b,
+    "/": lambda a, b: a // b if b else 0,
+    "%": lambda a, b: a % b if b else a,
+    "^": lambda a, b: int(a**b),
+}
+
+
+@dataclass(eq=False, slots=True)
+class Same(Expression):
     """Whether two values are the same."""
 
-    __slots__ = ()
+    left: Expression
+    right: Expression
 
     def value(self, env: Env) -> Value:
         return truth(self.left.value(env) == self.right.value(env))
 
 
-class Connective(Expression):
-    """`&&` and `||`: the right side is computed only where the left one doesn't decide."""
+class Leading(Expression):
+    """A term that is another one, once some values are known."""
 
-    __slots__ = ("deciding", "left", "right")
+    __slots__ = ()
 
-    def __init__(self, deciding: Data, left: Expression, right: Expression) -> None:
-        self.deciding, self.left, self.right = deciding, left, right
-
-    def value(self, env: Env) -> Value:
-        return self.deciding if self.left.value(env) is self.deciding else self.right.value(env)
-
-
-class Choice(Expression):
-    __slots__ = ("condition", "then", "otherwise")
-
-    def __init__(self, condition: Expression, then: Expression, otherwise: Expression) -> None:
-        self.condition, self.then, self.otherwise = condition, then, otherwise
+    def led(self, env: Env) -> tuple[Expression, Env]:
+        """The other one, with the names in it."""
+        raise NotImplementedError
 
     def value(self, env: Env) -> Value:
-        return (self.then if self.condition.value(env) is TRUE else self.otherwise).value(env)
+        term, inner = self.led(env)
+        return term.value(inner)
 
     def match(self, env: Env, wanted: Value) -> Iterator[None]:
-        yield from (self.then if self.condition.value(env) is TRUE else self.otherwise).ways(env, wanted)
+        term, inner = self.led(env)
+        return term.ways(inner, wanted)
+
+    def says(self, env: Env, given: Slots, evidence: Evidence | None) -> Iterator[Goals]:
+        return goals_of(*self.led(env), given, evidence)
 
 
+@dataclass(eq=False, slots=True)
+class Choice(Leading):
+    condition: Expression
+    then: Expression
+    otherwise: Expression
+
+    @property
+    def states(self) -> bool:
+        return self.then.states
+
+    def led(self, env: Env) -> tuple[Expression, Env]:
+        return self.then if self.condition.value(env) is TRUE else self.otherwise, env
+
+
+@dataclass(eq=False, slots=True)
+class Selection(Leading):
+    """A term by the form of a value: `elim`, or `let`, which has one case."""
+
+    of: Expression
+    cases: Sequence[tuple[Pattern, Expression]]
+
+    @property
+    def states(self) -> bool:
+        return any(body.states for _, body in self.cases)
+
+    def led(self, env: Env) -> tuple[Expression, Env]:
+        of = self.of.value(env)
+        for pattern, body in self.cases:
+            inner = dict(env)
+            if pattern.fits(of, inner):
+                return body, inner
+        raise NotComputed("no case fits")
+
+
+@dataclass(eq=False, slots=True)
 class Get(Expression):
     """A field of a record, of a tuple, or of evidence."""
 
-    __slots__ = ("of", "name")
-
-    def __init__(self, of: Expression, name: str) -> None:
-        self.of, self.name = of, name
+    of: Expression
+    name: str
 
     def value(self, env: Env) -> Value:
-        slot = self.slot(env)
-        return slot if isinstance(slot, (Data, int)) else forced(slot)
+        return forced(self.field(env))
 
-    def slot(self, env: Env) -> Slot:
+    def field(self, env: Env) -> Slot:
         """The field, which may be evidence itself."""
-        of = self.of
-        outer: Slot
-        if isinstance(of, Local):
-            outer = env[of.name]
-            outer = outer if isinstance(outer, Evidence) else forced(outer)
+        of: Slot
+        if isinstance(self.of, Local):
+            of = env[self.of.name]
         else:
-            outer = of.slot(env) if isinstance(of, Get) else of.value(env)
-        if isinstance(outer, Evidence):
-            if self.name not in outer.fields:
+            of = self.of.field(env) if isinstance(self.of, Get) else self.of.value(env)
+        if isinstance(of, Evidence):
+            if self.name not in of.fields:
                 raise Unbound
-            return outer.fields[self.name]
-        found = forced(outer)
+            return of.fields[self.name]
+        found = forced(of)
         if not isinstance(found, Struct) or self.name not in found.fields:
             raise Lacking(self.name)
         return found.fields[self.name]
 
     def match(self, env: Env, wanted: Value) -> Iterator[None]:
-        slot = self.slot(env)
-        if isinstance(slot, Variable) and slot.value is None:
-            before = bound_so_far()
-            bind(slot, wanted)
-            yield
-            unbind(before)
-        elif forced(slot) == wanted:
-            yield
+        return ways_of_slot(self.field(env), wanted)
 
 
+@dataclass(eq=False, slots=True)
 class Build(Expression):
     """A record by its fields, or a tuple."""
 
-    __slots__ = ("fields",)
-
-    def __init__(self, fields: Sequence[tuple[str, Expression]]) -> None:
-        self.fields = fields
+    fields: Sequence[tuple[str, Expression]]
 
     def value(self, env: Env) -> Value:
         return struct({name: it.value(env) for name, it in self.fields})
@@ -410,13 +488,12 @@ class Build(Expression):
             yield from ways_of_all([(it, wanted.fields[name]) for name, it in self.fields], env)
 
 
+@dataclass(eq=False, slots=True)
 class Change(Expression):
     """A record with other fields."""
 
-    __slots__ = ("of", "fields")
-
-    def __init__(self, of: Expression, fields: Sequence[tuple[str, Expression]]) -> None:
-        self.of, self.fields = of, fields
+    of: Expression
+    fields: Sequence[tuple[str, Expression]]
 
     def value(self, env: Env) -> Value:
         of = self.of.value(env)
@@ -425,50 +502,35 @@ class Change(Expression):
         return struct({**of.fields, **{name: it.value(env) for name, it in self.fields}})
 
 
+@dataclass(eq=False, slots=True)
 class Abstraction(Expression):
     """A function, by its parameters and its value."""
 
-    __slots__ = ("patterns", "body")
+    patterns: Sequence[Pattern]
+    body: Expression
 
-    def __init__(self, patterns: Sequence[Pattern], body: Expression) -> None:
-        self.patterns, self.body = patterns, body
-
-    def value(self, env: Env) -> Value:
-        def run(*arguments: Value) -> Value:
-            inner = dict(env)
-            for pattern, it in zip(self.patterns, arguments):
-                if not pattern.fits(it, inner):
-                    raise NotComputed("an argument of another form")
-            return self.body.value(inner)
-
-        return Lambda(len(self.patterns), run)
-
-
-class Bound(Expression):
-    """`let`: a value with a name, or with names for its parts."""
-
-    __slots__ = ("pattern", "known", "body")
-
-    def __init__(self, pattern: Pattern, known: Expression, body: Expression) -> None:
-        self.pattern, self.known, self.body = pattern, known, body
-
-    def value(self, env: Env) -> Value:
+    def inner(self, env: Env, given: Slots) -> Env:
+        """The names in its value."""
         inner = dict(env)
-        if not self.pattern.fits(self.known.value(env), inner):
-            raise NotComputed("a value of another form")
-        return self.body.value(inner)
+        if len(given) < len(self.patterns) or not all([pattern.fits(it, inner) for pattern, it in zip(self.patterns, given)]):
+            raise NotComputed("an argument of another form")
+        return inner
+
+    def value(self, env: Env) -> Value:
+        return Lambda(len(self.patterns), lambda *given: self.body.value(self.inner(env, given)), (), self, env)
+
+    def says(self, env: Env, given: Slots, evidence: Evidence | None) -> Iterator[Goals]:
+        return goals_of(self.body, self.inner(env, given), given[len(self.patterns) :], evidence)
 
 
 # ---- patterns
 
 
+@dataclass(eq=False, slots=True)
 class Pattern:
     """What an argument has to be, and the names that it gives to its parts. A name, or `_`, takes anything."""
 
-    __slots__ = ("name",)
-
-    def __init__(self, name: str = "") -> None:
-        self.name = name
+    name: str = ""
 
     def fits(self, slot: Slot, env: Env) -> bool:
         if self.name:
@@ -476,73 +538,27 @@ class Pattern:
         return True
 
 
+@dataclass(eq=False, slots=True)
 class OfForm(Pattern):
-    """A constructor with patterns for its arguments."""
+    """A constructor with patterns for its arguments, named by its form."""
 
-    __slots__ = ("form", "parts")
-
-    def __init__(self, form: str, parts: Sequence[Pattern]) -> None:
-        super().__init__()
-        self.form, self.parts = form, parts
+    parts: Sequence[Pattern] = ()
 
     def fits(self, slot: Slot, env: Env) -> bool:
         value = forced(slot)
-        if isinstance(value, Data):
-            return value.form == self.form and all(
-                [pattern.fits(it, env) for pattern, it in zip(self.parts, value.parts)]
-            )
-        if self.form == "zero":
+        if type(value) is Data:
+            return value.form == self.name and all([pattern.fits(it, env) for pattern, it in zip(self.parts, value.parts)])
+        if self.name == "zero":
             return value == 0
-        return self.form == "suc" and number(value) > 0 and self.parts[0].fits(number(value) - 1, env)
+        return self.name == "suc" and number(value) > 0 and self.parts[0].fits(number(value) - 1, env)
 
 
+@dataclass(eq=False, slots=True)
 class OfFields(Pattern):
     """A record or a tuple, with patterns for its fields."""
 
-    __slots__ = ("parts",)
-
-    def __init__(self, parts: Sequence[tuple[str, Pattern]]) -> None:
-        super().__init__()
-        self.parts = parts
+    parts: Sequence[tuple[str, Pattern]] = ()
 
     def fits(self, slot: Slot, env: Env) -> bool:
         value = forced(slot)
-        return isinstance(value, Struct) and all(
-            [pattern.fits(value.fields[name], env) for name, pattern in self.parts]
-        )
-
-
-# ---- what terms compute to
-
-
-def number(value: Value) -> int:
-    if isinstance(value, int):
-        return value
-    raise NotComputed("a number is wanted")
-
-
-def list_of(value: Value) -> Data:
-    if isinstance(value, Data):
-        return value
-    raise NotComputed("a list is wanted")
-
-
-def joined(left: Value, right: Value) -> Data:
-    return list_of(right) if left is NIL else listed(items_of(list_of(left)), list_of(right))
-
-
-def calculated(word: str, left: int, right: int) -> int:
-    """What an infix word of arithmetic gives. A difference is at least 0; a division by 0 gives 0, and leaves all."""
-    if word == "+":
-        return left + right
-    if word == "-":
-        return max(left - right, 0)
-    if word == "*":
-        return left * right
-    if word == "/":
-        return left // right if right else 0
-    if word == "%":
-        return left % right if right else left
-    if word == "^":
-        return int(left**right)
-    raise NotComputed(f"the word {word}")
+        return isinstance(value, Struct) and all([pattern.fits(value.fields[name], env) for name, pattern in self.parts])

@@ -110,6 +110,10 @@ class Block:
     def head(self) -> str:
         return self.lines[0][1].strip()
 
+    @property
+    def has_where(self) -> bool:
+        return any(WHERE.search(without_comment(line)) for _, line in self.lines)
+
 
 def indent_of(line: str) -> int:
     return len(line) - len(line.lstrip(" "))
@@ -168,9 +172,7 @@ class FileReader:
             found.append(use_of(it))
         elif PASSED_OVER.match(head):
             pass
-        elif (it := re.match(r"(?:pub )?(record|data) (?!\s*\{)", head)) and any(
-            WHERE.search(without_comment(line)) for _, line in block.lines
-        ):
+        elif (it := re.match(r"(?:pub )?(record|data) (?!\s*\{)", head)) and block.has_where:
             found.append(self.structure(block, it[1] == "record"))
         elif head.startswith("module "):
             first, rest = split_where(block)
@@ -193,11 +195,7 @@ class FileReader:
         return Structure(name, binders, type_, tuple(members), is_record, block.number, block.comment)
 
     def signature_or_clause(self, block: Block, found: list[Item]) -> None:
-        before, rest = (
-            split_where(block)
-            if any(WHERE.search(without_comment(line)) for _, line in block.lines)
-            else (block.text, ())
-        )
+        before, rest = split_where(block) if block.has_where else (block.text, ())
         marks = MARKS.match(before.strip())
         tokens = tokens_of(before.strip()[marks.end() if marks else 0 :], block.number)
         if is_signature(tokens):

@@ -2,18 +2,15 @@
 
 from __future__ import annotations
 
-from collections.abc import Callable
-from dataclasses import dataclass, field
+from collections.abc import Callable, Sequence
+from dataclasses import dataclass
 from typing import Union
 
 from dorydate.definitions.files import Definition, Group, Item, Structure, Use, read_file
 from dorydate.definitions.terms import Binder
 
-Sources = Callable[
-    [str], "str | None"
-]  # the text of a file, by its path below `crates`; None where there is no such file
+Sources = Callable[[str], "str | None"]  # the text of a file, by its path below `crates`; None where there is no such file
 WORDS = "words"  # the module that has the words of the library
-VARIANTS, CONSTANTS = ".TheVariants", ".TheConstants"
 
 
 class NoMeaning(Exception):
@@ -25,11 +22,7 @@ class Defined:
     """A definition, in its module."""
 
     module: str
-    definition: Definition
-
-    @property
-    def item(self) -> Definition:
-        return self.definition
+    item: Definition
 
 
 @dataclass(frozen=True)
@@ -37,11 +30,7 @@ class Typed:
     """A record or data."""
 
     module: str
-    structure: Structure
-
-    @property
-    def item(self) -> Structure:
-        return self.structure
+    item: Structure
 
 
 @dataclass(frozen=True)
@@ -82,26 +71,18 @@ class Word:
 Meaning = Union[Defined, Typed, Form, Declared, Constant, Word]
 
 
-@dataclass
 class Module:
     """A file's items by their names, and its imports."""
 
-    name: str
-    items: tuple[Item, ...]
-    faults: list[str] = field(default_factory=list)
-    own: dict[str, Definition | Structure] = field(default_factory=dict)
-    forms: dict[str, Structure] = field(default_factory=dict)
-    names: dict[str, tuple[str, str]] = field(
-        default_factory=dict
-    )  # imported names, with their module and their name there
-    aliases: dict[str, str] = field(default_factory=dict)
-    passed: dict[str, str] = field(default_factory=dict)  # names that it passes on, with the module from which
-    groups: dict[str, tuple[Binder, ...]] = field(
-        default_factory=dict
-    )  # what a definition takes before its own arguments
-
-    def __post_init__(self) -> None:
-        self.take(self.items, ())
+    def __init__(self, name: str, items: tuple[Item, ...], faults: Sequence[str] = ()) -> None:
+        self.name, self.items, self.faults = name, items, faults
+        self.own: dict[str, Definition | Structure] = {}
+        self.forms: dict[str, Structure] = {}
+        self.names: dict[str, tuple[str, str]] = {}  # imported names, with their module and their name there
+        self.aliases: dict[str, str] = {}
+        self.passed: dict[str, str] = {}  # names that it passes on, with the module from which
+        self.groups: dict[str, tuple[Binder, ...]] = {}  # what a definition takes before its own arguments
+        self.take(items, ())
 
     def take(self, items: tuple[Item, ...], binders: tuple[Binder, ...]) -> None:
         for it in items:
@@ -125,6 +106,11 @@ class Module:
                 self.passed[here] = use.module
 
 
+def path_of(module: str) -> str:
+    """The file of a module, below `crates`: `Rattle.CRATE.specs.PATH` is CRATE/specs/PATH.antt."""
+    return f"{module.removeprefix('Rattle.').replace('.', '/')}.antt"
+
+
 class Library:
     """The modules that have been asked for, each read once."""
 
@@ -134,18 +120,16 @@ class Library:
         self.meanings: dict[tuple[str, str, str], Meaning] = {}
 
     def module(self, name: str) -> Module:
-        """The module of a file: `Rattle.CRATE.specs.PATH` is CRATE/specs/PATH.antt."""
+        """The module of a file."""
         if name not in self.modules:
-            text = self.sources(f"{name.removeprefix('Rattle.').replace('.', '/')}.antt")
+            text = self.sources(path_of(name))
             if text is None:
                 raise NoMeaning(f"there is no module {name}")
             self.modules[name] = Module(name, *read_file(text))
         return self.modules[name]
 
     def has(self, name: str) -> bool:
-        return (
-            name in self.modules or self.sources(f"{name.removeprefix('Rattle.').replace('.', '/')}.antt") is not None
-        )
+        return name in self.modules or self.sources(path_of(name)) is not None
 
     def meaning(self, module: str, name: str, alias: str = "") -> Meaning:
         """What a name means in a module, or in one that it imports as a whole."""

@@ -7,16 +7,17 @@ were reset their fates, each as late as can be.
 
 from __future__ import annotations
 
+import gc
 import sys
 import threading
 from collections.abc import Callable, Iterator, Sequence
-from dataclasses import dataclass
+from dataclasses import dataclass, replace
 from pathlib import Path
 from typing import TypeVar
 
 from dorydate.definitions.clauses import clauses_of, uses_of
-from dorydate.definitions.computing import Env, Lacking
-from dorydate.definitions.deciding import Decider, Goal, Said, Statement
+from dorydate.definitions.compiling import Decider, Fields, called
+from dorydate.definitions.computing import Env, Expression, Goal, Lacking
 from dorydate.definitions.library import Defined, Library, Module, Sources, Typed
 from dorydate.definitions.logged import Logged
 from dorydate.definitions.reach import Reach
@@ -26,10 +27,8 @@ from dorydate.definitions.terms import Term
 from dorydate.definitions.values import Lambda, Value, data, listed, struct
 from dorydate.model.log import Book
 
-BOOK, BOOK_AMONG = (
-    "headline/src/book.rt",
-    "mixed_worlds/src/book.rt",
-)  # what is promised of a book, and of one among strangers
+BOOK, BOOK_AMONG = "headline/src/book.rt", "mixed_worlds/src/book.rt"  # what is promised of a book, and of one among strangers
+ENDS = "Rattle.promise.specs.Ends"
 LEFT = ("value", "lawful")  # their clauses that speak of the world and its programs
 WORDS_FILE = Path(__file__).with_name("words.txt")  # no .antt: the toolchain asks that each is of a crate
 PACKED = Path(__file__).with_name("promised")  # where a release has the files of the definitions
@@ -60,7 +59,7 @@ class Part:
     name: str
     definition: str
     comment: str
-    statement: Statement
+    statement: Expression
     env: Env
 
 
@@ -112,55 +111,39 @@ class Judge:
         """The parts of what is promised of a log, one after another."""
         kept = logged.kept(*self.unsaid(logged))
         seen: Value = Lambda(1, lambda carrier: struct({"hosts": logged.hosts}))
-        calls = struct({"calls": struct({"seen": seen})})
+        env: Env = {"C": struct({"calls": struct({"seen": seen})})}
         if logged.book.strangers:
-            world = struct({"carrier": 0, "kept": kept})
-            env: Env = {"C": calls, "world": struct({"now": struct({"world": world, "strangers": logged.strangers})})}
+            now = struct({"world": struct({"carrier": 0, "kept": kept}), "strangers": logged.strangers})
+            env |= {"world": struct({"now": now})}
         else:
-            env = {"C": calls, "world": struct({"now": struct({"carrier": 0})}), "result": kept}
+            env |= {"world": struct({"now": struct({"carrier": 0})}), "result": kept}
         for name, term, module in self.clauses(BOOK_AMONG if logged.book.strangers else BOOK):
-            statement = self.decider.statement(term, module, frozenset(env))
-            yield from self.below(name, name, "", term, module, statement, env)
+            yield from self.below(Part(name, name, "", self.decider.expression(term, module, frozenset(env)), env))
 
-    def below(
-        self, name: str, said_by: str, comment: str, term: Term, module: str, statement: Statement, env: Env
-    ) -> Iterator[Part]:
+    def below(self, part: Part) -> Iterator[Part]:
         """A part, or those that it has, if it is a record of statements."""
-        meaning = statement.meaning if isinstance(statement, Said) else None
-        if isinstance(meaning, Typed) and all(it.statement for it in self.decider.record(meaning).parts):
-            assert isinstance(statement, Said)
-            names = [it for binder in meaning.structure.binders if not binder.implicit for it in binder.names]
-            inner: Env = {it: argument.slot(env) for it, argument in zip(names, statement.arguments)}
-            for member in meaning.structure.members:
-                held = self.decider.statement(
-                    member.type,
-                    meaning.module,
-                    frozenset(inner) | {it for binder in meaning.structure.binders for it in binder.names},
-                )
-                above = member.comment or meaning.structure.comment
-                yield from self.below(
-                    f"{name}.{member.name}",
-                    f"{meaning.structure.name}.{member.name}",
-                    above,
-                    member.type,
-                    meaning.module,
-                    held,
-                    inner,
-                )
-            return
-        if isinstance(meaning, (Defined, Typed)):
-            said_by, comment = meaning.item.name, meaning.item.comment or comment
-        yield Part(name, said_by, comment, statement, env)
+        said, given = called(part.statement)
+        if isinstance(said, Fields) and all(it.statement for it in said.parts.parts):
+            record, env = said.structure, {name: it.slot(part.env) for name, it in zip(said.names, given)}
+            for it, member in zip(said.parts.parts, record.members):
+                assert it.statement
+                name, comment = f"{record.name}.{member.name}", member.comment or record.comment
+                yield from self.below(Part(f"{part.name}.{member.name}", name, comment, it.statement, env))
+        elif said:
+            yield replace(part, definition=said.item.name, comment=said.item.comment or part.comment)
+        else:
+            yield part
 
     # ---- what a log doesn't say
 
     def holds(self, module: str, name: str, *arguments: Value) -> bool:
         """Whether a definition of the promise holds of these values."""
         meaning = self.library.found(module, name)
-        return any(self.decider.holds(it) for it in self.decider.opened(meaning, arguments, None))
+        assert isinstance(meaning, (Defined, Typed))
+        return any(self.decider.holds(it) for it in self.decider.defined(meaning).opens(arguments, None))
 
     def is_left(self, contacts: Sequence[Value], logged: Logged, life: Value, fate: Value) -> bool:
-        return self.holds("Rattle.promise.specs.Ends", "IsLeft", listed(contacts), logged.log, life, fate)
+        return self.holds(ENDS, "IsLeft", listed(contacts), logged.log, life, fate)
 
     def unsaid(self, logged: Logged) -> tuple[list[Value], list[Value]]:
         """The fates of the lives, and the contacts."""
@@ -168,11 +151,7 @@ class Judge:
         contacts: list[Value] = []
         for life, fate in logged.each_life():
             closing = data("Closing")
-            if (
-                fate is data("Open")
-                and not self.is_left([], logged, life, fate)
-                and self.is_left([], logged, life, closing)
-            ):
+            if fate is data("Open") and not self.is_left([], logged, life, fate) and self.is_left([], logged, life, closing):
                 fate = closing
             fates.append(fate)
             if fate is data("Reset") and not self.is_left(contacts, logged, life, fate):
@@ -184,9 +163,8 @@ class Judge:
         fields = getattr(life, "fields")
         for place in range(logged.log.length, -1, -1):
             one = struct({"host": fields["host"], "place": place, "peer": fields["peer"]})
-            if self.is_left([*contacts, one], logged, life, fate) and self.holds(
-                "Rattle.promise.specs.Ends", "AreContacts", listed([*contacts, one]), logged.log
-            ):
+            found = [*contacts, one]
+            if self.is_left(found, logged, life, fate) and self.holds(ENDS, "AreContacts", listed(found), logged.log):
                 return [one]
         return []
 
@@ -216,11 +194,13 @@ def deeply(run: Callable[[], T]) -> T:
 
     before, size = sys.getrecursionlimit(), threading.stack_size(STACK)
     sys.setrecursionlimit(DEEPEST)
+    gc.disable()  # values are many, and nearly all go when they are forgotten
     try:
         thread = threading.Thread(target=within)
         thread.start()
         thread.join()
     finally:
+        gc.enable()
         sys.setrecursionlimit(before)
         threading.stack_size(size)
     if raised:

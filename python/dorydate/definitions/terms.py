@@ -177,26 +177,9 @@ class Unknown:
 
 
 Term = Union[
-    Name,
-    Number,
-    Text,
-    Implicit,
-    Apply,
-    Operation,
-    ForAll,
-    Both,
-    Function,
-    Let,
-    Tuple,
-    Field,
-    Record,
-    Changed,
-    Match,
-    If,
-    Section,
-    Universe,
-    Unknown,
-]
+    Name, Number, Text, Implicit, Apply, Operation, ForAll, Both, Function, Let, Tuple, Field, Record, Changed, Match, If,
+    Section, Universe, Unknown,
+]  # fmt: skip
 
 
 def head_of(term: Term) -> Term:
@@ -213,13 +196,18 @@ def for_all(binders: tuple[Binder, ...], body: Term) -> Term:
     return body
 
 
-def taken_types(type_: Term) -> list[Term]:
-    """The types of the arguments that something of this type takes, without those in braces."""
-    found: list[Term] = []
+def binders_of(type_: Term) -> list[Binder]:
+    """What something of this type takes."""
+    found = []
     while isinstance(type_, ForAll):
-        found += [] if type_.binder.implicit else [type_.binder.type] * max(len(type_.binder.names), 1)
+        found.append(type_.binder)
         type_ = type_.body
     return found
+
+
+def taken_types(type_: Term) -> list[Term]:
+    """The types of the arguments that something of this type takes, without those in braces."""
+    return [it.type for it in binders_of(type_) if not it.implicit for _ in it.names or ("",)]
 
 
 def arity(type_: Term) -> int:

@@ -2,44 +2,47 @@
 
 from __future__ import annotations
 
+import gc
 from collections.abc import Callable, Iterable, Iterator
+from dataclasses import dataclass
 from typing import Any, Union
 
 
+class NotComputed(Exception):
+    """A term of a kind that isn't computed here."""
+
+
+@dataclass(eq=False, slots=True)
 class Data:
     """A constructor with its arguments. A list knows its length."""
 
-    __slots__ = ("form", "parts", "length")
+    form: str
+    parts: tuple[Value, ...]
+    length: int = 0
 
-    def __init__(self, form: str, parts: tuple[Value, ...], length: int) -> None:
-        self.form, self.parts, self.length = form, parts, length
 
-
+@dataclass(eq=False, slots=True)
 class Struct:
     """A record, or a tuple, whose fields are numbered from 0."""
 
-    __slots__ = ("fields",)
-
-    def __init__(self, fields: dict[str, Value]) -> None:
-        self.fields = fields
+    fields: dict[str, Value]
 
 
+@dataclass(eq=False, slots=True)
 class Lambda:
-    """A function, with the arguments that it has; what opens a call of it, where a definition can be opened; and what
-    it says, where it gives a statement."""
+    """A function, with the arguments that it has, and the term that it is, with the names in that."""
 
-    __slots__ = ("arity", "run", "before", "opens", "says")
-
-    def __init__(
-        self, arity: int, run: Callable[..., Value], before: tuple[Value, ...] = (), opens: Any = None
-    ) -> None:
-        self.arity, self.run, self.before, self.opens = arity, run, before, opens
-        self.says: Any = None
+    arity: int
+    run: Callable[..., Value]
+    before: tuple[Value, ...] = ()
+    term: Any = None
+    env: Any = None
 
 
 Value = Union[int, Data, Struct, Lambda]
 
-TRUE, FALSE, NIL, NONE = (Data(it, (), 0) for it in ("true", "false", "[]", "None"))
+TRUE, FALSE, NIL, NONE = (Data(it, ()) for it in ("true", "false", "[]", "None"))
+TYPE = Data("a type", ())  # nothing is computed of a type
 Key = tuple[Union[Value, str], ...]
 LASTING: dict[Key, Data] = {(it.form,): it for it in (TRUE, FALSE, NIL, NONE)}
 _data: dict[Key, Data] = {**LASTING}
@@ -51,6 +54,7 @@ def forget() -> None:
     _data.clear()
     _data.update(LASTING)
     _structs.clear()
+    gc.collect(1)
 
 
 def data(form: str, *parts: Value) -> Data:
@@ -88,6 +92,18 @@ def some(value: Value) -> Data:
     return data("Some", value)
 
 
+def number(value: Value) -> int:
+    if isinstance(value, int):
+        return value
+    raise NotComputed("a number is wanted")
+
+
+def list_of(value: Value) -> Data:
+    if isinstance(value, Data):
+        return value
+    raise NotComputed("a list is wanted")
+
+
 def listed(items: Iterable[Value], tail: Data = NIL) -> Data:
     """A list of these, and then those of another."""
     for it in reversed([*items]):
@@ -95,13 +111,16 @@ def listed(items: Iterable[Value], tail: Data = NIL) -> Data:
     return tail
 
 
-def items_of(values: Data) -> Iterator[Value]:
+def items_of(values: Value) -> Iterator[Value]:
     """The members of a list."""
+    values = list_of(values)
     while values.form == "∷":
         yield values.parts[0]
-        tail = values.parts[1]
-        assert isinstance(tail, Data)
-        values = tail
+        values = list_of(values.parts[1])
+
+
+def reversed_list(values: Value) -> Value:
+    return listed([*items_of(values)][::-1])
 
 
 def applied(function: Value, arguments: tuple[Value, ...]) -> Value:
@@ -110,12 +129,10 @@ def applied(function: Value, arguments: tuple[Value, ...]) -> Value:
         if type(function) is Data:
             return data(function.form, *function.parts, *arguments)
         if type(function) is not Lambda:
-            raise TypeError("what is applied is no function")
+            raise NotComputed("what is applied is no function")
         missing = function.arity - len(function.before)
         if len(arguments) < missing:
-            partly = Lambda(function.arity, function.run, function.before + arguments)
-            partly.says = function.says
-            return partly
+            return Lambda(function.arity, function.run, (*function.before, *arguments), function.term, function.env)
         function, arguments = function.run(*function.before, *arguments[:missing]), arguments[missing:]
     return function
 
@@ -132,7 +149,7 @@ def spelled(value: Value) -> str:
     if isinstance(value, Lambda):
         return "a function"
     if isinstance(value, Struct):
-        return spelled_struct(value)
+        return spelled_struct(value.fields)
     if value.form in ("∷", "[]"):
         members = [*items_of(value)]
         if members and all(it is TRUE or it is FALSE for it in members):
@@ -141,9 +158,8 @@ def spelled(value: Value) -> str:
     return f"{value.form}({', '.join(map(spelled, value.parts))})" if value.parts else value.form
 
 
-def spelled_struct(value: Struct) -> str:
+def spelled_struct(fields: dict[str, Value]) -> str:
     """A record; a host and a flow by their names, as logs have them."""
-    fields = value.fields
     if fields.keys() == {"imp", "host"}:
         return f"{spelled(fields['host'])}/{spelled(fields['imp'])}"
     if fields.keys() == {"0"}:

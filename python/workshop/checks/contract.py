@@ -30,12 +30,12 @@ from dorydate.contract import RULES, Broken
 from dorydate.contract.worlds.play import Acts, some_world, tally
 from dorydate.contract.worlds.programs import among, of_program, tried
 from dorydate.contract.worlds.stored import Run, Script, wrong_with
-from dorydate.definitions.deciding import Decider
+from dorydate.definitions.compiling import Decider
 from dorydate.definitions.library import Library
 from dorydate.definitions.promise import crates_folder, deeply, sources_below
 from workshop.parts import ROOT, text_of
-from workshop.second.own_logs import Contract, by_judge, difference
-from workshop.second.random_logs import OwnLog, by_host, of_world
+from workshop.contract.own_logs import Contract, by_judge, difference
+from workshop.contract.random_logs import OwnLog, by_host, of_world
 from workshop.words import Words
 
 FOLDER = f"{ROOT}/without/contract"

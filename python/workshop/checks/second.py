@@ -23,13 +23,12 @@ from collections import Counter
 
 from dorydate.definitions.promise import BOOK, BOOK_AMONG, Judge, deeply
 from workshop.documents import believed
-from workshop.second import agda, laws, mutants, rows
+from workshop.second import laws, mutants, rows
 from workshop.second.beside import beside_audit
 from workshop.tools import lacking
 from workshop.words import Words
 
 LOGS = 1_000
-MOST_UNREAD = 3  # rows of calms, whose functions take an argument in braces
 
 
 def listed(seen: Counter[str]) -> str:
@@ -39,20 +38,15 @@ def listed(seen: Counter[str]) -> str:
 def in_agda() -> list[str]:
     """What is wrong with the definitions, as Agda says."""
     judge = Judge()
-    of_page = agda.written(judge, [BOOK], "Promise").definitions
-    both = agda.written(judge, [BOOK, BOOK_AMONG], "Promise")
+    alone, both = laws.of_page(judge, [BOOK]).definitions, laws.of_page(judge, [BOOK, BOOK_AMONG])
     owed = len(believed.reading()[1].definitions)
-    wrong = [] if of_page == owed else [f"{of_page} definitions are written of the promise, and its page has {owed}"]
-    all_ = f"{both.definitions} with those among strangers, and {both.types} types of Rust"
-    what = f"{of_page} definitions of the promise, {all_}"
+    wrong = [] if alone == owed else [f"{alone} definitions are written of the promise, and its page has {owed}"]
+    what = f"{alone} definitions of the promise, {both.definitions} with those among strangers, and {both.types} types of Rust"
     if not shutil.which("agda"):
         lacking("second", f"Agda over the {what}", "Agda")
         return wrong
-    said = agda.said_of(both, "Promise")
-    print(
-        f"check second: Agda: {what}: {'refused' if said else 'each is well typed, and each recursion ends'}",
-        flush=True,
-    )
+    said = laws.checked(both).said
+    print(f"check second: Agda: {what}: {'refused' if said else 'each is well typed, and each recursion ends'}", flush=True)
     return wrong + ([f"Agda: {said[:2000]}"] if said else [])
 
 
@@ -60,11 +54,9 @@ def worked() -> list[str]:
     """What is wrong with rows; each definition is tried with one word changed, too, which rows have to notice."""
     all_ = deeply(rows.all_rows)
     print(f"check second: worked rows: {listed(all_.counted())}", flush=True)
-    unread = all_.unread
-    many = f"{len(unread)} rows are not read, of at most {MOST_UNREAD}: {'; '.join(unread)}"
     found = deeply(lambda: [*mutants.tried(all_, 1)])
     print(f"check second: definitions with one word changed: {listed(Counter(it for _, it in found))}", flush=True)
-    return all_.failed + ([many] if len(unread) > MOST_UNREAD else []) + mutants.lacking_rows(found)
+    return all_.wrong + mutants.lacking_rows(found)
 
 
 def judge(count: int) -> list[str]:

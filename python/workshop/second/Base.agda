@@ -88,3 +88,13 @@ record Sig4 (A : Set) (B : A → Set) (C : (a : A) → B a → Set) (D : (a : A)
     #2 : C #0 #1
     #3 : D #0 #1 #2
 open Sig4 public
+
+-- a value to be looked at by its forms, a fact with a name, and a function that a macro makes
+of- : {A B : Set} → A → (A → B) → B
+of- x f = f x
+
+by- : {A B : Set} → (A → B) → A → B
+by- f x = f x
+
+itself : {A : Set} → A → A
+itself x = x

@@ -1,174 +1,82 @@
-"""Writes definitions as Agda, which then finds each well typed and each recursion ending.
+"""Writes definitions and lemmas as Agda, which then finds each well typed and each recursion ending.
 
-The translation is mechanical, definition by definition, each after those that it uses. A product of many parts is
-nested from its fourth part on. A type of Rust is the Value of its Model, or its fields or variants; one whose Value no file of
-definitions says plainly is a parameter of the module, of which nothing is known.
+The translation is mechanical, one after another. A product of many parts is nested from its fourth part on. What
+differs in proofs: a clause of several forms is written once for each; a statement by the form of one value is written
+by what selects a form, since Agda takes two matches for two statements; a fact that `let` names is given to a function,
+so that the macros see it; and the tactics are macros (`laws/Tactics.agda`).
 """
 
 from __future__ import annotations
 
 import re
-import shutil
-import subprocess
-import tempfile
 from collections.abc import Iterator, Sequence
-from dataclasses import dataclass, field
-from pathlib import Path
 
-from dorydate.definitions.files import Clause, Structure
-from dorydate.definitions.library import WORDS, Declared, Defined, Form, Library, Meaning, Typed, Word
-from dorydate.definitions.promise import Judge
-from dorydate.definitions.reach import Reach
+from dorydate.definitions.clauses import clauses_of, uses_of
+from dorydate.definitions.files import Clause, Definition, Structure
+from dorydate.definitions.library import WORDS, Declared, Defined, Form, Library, Meaning, Module, Typed, Word
+from dorydate.definitions.reading import term_of
 from dorydate.definitions.terms import (  # fmt: skip
-    Apply, Binder, Both, Changed, Field, ForAll, Function, If, Implicit, Let, Name, Number, Operation, Record, Term,
-    Tuple, Universe, Unknown,
+    Apply, Binder, Both, Changed, Field, ForAll, Function, If, Implicit, Let, Match, Name, Number, Operation, Record,
+    Section, Term, Tuple, Universe, Unknown, arity, head_of, result_of, taken_types,
 )
 from workshop.parts import ROOT, text_of
+from workshop.second.rust import Rust, mangled
+from workshop.second.splitting import Forms, Splitter, Written, parts_of
 
-BASE = Path(__file__).with_name("Base.agda")
 BUILT_IN = {*"zero suc true false [] Some None Ok Err nat_lt Option Result List Bool ℕ ⊥".split()}
-FORMS = {*"zero suc true false None Some Ok Err inl inr refl tt".split()}
-KEYWORDS = {
-    *"field open where data record module let in to renaming using hiding import with abstract rewrite do quote".split(),
-    *"syntax tactic macro instance private public forall constructor pattern variable".split(),
+# what `laws/Lemmas.agda` and the language of proofs have beside definitions
+PROVED = {
+    *"refl sym ap subst absurd inl inr tt eq-eqb eqb-true ne_eqb leb-true le-leb ltb-true lt-ltb and_parts and_from".split(),
+    *"and_right and_cases or_left or_parts not-true false_from_ne_true same_Some append-nil append_assoc".split(),
+    *"length-append min-le_left min-eq_left eq-or-lt_of_le".split(),
 }
-NUMBERS = {"u8", "u16", "u32", "u64", "u128", "usize"}
-WIDTHS = {"w8": "1", "w16": "2", "w32": "4", "w64": "8", "w128": "16"}
-MODEL = re.compile(r"impl(?:<[^>]*>)? Model for (\w+)[^{]*\{[\s\S]*?ghost Value = \{ (.*?) \};")
-RUST_TYPE = r"pub (struct|enum) {name}(?:<[^>]*>)?\s*(\{{|\(|;)"
+FORM_NAMES = {*"zero suc true false None Some Ok Err inl inr refl tt".split()}
+WIDTHS = {"w8": "1", "w16": "2", "w32": "4", "w64": "8", "w128": "16", "Width": "ℕ", "byte_len": "(λ n → n)", "cc": "(cc- no-facts)"}
+TACTICS = ("omega", "cc", "rw", "eq-or-lt_of_le", "search", "grind", "simp")
+# lemmas below whose proofs leave to the prover what Agda doesn't find: `laws/Lemmas.agda` has them
+BY_HAND = {("Rattle.ncp_control.proofs.Counters", "share-le")}
+STATEMENTS = {"≡", "≢", "<", "≤", "⊎"}
+BUILT_IN_FORMS = {
+    "Bool": (("true", 0), ("false", 0)),
+    "Option": (("None", 0), ("Some", 1)),
+    "List": (("[]", 0), ("∷", 2)),
+    "ℕ": (("zero", 0), ("suc", 1)),
+    "⊎": (("inl", 1), ("inr", 1)),
+}
+TYPE_OF = {form: name for name, forms in BUILT_IN_FORMS.items() for form, _ in forms}
+Local = frozenset[str]
+NO_NAMES: Local = frozenset()
 
 
 class NotWritten(Exception):
     """What isn't translated."""
 
 
-def mangled(name: str) -> str:
-    """A name as Agda may have it."""
-    found = name.replace("_", "-")
-    return f"{found}′" if found in KEYWORDS else found
-
-
 def variable(name: str) -> str:
     """A name that a clause gives, which a form may have in Agda."""
-    return f"{name}′" if name in FORMS else mangled(name)
-
-
-@dataclass
-class Rust:
-    """The types that are declared in Rust, written when they are asked for."""
-
-    texts: dict[str, list[tuple[str, str]]] = field(default_factory=dict)  # by a type's name: its crates and files
-    values: dict[str, str] = field(default_factory=dict)
-    written: dict[str, list[str]] = field(default_factory=dict)
-    opaque: list[str] = field(default_factory=list)
-    home: tuple[str, str] = ("", "")
-
-    def __post_init__(self) -> None:
-        for path in sorted(Path(f"{ROOT}/crates").glob("*/src/**/*.rt")):
-            text = re.sub(r"#\[[^\]]*\]|//[^\n]*", "", text_of(str(path)))
-            self.values |= dict(MODEL.findall(text))
-            crate = path.relative_to(f"{ROOT}/crates").parts[0]
-            for found in re.finditer(r"pub (?:struct|enum) (\w+)", text):
-                self.texts.setdefault(found[1], []).append((crate, text))
-
-    def file_of(self, name: str, crate: str, user: str = "") -> tuple[str, str]:
-        """The crate and the file of a type: of this crate, or of one from which a file takes it."""
-        found = self.texts.get(name, [])
-        named = [it[1] for it in re.finditer(rf"use (\w+)::[^;]*\b{name}\b", user)]
-        ranked = sorted(found, key=lambda it: (it[0] != crate, it[0] not in named))
-        return ranked[0] if ranked else ("", "")
-
-    def type(self, text: str, crate: str = "", user: str = "") -> str:
-        """A type of Rust, in Agda, as a file of a crate names it."""
-        text = text.strip()
-        if text in NUMBERS:
-            return "ℕ"
-        if text == "bool":
-            return "Bool"
-        if found := re.fullmatch(r"\[(.*);[^;]*\]|(?:Vec|VecDeque)<(.*)>", text):
-            return f"(List {self.type(found[1] or found[2], crate, user)})"
-        if found := re.fullmatch(r"Option<(.*)>", text):
-            return f"(Option {self.type(found[1], crate, user)})"
-        value = self.values.get(text)
-        if value in ("ℕ", "List Bool", "List ℕ", "Host"):
-            return f"({value})"
-        self.write(text, crate, user)
-        return f"{text}°"
-
-    def write(self, name: str, crate: str = "", user: str = "") -> None:
-        """Writes a type by its fields or variants."""
-        if name in self.written or name in self.opaque:
-            return
-        home, text = self.file_of(name, crate, user)
-        found = re.search(RUST_TYPE.format(name=name), text)
-        if name in self.values or not found:
-            self.opaque.append(name)
-            return
-        body = self.body(text, found.end()) if found[2] != ";" else ""
-        self.home = home, text
-        made = self.record(name, body, found[2]) if found[1] == "struct" else self.data(name, body)
-        self.written[name] = made
-
-    def body(self, text: str, at: int) -> str:
-        depth, end = 1, at
-        while depth:
-            depth += {"{": 1, "(": 1, "}": -1, ")": -1}.get(text[end], 0)
-            end += 1
-        return text[at : end - 1]
-
-    def parts(self, body: str) -> list[str]:
-        """What commas separate in a text, outside brackets."""
-        found, depth = [""], 0
-        for letter in body:
-            depth += {"{": 1, "(": 1, "[": 1, "<": 1, "}": -1, ")": -1, "]": -1, ">": -1}.get(letter, 0)
-            if letter == "," and not depth:
-                found.append("")
-            else:
-                found[-1] += letter
-        return [it.strip() for it in found if it.strip()]
-
-    def record(self, name: str, body: str, opening: str) -> list[str]:
-        pairs = [it.split(":", 1) if opening == "{" else [str(at), it] for at, it in enumerate(self.parts(body))]
-        home = self.home
-        fields = [
-            f"    #{mangled(it.split()[-1])} : {self.type(type_.replace('pub ', ''), *home)}" for it, type_ in pairs
-        ]
-        return [f"record {name}° : Set where", "  field", *fields, f"open {name}° public"]
-
-    def data(self, name: str, body: str) -> list[str]:
-        lines, home = [f"data {name}° : Set where"], self.home
-        for variant in self.parts(body):
-            word = re.match(r"\w+", variant)
-            assert word
-            inner = self.parts(variant[word.end() :].strip()[1:-1])
-            types = [self.type(it.split(":", 1)[-1], *home) for it in inner]
-            lines.append(f"  {word[0]} : {' → '.join([*types, f'{name}°'])}")
-        return lines
+    return f"{name}′" if name in FORM_NAMES else mangled(name)
 
 
 class Writer:
-    """Writes definitions of a library as the text of one module of Agda."""
+    """Writes definitions and lemmas of a library."""
 
     def __init__(self, library: Library) -> None:
         self.library = library
         self.rust = Rust()
-        self.names: dict[tuple[str, str], str] = {}
-        self.taken: set[str] = set()
-
-    def name_of(self, module: str, name: str) -> str:
-        """What a definition is called: by its own name, or with its file's where that is taken."""
-        key = module, name
-        if key not in self.names:
-            own = mangled(name)
-            self.names[key] = (
-                f"{own}-of-{mangled(module.split('.')[-1])}" if own in self.taken or own in BUILT_IN else own
-            )
-            self.taken.add(self.names[key])
-        return self.names[key]
+        self.owners: Sequence[tuple[str, str]] = ()  # the data that were reached
+        self.parameters: Local = NO_NAMES  # of the group of definitions
+        self.fresh = 0
 
     # ---- names
 
-    def meaning_of(self, term: Term, module: str, local: frozenset[str] = frozenset()) -> Meaning | None:
+    def name_of(self, module: str, name: str) -> str:
+        """What a definition is called: with its file's name, so that no local name is the same."""
+        if module == WORDS:
+            return mangled(name) if name[0].islower() else f"{name}-of-words"
+        _, crate, _, *file = module.split(".")
+        return f"{name}-of-{'-'.join([crate, *file])}".replace("_", "-")
+
+    def meaning_of(self, term: Term, module: str, local: Local = NO_NAMES) -> Meaning | None:
         """What a name of a file or of its imports means; None of any other term."""
         here = self.library.module(module)
         if isinstance(term, Name) and (term.text in here.own or term.text in here.forms or term.text in here.names):
@@ -177,91 +85,102 @@ class Writer:
             return self.library.meaning(module, term.name, term.of.text)
         return None
 
-    def meant(self, term: Term, module: str, local: frozenset[str]) -> str | None:
+    def meant(self, term: Term, module: str, local: Local) -> str | None:
         """What a name is in Agda; None of a term that is none."""
+        if isinstance(term, Written):
+            return term.text
         if isinstance(term, Name) and term.text in local:
             return variable(term.text)
+        if isinstance(term, Field) and isinstance(term.of, Name) and term.of.text not in local:
+            of = self.library.module(module).aliases.get(term.of.text, "")
+            if of.endswith(".Goals"):  # the clause of a function: `goal.returns-clause-NAME`
+                said, rows = goal_of(self.library, of, term.name)
+                return f"(⊤ → {self.term(said, rows, NO_NAMES)})"
         if meaning := self.meaning_of(term, module, local):
             assert isinstance(term, (Name, Field))
             return self.of_meaning(meaning, module, term.text if isinstance(term, Name) else term.name)
         return self.built_in(term.text) if isinstance(term, Name) else None
 
     def built_in(self, name: str) -> str:
-        words = self.library.module(WORDS)
-        if name in words.own:
+        if name in PROVED:
+            return name.replace("_", "-")
+        if name in self.library.module(WORDS).own:
             return self.name_of(WORDS, name)
         if name in WIDTHS:
             return WIDTHS[name]
-        if name in ("byte_len",):
-            return "(λ n → n)"
         if name in BUILT_IN:
             return mangled(name)
-        if name == "Width":
-            return "ℕ"
         if found := re.fullmatch("◌(.*)◌", name):
             return f"_{found[1]}_"
         raise NotWritten(f"the word {name}")
 
     def of_meaning(self, meaning: Meaning, module: str, name: str) -> str:
-        if isinstance(meaning, Form):
-            here = self.library.module(module)
-            if name in here.forms and here.forms[name].name == meaning.type:
-                return f"{self.name_of(module, meaning.type)}.{mangled(name)}"
-            return self.form(meaning)
-        if isinstance(meaning, (Defined, Typed)):
-            return self.name_of(meaning.module, meaning.item.name)
-        if isinstance(meaning, Declared):
-            return self.rust.type(meaning.name, meaning.crate)
-        if isinstance(meaning, Word):
-            return self.built_in(meaning.name)
+        match meaning:
+            case Form(type_, _):
+                here = self.library.module(module)
+                is_own = name in here.forms and here.forms[name].name == type_
+                return f"{self.name_of(module, type_)}.{mangled(name)}" if is_own else self.form(meaning)
+            case Defined(home, definition) if (home, definition.name) in BY_HAND:
+                return mangled(definition.name)
+            case Defined() | Typed():
+                return self.name_of(meaning.module, meaning.item.name)
+            case Declared(crate, _, own):
+                return self.rust.type(own, crate)
+            case Word(own):
+                return self.built_in(own)
         raise NotWritten(f"the name {name}")
 
     def form(self, meaning: Form) -> str:
         """A constructor, with its type before it."""
-        owner = next((self.name_of(*key) for key in self.owners if key == (meaning.module, meaning.type)), None)
-        if owner:
-            return f"{owner}.{mangled(meaning.name)}"
+        if (meaning.module, meaning.type) in self.owners:
+            return f"{self.name_of(meaning.module, meaning.type)}.{mangled(meaning.name)}"
         self.rust.write(meaning.type, meaning.crate)
         return f"{meaning.type}°.{mangled(meaning.name)}"
 
-    owners: Sequence[tuple[str, str]] = ()  # the data that was reached
-
     # ---- terms
 
-    def term(self, term: Term, module: str, local: frozenset[str]) -> str:
+    def term(self, term: Term, module: str, local: Local) -> str:
         found = self.meant(term, module, local)
         if found is not None:
             return found
-        if isinstance(term, Field):
-            return f"({self.term(term.of, module, local)} .#{mangled(term.name)})"
-        if isinstance(term, Number):
-            return str(term.value)
-        if isinstance(term, Unknown):
-            return "_"
-        if isinstance(term, Universe):
-            return "Set" if term.level == "0" else f"Set{term.level}"
-        if isinstance(term, Apply):
-            return self.application(term, module, local)
-        if isinstance(term, Operation):
-            return f"({self.term(term.left, module, local)} {term.word} {self.term(term.right, module, local)})"
-        if isinstance(term, If):
-            parts = [self.term(it, module, local) for it in (term.condition, term.then, term.otherwise)]
-            return f"(if {parts[0]} then {parts[1]} else {parts[2]})"
-        if isinstance(term, Tuple):
-            return (
-                f"(t{len(term.items)} {' '.join(self.term(it, module, local) for it in term.items)})"
-                if term.items
-                else "tt"
-            )
-        if isinstance(term, (Record, Changed)):
-            fields = " ; ".join(f"#{mangled(name)} = {self.term(it, module, local)}" for name, it in term.fields)
-            of = f"{self.term(term.of, module, local)} " if isinstance(term, Changed) else ""
-            return f"(record {of}{{ {fields} }})"
+
+        def of(it: Term) -> str:
+            return self.term(it, module, local)
+
+        def with_fields(fields: Sequence[tuple[str, Term]]) -> str:
+            return " ; ".join(f"#{mangled(name)} = {of(it)}" for name, it in fields)
+
+        match term:
+            case Field(other, name):
+                return f"({of(other)} .#{mangled(name)})"
+            case Number(value):
+                return str(value)
+            case Unknown():
+                return "_"
+            case Universe(level):
+                return "Set" if level == "0" else f"Set{level}"
+            case Operation(word, left, right):
+                return f"({of(left)} {word} {of(right)})"
+            case If(condition, then, otherwise):
+                return f"(if {of(condition)} then {of(then)} else {of(otherwise)})"
+            case Tuple(items):
+                return f"(t{len(items)} {' '.join(map(of, items))})" if items else "tt"
+            case Record(fields):
+                return f"(record {{ {with_fields(fields)} }})"
+            case Changed(other, fields):
+                return f"(record {of(other)} {{ {with_fields(fields)} }})"
+            case Section(word, other, is_right):
+                return f"(λ z → (z {word} {of(other)}))" if is_right else f"(λ z → ({of(other)} {word} z))"
+            case Apply():
+                return self.application(term, module, local)
         return self.binding(term, module, local)
 
-    def application(self, term: Apply, module: str, local: frozenset[str]) -> str:
-        if isinstance(term.function, Name) and term.function.text == "Unit":
+    def application(self, term: Apply, module: str, local: Local) -> str:
+        name = term.function.text if isinstance(term.function, Name) and term.function.text not in local else ""
+        if name == "Unit":
             return "⊤"
+        if name in TACTICS:
+            return self.tactic(name, term.given, module, local)
         words = [self.term(term.function, module, local)]
         for it in term.arguments:
             if not isinstance(it, Implicit):
@@ -270,30 +189,58 @@ class Writer:
                 words.append(f"{{{mangled(it.name)} = {self.term(it.term, module, local)}}}")
         return f"({' '.join(words)})"
 
-    def binding(self, term: Term, module: str, local: frozenset[str]) -> str:
-        if isinstance(term, ForAll):
-            inner = local | {*term.binder.names}
-            return f"({self.binder(term.binder, module, local)} → {self.term(term.body, module, inner)})"
-        if isinstance(term, Both):
-            return self.product([(it.name, it.type) for it in term.parts], module, local)
-        if isinstance(term, Function):
-            names = [it.pattern.text for it in term.parameters if isinstance(it.pattern, Name)]
-            if len(names) < len(term.parameters):
-                raise NotWritten("a function of a pattern")
-            return f"(λ {' '.join(map(variable, names))} → {self.term(term.body, module, local | {*names})})"
-        if isinstance(term, Let) and isinstance(term.pattern, Name):
-            name, value = variable(term.pattern.text), self.term(term.value, module, local)
-            return f"(let {name} = {value} in {self.term(term.body, module, local | {term.pattern.text})})"
+    def tactic(self, name: str, given: Sequence[Term], module: str, local: Local) -> str:
+        """A tactic as a macro, with the facts that it is given."""
+        if name in ("grind", "simp"):
+            raise NotWritten(f"the tactic {name}")
+        if name == "search":
+            return "search-"
+        if name == "eq-or-lt_of_le":
+            return f"(eq-or-lt- {self.term(given[0], module, local)})"
+        facts = [it for one in given[:1] for it in (one.items if isinstance(one, Tuple) else (one,)) if it != Name("arith")]
+        texts = [self.term(it, module, local) for it in facts]
+        if name != "rw":
+            return f"({name}- ({' & '.join([*texts, 'no-facts'])}))"
+        rest = self.term(given[1], module, local)
+        for text in reversed(texts):
+            rest = f"(by- (rw- {text}) {rest})"
+        return rest
+
+    def binding(self, term: Term, module: str, local: Local) -> str:
+        """A term that gives names."""
+        match term:
+            case ForAll(binder, body):
+                inner = self.term(body, module, local | {*binder.names})
+                return f"({self.binder(binder, module, local)} → {inner})"
+            case Both(parts):
+                return self.product([(it.name, it.type) for it in parts], module, local)
+            case Function():
+                return self.function(term, module, local)
+            case Let(Name(text), type_, value, body):
+                name, known, inner = variable(text), self.term(value, module, local), self.term(body, module, local | {text})
+                if type_ is None:
+                    return f"(let {name} = {known} in {inner})"
+                said = self.term(type_, module, local)
+                if self.is_statement(type_, module):
+                    return f"(of- {{A = {said}}} {known} (λ {name} → {inner}))"
+                return f"(let {name} : {said} ; {name} = {known} in {inner})"
+            case Match(other, cases):
+                pairs = [self.case([it.pattern], it.body, module, local) for it in cases]
+                by = f"(λ {{ {' ; '.join(pairs)} }})" if cases else "(λ ())"
+                return by if other is None else f"(of- {self.term(other, module, local)} {by})"
         raise NotWritten(f"a {type(term).__name__}")
 
-    def binder(self, binder: Binder, module: str, local: frozenset[str]) -> str:
-        type_ = self.term(binder.type, module, local)
-        if not binder.names:
-            return type_
-        said = f"{' '.join(map(variable, binder.names))} : {type_}"
-        return f"{{{said}}}" if binder.implicit else f"({said})"
+    def case(self, patterns: Sequence[Term], body: Term, module: str, local: Local) -> str:
+        own: set[str] = set()
+        found = [self.pattern(it, module, own) for it in patterns]
+        return f"{' '.join(found)} → {self.term(body, module, local | own)}"
 
-    def product(self, parts: Sequence[tuple[str | None, Term]], module: str, local: frozenset[str]) -> str:
+    def binder(self, binder: Binder, module: str, local: Local) -> str:
+        type_ = self.term(binder.type, module, local)
+        said = f"{' '.join(map(variable, binder.names))} : {type_}"
+        return type_ if not binder.names else f"{{{said}}}" if binder.implicit else f"({said})"
+
+    def product(self, parts: Sequence[tuple[str | None, Term]], module: str, local: Local) -> str:
         """A product of two to four parts; of more, the last are nested."""
         found, names = [], list[str]()
         for at, (name, type_) in enumerate(parts[:4]):
@@ -304,139 +251,217 @@ class Writer:
             local = local | {name} if name else local
         return f"(Sig{len(found)} {' '.join(found)})"
 
+    def function(self, term: Function, module: str, local: Local) -> str:
+        if not all(isinstance(it.pattern, (Name, Unknown)) for it in term.parameters):
+            return f"(λ {{ {self.case([it.pattern for it in term.parameters], term.body, module, local)} }})"
+        words, inner = list[str](), local
+        for it in term.parameters:
+            name = it.pattern.text if isinstance(it.pattern, Name) else "_"
+            type_ = None if it.type is None else self.term(it.type, module, inner)
+            words.append(variable(name) if type_ is None else f"({variable(name)} : {type_})")
+            inner = inner | {name}
+        return f"(λ {' '.join(words)} → {self.term(term.body, module, inner)})"
+
+    def is_statement(self, type_: Term, module: str) -> bool:
+        """Whether a type is a statement, so that what is of it is a fact."""
+        match type_:
+            case Operation(word, _, _):
+                return word in STATEMENTS
+            case ForAll(_, body):
+                return self.is_statement(body, module)
+            case Both(parts):
+                return all(self.is_statement(it.type, module) for it in parts)
+        meaning = self.meaning_of(head_of(type_), module)
+        if isinstance(meaning, Typed):
+            return meaning.item.is_record and bool(meaning.item.binders)
+        return isinstance(meaning, Defined) and isinstance(result_of(meaning.item.type), Universe)
+
     # ---- patterns
 
     def pattern(self, term: Term, module: str, local: set[str]) -> str:
-        if isinstance(term, Unknown):
-            return "_"
-        if isinstance(term, Implicit):
-            return f"{{{mangled(term.name or '')} = {self.pattern(term.term, module, local)}}}"
-        if isinstance(term, Apply):
-            parts = [self.pattern(it, module, local) for it in term.given]
-            return f"({' '.join([self.term(term.function, module, frozenset()), *parts])})"
-        if isinstance(term, Operation):
-            return f"({self.pattern(term.left, module, local)} {term.word} {self.pattern(term.right, module, local)})"
-        if isinstance(term, Tuple):
-            return f"(t{len(term.items)} {' '.join(self.pattern(it, module, local) for it in term.items)})"
-        if isinstance(term, Field):
-            return self.term(term, module, frozenset())
-        if isinstance(term, Name):
-            if self.is_form(term.text, module):
-                return self.term(term, module, frozenset())
-            local.add(term.text)
-            return variable(term.text)
+        def of(it: Term) -> str:
+            return self.pattern(it, module, local)
+
+        match term:
+            case Written() | Field():
+                return self.term(term, module, NO_NAMES)
+            case Name(text) if not self.is_form(text, module):
+                local.add(text)
+                return variable(text)
+            case Name() | Number() | Unknown():
+                return self.term(term, module, NO_NAMES)
+            case Implicit(name, inner):
+                return f"{{{mangled(name or '')} = {of(inner)}}}"
+            case Apply(function, _):
+                return f"({' '.join([self.term(function, module, NO_NAMES), *map(of, term.given)])})"
+            case Operation(word, left, right):
+                return f"({of(left)} {word} {of(right)})"
+            case Tuple(items):
+                return f"(t{len(items)} {' '.join(map(of, items))})"
         raise NotWritten("a pattern of another kind")
 
     def is_form(self, name: str, module: str) -> bool:
         here = self.library.module(module)
-        if name in here.forms or name in ("true", "false", "[]", "None", "zero"):
+        if name == "tt" or name in here.forms or name in here.names and here.names[name][1] in TYPE_OF:
             return True
+        if name in TYPE_OF:
+            return module == WORDS
         return name in here.names and isinstance(self.library.meaning(module, name), Form)
+
+    def forms_of(self, term: Term, module: str) -> Forms | None:
+        """The forms of the type of which a term in a pattern has one."""
+        if isinstance(term, Written):
+            return term.forms
+        if isinstance(term, Name) and term.text in TYPE_OF and (term.text == "∷" or self.is_form(term.text, module)):
+            return Forms(TYPE_OF[term.text], BUILT_IN_FORMS[TYPE_OF[term.text]], term.text)
+        meaning = self.meaning_of(term, module)
+        if not isinstance(meaning, Form):
+            return None
+        own, owner = self.form(meaning), (meaning.module, meaning.type)
+        if owner in self.owners:
+            structure = self.library.module(owner[0]).own[owner[1]]
+            assert isinstance(structure, Structure)
+            all_ = [(f"{self.name_of(*owner)}.{mangled(it.name)}", arity(it.type)) for it in structure.members]
+        else:
+            lines = [line.strip().partition(" : ") for line in self.rust.written[meaning.type][1:]]
+            all_ = [(f"{meaning.type}°.{form}", type_.count("→")) for form, _, type_ in lines]
+        return Forms(own.rsplit(".", 1)[0], tuple(all_), own)
 
     # ---- definitions
 
-    def written(self, meaning: Defined | Typed) -> Iterator[str]:
-        """The lines of a definition."""
-        if isinstance(meaning, Typed):
-            yield from self.structure(meaning)
-            return
-        it, module = meaning.definition, meaning.module
-        name = self.name_of(module, it.name)
-        yield f"{name} : {self.term(it.type, module, frozenset())}"
-        yield from (self.clause(name, clause, module) for clause in it.clauses)
-
-    def clause(self, name: str, clause: Clause, module: str) -> str:
-        local: set[str] = set()
-        patterns = [self.pattern(it, module, local) for it in clause.patterns]
-        return f"{' '.join([name, *patterns])} = {self.term(clause.value, module, frozenset(local))}"
+    def written(self, meaning: Defined | Typed) -> list[str]:
+        """The lines of a definition, after those of the types of Rust that it is the first to name."""
+        before = {*self.rust.written}
+        if isinstance(meaning, Defined):
+            lines = [*self.definition(meaning.item, meaning.module, self.parameters)]
+        else:
+            lines = [*self.structure(meaning)]
+        return [line for it, own in self.rust.written.items() if it not in before for line in (*own, "")] + [*lines, ""]
 
     def structure(self, meaning: Typed) -> Iterator[str]:
-        it, module = meaning.structure, meaning.module
+        it, module = meaning.item, meaning.module
         name = self.name_of(module, it.name)
         local = frozenset(name for binder in it.binders for name in binder.names)
         binders = " ".join(self.binder(binder, module, local) for binder in it.binders)
-        if not it.is_record:
-            yield f"data {name} {binders} : {self.term(it.type, module, local)} where"
-            yield from (f"  {mangled(member.name)} : {self.term(member.type, module, local)}" for member in it.members)
+        if it.is_record:
+            yield from self.record(it, name, binders, module, local)
             return
-        yield from self.record(it, name, binders, module, local)
+        yield f"data {name} {binders} : {self.term(it.type, module, local)} where"
+        yield from (f"  {mangled(member.name)} : {self.term(member.type, module, local)}" for member in it.members)
+        if not binders:
+            yield from self.selection(it, name, module)
 
-    def record(self, it: Structure, name: str, binders: str, module: str, local: frozenset[str]) -> Iterator[str]:
+    def record(self, it: Structure, name: str, binders: str, module: str, local: Local) -> Iterator[str]:
         """A record. A field whose type takes the same field of another record is said in a definition before it."""
         before, lines = list[str](), [f"record {name} {binders} : Set where", "  field"]
-        names = [it for binder in it.binders for it in binder.names]
+        given = [(mangled(own), binder.implicit) for binder in it.binders for own in binder.names]
         types: dict[str, str] = {}
-        for member in it.members:
-            text = self.term(member.type, module, local | {*types})
+        for at, member in enumerate(it.members):
+            own = mangled(member.name)
+            text = self.term(member.type, module, local | {other.name for other in it.members[:at]})
             for other in types:
-                text = re.sub(
-                    rf"(?<![\w#.-]){re.escape(mangled(other))}(?![\w-])(?!\s*[:=])", f"#{mangled(other)}", text
-                )
-            if any(f".#{mangled(other)})" in text for other in types):
-                used = [
-                    other for other in types if re.search(rf"(?<![.\w-])#{re.escape(mangled(other))}(?![\w-])", text)
-                ]
+                text = re.sub(rf"(?<![\w#.-]){re.escape(other)}(?![\w-])(?!\s*[:=])", f"#{other}", text)
+            if any(f".#{other})" in text for other in types):
+                used = [other for other in types if re.search(rf"(?<![.\w-])#{re.escape(other)}(?![\w-])", text)]
+                takes = " ".join([binders, *(f"(v-{other} : {types[other]})" for other in used)])
+                shown = [f"{{{one} = {one}}}" if is_implicit else one for one, is_implicit in given]
                 said = re.sub(r"(?<![.\w-])#([\w-]+)", r"v-\1", text)
-                takes = " ".join([binders, *(f"(v-{mangled(other)} : {types[other]})" for other in used)])
-                aux = f"{name}-{mangled(member.name)}-type"
-                shown = " ".join(
-                    f"{{{mangled(n)} = {mangled(n)}}}" if b.implicit else mangled(n)
-                    for b in it.binders
-                    for n in b.names
-                )
-                before += [f"{aux} : {takes} → Set" if takes.strip() else f"{aux} : Set"]
-                before += [" ".join([aux, shown, *(f"v-{mangled(other)}" for other in used)]) + f" = {said}"]
-                text = " ".join(
-                    [
-                        aux,
-                        *(mangled(n) for n in names if not any(n in b.names and b.implicit for b in it.binders)),
-                        *(f"#{mangled(other)}" for other in used),
-                    ]
-                )
-            types[member.name] = text
-            lines.append(f"    #{mangled(member.name)} : {text}")
+                before += [f"{name}-{own}-type : {takes} → Set" if takes.strip() else f"{name}-{own}-type : Set"]
+                before += [f"{' '.join([f'{name}-{own}-type', *shown, *(f'v-{other}' for other in used)])} = {said}"]
+                explicit = [one for one, is_implicit in given if not is_implicit]
+                text = " ".join([f"{name}-{own}-type", *explicit, *(f"#{other}" for other in used)])
+            types[own] = text
+            lines.append(f"    #{own} : {text}")
         yield from [*before, *lines, f"open {name} public"]
 
+    def selection(self, it: Structure, name: str, module: str) -> Iterator[str]:
+        """What selects by the form of a value: where it waits for that, two of them are one if what they give is."""
+        parts = [[self.term(part, module, NO_NAMES) for part in taken_types(member.type)] for member in it.members]
+        types = [f"({' → '.join([*one, 'X'])})" for one in parts]
+        yield f"case-{name} : {{X : Set₁}} → {' → '.join([*types, name, 'X'])}"
+        cases = [f"b{at}" for at in range(len(parts))]
+        for own, member, one in zip(cases, it.members, parts):
+            taken = [f"x{at}" for at in range(len(one))]
+            pattern = f"({' '.join([f'{name}.{mangled(member.name)}', *taken])})"
+            yield f"case-{name} {' '.join([*cases, pattern])} = {' '.join([own, *taken])}"
 
-@dataclass(frozen=True)
-class Written:
-    """A module of Agda, and how many definitions and types of Rust it has."""
+    def definition(self, item: Definition, module: str, local: Local) -> Iterator[str]:
+        name = variable(item.name) if item.name in local else self.name_of(module, item.name)
+        levels = f"{{{' '.join(item.levels)} : Level}} → " if item.levels else ""
+        yield f"{name} : {levels}{self.term(item.type, module, local)}"
+        is_split = ".proofs." in module and len(item.clauses) > 1
+        at = self.selected(item, module) if is_split else None
+        if at is not None:
+            yield f"{name} {self.by_form(item, at, module, local)}"
+            return
+        splitter = Splitter(lambda term: self.forms_of(term, module), self.new_name)
+        for clause in item.clauses:
+            for it in splitter.ways(clause) if is_split else [clause]:
+                yield from self.clause(name, it, module, local)
 
-    text: str
-    definitions: int
-    types: int
+    def new_name(self) -> str:
+        self.fresh += 1
+        return f"v{self.fresh}"
+
+    def clause(self, name: str, clause: Clause, module: str, local: Local) -> Iterator[str]:
+        own: set[str] = set()
+        head = " ".join([name, *(self.pattern(it, module, own) for it in clause.patterns)])
+        inner = local | own | {it.name for it in clause.where}
+        value = self.term(clause.value, module, inner)
+        if isinstance(clause.value, (Record, Changed)):
+            value = f"(itself {value})"  # else Agda would take the record apart, and compute only its fields
+        yield f"{head} = {value}{' where' if clause.where else ''}"
+        for it in clause.where:
+            yield from (f"  {line}" for line in self.definition(it, module, inner))
+
+    def selected(self, item: Definition, module: str) -> int | None:
+        """The place of the one argument by whose form a statement's clauses differ, where it is written by what selects one."""
+        given = [it.given for it in item.clauses]
+        is_plain = item.is_abbreviation and not any(it.where or len(it.given) < len(it.patterns) for it in item.clauses)
+        if not is_plain or f"'{item.name}'" in repr([it.value for it in item.clauses]):
+            return None
+        places = {at for one in given for at, it in enumerate(one) if self.is_of_form(it, module)}
+        if not isinstance(result_of(item.type), Universe) or len(places) != 1:
+            return None
+        (at,) = places
+        first = self.forms_of(head_of(given[0][at]), module)
+        if first is None or first.type in BUILT_IN_FORMS or first.type.endswith("°"):
+            return None
+        is_flat = not any(self.is_of_form(part, module) for one in given for part in parts_of(one[at]))
+        return at if is_flat and {self.own_form(one[at], module) for one in given} == {it for it, _ in first.all} else None
+
+    def is_of_form(self, pattern: Term, module: str) -> bool:
+        return not isinstance(pattern, (Name, Unknown)) or self.forms_of(pattern, module) is not None
+
+    def own_form(self, pattern: Term, module: str) -> str:
+        found = self.forms_of(head_of(pattern), module)
+        return found.own if found else ""
+
+    def by_form(self, item: Definition, at: int, module: str, local: Local) -> str:
+        """A statement by the form of the argument at a place: a function of its parts for each."""
+        clauses = {self.own_form(it.given[at], module): it for it in item.clauses}
+        forms = self.forms_of(head_of(item.clauses[0].given[at]), module)
+        assert forms
+        names = [f"a{it}" for it in range(len(item.clauses[0].given))]
+        branches = []
+        for it in (clauses[form] for form, _ in forms.all):
+            parts = [part.text if isinstance(part, Name) else "_" for part in parts_of(it.given[at])]
+            others = [(one.text, new) for one, new in zip(it.given, names) if isinstance(one, Name) and new != names[at]]
+            shown = "".join(f"let {variable(name)} = {new} in " for name, new in others)
+            taken = f"λ {' '.join(map(variable, parts))} → " if parts else ""
+            branches.append(f"({taken}{shown}{self.term(it.value, module, local | {*parts} | {name for name, _ in others})})")
+        return f"{' '.join(names)} = case-{forms.type} {' '.join(branches)} {names[at]}"
 
 
-def written(judge: Judge, clauses: Sequence[str], name: str) -> Written:
-    """The definitions to which the clauses of some files lead, as a module of Agda."""
-    reach = Reach(judge.library)
-    for file in clauses:
-        for _, term, module in judge.clauses(file):
-            reach.follow_term(term, module)
-    writer = Writer(judge.library)
-    writer.owners = [
-        key for key, it in reach.definitions.items() if isinstance(it, Typed) and not it.structure.is_record
-    ]
-    lines = [line for it in reach.definitions.values() for line in write_with_types(writer, it)]
-    head = ["{-# OPTIONS --safe #-}", f"module {name} where", "", "open import Base", ""]
-    if opaque := " ".join(f"({it}° : Set)" for it in writer.rust.opaque):
-        lines = [f"module _ {opaque} where", *(f"  {it}" if it else it for it in lines)]
-    own = sum(1 for module, _ in reach.definitions if module != WORDS)
-    return Written("\n".join([*head, *lines]), own, len(writer.rust.written))
-
-
-def write_with_types(writer: Writer, meaning: Defined | Typed) -> list[str]:
-    """The lines of a definition, after those of the types of Rust that it is the first to name."""
-    before = set(writer.rust.written)
-    lines = [*writer.written(meaning)]
-    new = [it for it in writer.rust.written if it not in before]
-    return [line for it in new for line in (*writer.rust.written[it], "")] + [*lines, ""]
-
-
-def said_of(module: Written, name: str) -> str:
-    """What Agda says is wrong with a module; nothing where it finds nothing."""
-    with tempfile.TemporaryDirectory() as room:
-        shutil.copy(BASE, room)
-        Path(f"{room}/{name}.agda").write_text(module.text, encoding="utf-8")
-        ran = subprocess.run(["agda", f"{name}.agda"], cwd=room, capture_output=True, text=True, check=False)
-    return "" if ran.returncode == 0 else ran.stdout + ran.stderr
+def goal_of(library: Library, module: str, name: str) -> tuple[Term, str]:
+    """What a clause says of which a goal has the name, and the module in which its names are."""
+    _, crate, _, *path, function, _ = module.split(".")
+    file = f"{crate}/src/{'/'.join(path)}.rt"
+    text, rows = text_of(f"{ROOT}/crates/{file}"), f"rows of {file}"
+    if rows not in library.modules:
+        library.modules[rows] = Module(rows, uses_of(text))
+    wanted = name.removeprefix("returns-clause-") if "-clause-" in name else ""
+    for it in clauses_of(text):
+        if (it.function, it.name) == (function, wanted):
+            return term_of(it.text, it.line), rows
+    raise NotWritten(f"the goal {name} of {module}")

@@ -34,13 +34,8 @@ PARTS = {
 }
 UNLESS_MALFORMED = ("partners", "streams", "grants", "closes")  # an audit doesn't judge these of a malformed log
 # of a log with strangers *toward* is of lives with them only, and what the promise says there is of all lives
-TOWARD = ("streams", "grants", "toward")
-TOWARD_PARTS = (
-    "toward.owner",
-    "toward.taken",
-    "toward.handed",
-    *(f"among.{it}" for it in (*PARTS["streams"], *PARTS["grants"])),
-)
+TOWARD = {"streams", "grants", "toward"}
+TOWARD_PARTS = ("toward.owner", "toward.taken", "toward.handed", *PARTS["streams"], *PARTS["grants"])
 
 
 def logs(count: int) -> Iterator[tuple[str, bytes]]:
@@ -96,38 +91,22 @@ def audited(octets: bytes, option: str = "--audit") -> bytes:
 def compared(log: tuple[str, bytes]) -> tuple[Counter[str], list[str]]:
     """How often parts agree, by what they are, and where they don't."""
     name, octets = log
-    book = read_log(octets)
-    said = audited(octets).decode()
+    book, said = read_log(octets), audited(octets).decode()
     broken = {line.split()[1] for line in said.splitlines() if line.startswith("broken")}
-    judged = {it.part.name: it.holds for it in deeply(lambda: [*JUDGE.judged(book)])}
-    first = "among." if book.strangers else ""
-    seen: Counter[str] = Counter(
-        {"logs": 1, "logs with strangers": bool(book.strangers), "logs that are kept": said == "kept\n"}
-    )
-    wrong = []
-
-    def compare(part: str, is_broken: bool, names: tuple[str, ...]) -> None:
-        fails = [it for it, holds in judged.items() if holds is False and it.startswith(names)]
-        seen[f"{part}: {'broken' if is_broken else 'kept'} by both"] += is_broken == bool(fails)
-        if is_broken != bool(fails):
-            wrong.append(
-                f"{name}: the audit says {said.split(chr(10))}, and by the definitions {fails} of {part} are broken"
-            )
-
-    for part, names in PARTS.items():
-        # a life whose requests haven't crossed has no fate by the promise; of such a one the audit names *lives* only
-        is_asked = "lives" not in broken if part == "fates" else part not in UNLESS_MALFORMED or "malformed" not in said
-        if is_asked:
-            compare(
-                part,
-                part in broken,
-                tuple(
-                    f"{first or 'promise.'}{it}" if f"promise.{it}" in judged or first or it.startswith("safe") else it
-                    for it in names
-                ),
-            )
+    judged = deeply(lambda: [it.part.name for it in JUDGE.judged(book) if it.holds is False])
+    fails = [it.removeprefix("promise.").removeprefix("among.") for it in judged]
+    # a life whose requests haven't crossed has no fate by the promise; of such a one the audit names *lives* only
+    left_out = {*(["fates"] if "lives" in broken else []), *(UNLESS_MALFORMED if "malformed" in said else [])}
+    asked = [(part, part in broken, names) for part, names in PARTS.items() if part not in left_out]
     if book.strangers and "malformed" not in said:
-        compare("toward, or streams or grants", bool(broken & {*TOWARD}), TOWARD_PARTS)
+        asked.append(("toward, or streams or grants", bool(broken & TOWARD), TOWARD_PARTS))
+    seen: Counter[str] = Counter({"logs": 1, "logs with strangers": bool(book.strangers), "logs that are kept": said == "kept\n"})
+    wrong = []
+    for part, is_broken, names in asked:
+        found = [it for it in fails if it.startswith(names)]
+        seen[f"{part}: {'broken' if is_broken else 'kept'} by both"] += is_broken == bool(found)
+        if is_broken != bool(found):
+            wrong.append(f"{name}: the audit says {said.split(chr(10))}, and by the definitions {found} of {part} are broken")
     return seen, wrong
 
 

@@ -1,4 +1,4 @@
-"""Has Agda check the laws of some crates: each lemma of their proofs, from the same text."""
+"""Has Agda check the definitions of the promise, and the laws of some crates: each lemma of their proofs."""
 
 from __future__ import annotations
 
@@ -6,20 +6,19 @@ import resource
 import shutil
 import subprocess
 import tempfile
-from collections.abc import Iterator, Sequence
-from dataclasses import dataclass, field
+from collections.abc import Iterable, Iterator, Sequence
+from dataclasses import dataclass
 from functools import partial
 from pathlib import Path
 
 from dorydate.definitions.files import Definition, Group, Item, Structure, Use
 from dorydate.definitions.library import WORDS, Defined, Library, Typed
-from dorydate.definitions.promise import WORDS_FILE, deeply
+from dorydate.definitions.promise import WORDS_FILE, Judge, deeply
 from dorydate.definitions.reach import Reach, terms_of
 from dorydate.definitions.terms import Field, Name, inside
 from workshop.parts import ROOT
-from workshop.second.agda import BASE, write_with_types
-from workshop.second.proofs import BY_HAND as LEMMAS
-from workshop.second.proofs import ProofWriter, goal_of
+from workshop.second.agda import BY_HAND as LEMMAS
+from workshop.second.agda import Writer, goal_of
 from workshop.second.rows import sources
 from workshop.tools import lacking
 
@@ -27,68 +26,134 @@ CRATES = ("stream_law", "reset_law", "pairing_law")
 BY_HAND = ("Base", "Lemmas", "Linear", "Tactics")
 HERE = Path(__file__).parent
 HEAD = "{-# OPTIONS --safe #-}"
-TACTICS = "open import Tactics using (rw-; cc-; omega-; search-; eq-or-lt-; no-facts; _&_)"
+TACTICS = "Tactics using (rw-; cc-; omega-; search-; eq-or-lt-; no-facts; _&_)"
 
 
 @dataclass
-class Laws:
-    """What is written of a crate: modules of Agda by their names, each after those that it needs, and how many lemmas."""
+class Modules:
+    """Modules of Agda by their names, each after those that it needs, and how many definitions, types of Rust, lemmas and
+    answers they have."""
 
-    crate: str
-    modules: dict[str, str] = field(default_factory=dict)
+    texts: dict[str, str]
     definitions: int = 0
+    types: int = 0
     lemmas: int = 0
     answers: int = 0
 
+    def add(self, name: str, lines: Iterable[str], imports: Iterable[str]) -> None:
+        opened = [f"open import {it}" for it in imports]
+        self.texts[name] = "\n".join([HEAD, f"module {name} where", "", *opened, "", *lines])
+
+
+def of_page(judge: Judge, clauses: Sequence[str]) -> Modules:
+    """The definitions to which the clauses of some files lead, as one module."""
+    reach = Reach(judge.library)
+    for file in clauses:
+        for _, term, module in judge.clauses(file):
+            reach.follow_term(term, module)
+    writer = Writer(judge.library)
+    writer.owners = [*owners(reach, [])]
+    lines = [line for it in reach.definitions.values() for line in writer.written(it)]
+    if opaque := " ".join(f"({it}° : Set)" for it in writer.rust.opaque):
+        lines = [f"module _ {opaque} where", *(f"  {it}" if it else it for it in lines)]
+    own = sum(1 for module, _ in reach.definitions if module != WORDS)
+    found = Modules({}, own, len(writer.rust.written))
+    found.add("Promise", lines, ["Base"])
+    return found
+
+
+def of_laws(library: Library, crate: str) -> Modules:
+    """A crate's laws: the words, the definitions, and each file of its proofs with all of its lemmas."""
+    files = in_order(library, files_of(crate))
+    reach = reached(library, files)
+    writer = Writer(library)
+    writer.owners = [*owners(reach, files)]
+    laws = words(library)
+    specs = [line for it in below(reach, files) for line in writer.written(it)]
+    laws.definitions = sum(1 for _ in below(reach, files))
+    assert not writer.rust.opaque, writer.rust.opaque
+    opened = [public(it) for it in ("Base", "Words", "Lemmas", "Linear using (share-le)")]
+    laws.add("Specs", specs, [*opened, TACTICS])
+    before = ["Specs public"]
+    for name in files:
+        here = library.module(name)
+        many = sum(1 for it in here.own.values() if isinstance(it, Definition))
+        is_answer = any(it.endswith(".Goals") for it in here.aliases.values())
+        laws.answers += many if is_answer else 0
+        laws.lemmas += 0 if is_answer else many
+        laws.add(module_name(name), [*items(writer, here.items, name)], [*before, TACTICS])
+        before.append(module_name(name))
+    return laws
+
+
+def words(library: Library) -> Modules:
+    """The words of the library, as a module."""
+    writer = Writer(library)
+    here = library.module(WORDS)
+    writer.owners = [(WORDS, name) for name, it in here.own.items() if isinstance(it, Structure)]
+    found = Modules({})
+    found.add("Words", [*items(writer, here.items, WORDS)], ["Base"])
+    return found
+
 
 def files_of(crate: str) -> list[str]:
-    """The modules of a crate's proofs, each after those that it uses."""
+    """The modules of a crate's proofs."""
     root = Path(f"{ROOT}/crates/{crate}/proofs")
     found = [str(it.relative_to(root).with_suffix("")).replace("/", ".") for it in sorted(root.rglob("*.antt"))]
     return [f"Rattle.{crate}.proofs.{it}" for it in found if it not in ("Lib", "lemmas")]
 
 
 def in_order(library: Library, modules: Sequence[str]) -> list[str]:
+    """Modules, each after those that it uses."""
     found: list[str] = []
 
     def take(name: str) -> None:
-        if name in found or name not in modules:
-            return
-        for it in library.module(name).items:
-            if isinstance(it, Use):
-                take(it.module)
-        found.append(name)
+        if name not in found and name in modules:
+            for it in library.module(name).items:
+                if isinstance(it, Use):
+                    take(it.module)
+            found.append(name)
 
     for it in modules:
         take(it)
     return found
 
 
-def goals_in(term: object, goals: str) -> Iterator[str]:
-    """The goals that terms name."""
-    return (it.name for it in inside(term) if isinstance(it, Field) and it.of == Name(goals))
-
-
 def reached(library: Library, modules: Sequence[str]) -> Reach:
-    """All to which the lemmas of some files lead."""
+    """All to which the lemmas of some files lead, and the goals that they name."""
     reach = Reach(library)
     for name in modules:
         here = library.module(name)
-        for item in here.own.values():
-            reach.follow_term(terms_of(item), name)
-        for binders in here.groups.values():
-            reach.follow_term(binders, name)
-        for alias, module in here.aliases.items():
-            if module.endswith(".Goals"):
-                for goal in goals_in(tuple(terms_of(it) for it in here.own.values()), alias):
-                    reach.follow_term(*goal_of(library, module, goal))
+        terms = [terms_of(it) for it in here.own.values()]
+        reach.follow_term((*terms, *here.groups.values()), name)
+        goals = {alias: module for alias, module in here.aliases.items() if module.endswith(".Goals")}
+        for it in inside(terms):
+            if isinstance(it, Field) and isinstance(it.of, Name) and it.of.text in goals:
+                reach.follow_term(*goal_of(library, goals[it.of.text], it.name))
     return reach
+
+
+def below(reach: Reach, files: Sequence[str]) -> Iterator[Defined | Typed]:
+    """What isn't of these files and the words, file by file, in its order."""
+    for module in in_order(reach.library, [it for it in reach.modules if it not in files]):
+        for name in reach.library.module(module).own:
+            if (module, name) in reach.definitions and (module, name) not in LEMMAS:
+                yield reach.definitions[module, name]
+
+
+def owners(reach: Reach, files: Sequence[str]) -> Iterator[tuple[str, str]]:
+    """The data that occur."""
+    yield from (key for key, it in reach.definitions.items() if isinstance(it, Typed) and not it.item.is_record)
+    for name in files:
+        for own in reach.library.module(name).own.values():
+            if isinstance(own, Structure) and not own.is_record and (name, own.name) not in reach.definitions:
+                yield name, own.name
 
 
 def public(module: str) -> str:
     """An import that is passed on: of a module, or of some names of it."""
     name, using, names = module.partition(" using ")
-    return f"open import {name} public{using}{names}"
+    return f"{name} public{using}{names}"
 
 
 def module_name(module: str) -> str:
@@ -96,56 +161,7 @@ def module_name(module: str) -> str:
     return "-".join([parts[1], *parts[3:]]).replace("_", "-")
 
 
-def written(library: Library, crate: str) -> Laws:
-    """A crate's laws as modules of Agda."""
-    files = in_order(library, files_of(crate))
-    reach = reached(library, files)
-    writer = ProofWriter(library)
-    writer.owners = [*owners(library, reach, files)]
-    laws = Laws(crate, {"Words": words(library)})
-    opened = ("Base", "Words", "Lemmas", "Linear using (share-le)")
-    lines = [HEAD, "module Specs where", "", *(public(it) for it in opened), TACTICS, ""]
-    for it in below(library, reach, files):
-        lines += write_with_types(writer, it)
-        laws.definitions += 1
-    assert not writer.rust.opaque, writer.rust.opaque
-    laws.modules["Specs"] = "\n".join(lines)
-    before = ["Specs"]
-    for name in files:
-        imports = [f"open import {it}{' public' if it == 'Specs' else ''}" for it in before]
-        here = library.module(name)
-        body = list(items(writer, here.items, name))
-        is_answer = any(it.endswith(".Goals") for it in here.aliases.values())
-        many = sum(1 for it in here.own.values() if isinstance(it, Definition))
-        laws.answers += many if is_answer else 0
-        laws.lemmas += 0 if is_answer else many
-        head = [HEAD, f"module {module_name(name)} where", "", *imports, TACTICS, ""]
-        laws.modules[module_name(name)] = "\n".join([*head, *body])
-        before.append(module_name(name))
-    return laws
-
-
-def below(library: Library, reach: Reach, files: Sequence[str]) -> Iterator[Defined | Typed]:
-    """What isn't of these files and the words, file by file, in its order."""
-    modules = [it for it in reach.modules if it not in files]
-    for module in in_order(library, modules):
-        for name in library.module(module).own:
-            if (module, name) in reach.definitions and (module, name) not in LEMMAS:
-                yield reach.definitions[module, name]
-
-
-def owners(library: Library, reach: Reach, files: Sequence[str]) -> Iterator[tuple[str, str]]:
-    """The data that occur."""
-    for key, it in reach.definitions.items():
-        if isinstance(it, Typed) and not it.structure.is_record:
-            yield key
-    for name in files:
-        for own in library.module(name).own.values():
-            if isinstance(own, Structure) and not own.is_record and (name, own.name) not in reach.definitions:
-                yield name, own.name
-
-
-def items(writer: ProofWriter, found: Sequence[Item], module: str) -> Iterator[str]:
+def items(writer: Writer, found: Sequence[Item], module: str) -> Iterator[str]:
     """The lines of a file's items, in its order."""
     for it in found:
         if isinstance(it, Group):
@@ -156,38 +172,25 @@ def items(writer: ProofWriter, found: Sequence[Item], module: str) -> Iterator[s
             yield f"module _ {' '.join(binders)} where" if binders else "mutual"
             yield from (f"  {line}" for line in items(writer, it.items, module))
             writer.parameters = before
-        elif isinstance(it, Definition):
-            yield from write_with_types(writer, Defined(module, it))
-        elif isinstance(it, Structure):
-            yield from write_with_types(writer, Typed(module, it))
-
-
-def words(library: Library) -> str:
-    """The words of the library, as a module."""
-    writer = ProofWriter(library)
-    own = library.module(WORDS).own
-    writer.owners = [(WORDS, name) for name, it in own.items() if isinstance(it, Structure)]
-    lines = [HEAD, "module Words where", "", "open import Base", ""]
-    for it in own.values():
-        lines += [*writer.written(Defined(WORDS, it) if isinstance(it, Definition) else Typed(WORDS, it)), ""]
-    return "\n".join(lines)
+        elif not isinstance(it, Use):
+            yield from writer.written(Defined(module, it) if isinstance(it, Definition) else Typed(module, it))
 
 
 @dataclass(frozen=True)
 class Checked:
-    """What Agda said of a crate's laws: nothing where it finds nothing; and in how many seconds of the processor."""
+    """What Agda said of some modules: nothing where it finds nothing; and in how many seconds of the processor."""
 
     said: str
     seconds: float
 
 
-def checked(laws: Laws) -> Checked:
-    """Has Agda check a crate's laws."""
+def checked(modules: Modules) -> Checked:
+    """Has Agda check some modules."""
     with tempfile.TemporaryDirectory() as room:
         for it in BY_HAND:
             shutil.copy(file_of(it), room)
-        imports = [f"import {it}" for it in laws.modules]
-        for name, text in {**laws.modules, "All": "\n".join([HEAD, "module All where", *imports])}.items():
+        imports = [f"import {it}" for it in modules.texts]
+        for name, text in {**modules.texts, "All": "\n".join([HEAD, "module All where", *imports])}.items():
             Path(f"{room}/{name}.agda").write_text(text, encoding="utf-8")
         before = resource.getrusage(resource.RUSAGE_CHILDREN)
         ran = subprocess.run(["agda", "All.agda"], cwd=room, capture_output=True, text=True, check=False)
@@ -198,13 +201,7 @@ def checked(laws: Laws) -> Checked:
 
 def file_of(module: str) -> Path:
     """A module that is written by hand."""
-    return BASE if module == "Base" else HERE / "laws" / f"{module}.agda"
-
-
-def by_hand() -> list[str]:
-    """What is written by hand: its files, with their lines."""
-    files = [*map(file_of, BY_HAND), WORDS_FILE]
-    return [f"{it.name} {len(it.read_text(encoding='utf-8').splitlines())} lines" for it in files]
+    return HERE / f"{module}.agda" if module == "Base" else HERE / "laws" / f"{module}.agda"
 
 
 def faults() -> list[str]:
@@ -214,11 +211,12 @@ def faults() -> list[str]:
         return []
     wrong = []
     for crate in CRATES:
-        laws = deeply(partial(written, Library(sources()), crate))
+        laws = deeply(partial(of_laws, Library(sources()), crate))
         found = checked(laws)
         what = f"{laws.lemmas} lemmas and {laws.answers} answers, over {laws.definitions} definitions"
         said = "refused" if found.said else "each is checked"
         print(f"check second: Agda: {crate}: {what}: {said} ({found.seconds:.0f} s of the processor)", flush=True)
         wrong += [f"{crate}: {found.said[-2000:]}"] if found.said else []
-    print(f"check second: by hand: {', '.join(by_hand())}", flush=True)
+    lines = [f"{it.name} {it.read_text(encoding='utf-8').count(chr(10))} lines" for it in [*map(file_of, BY_HAND), WORDS_FILE]]
+    print(f"check second: by hand: {', '.join(lines)}", flush=True)
     return wrong

@@ -7,45 +7,40 @@ import time
 from collections import Counter
 from collections.abc import Collection, Iterable, Iterator
 from dataclasses import dataclass, replace
-from typing import Union
+from typing import Any
 
-from dorydate.definitions.deciding import Decider
+from dorydate.definitions.compiling import Decider
 from dorydate.definitions.files import Definition, Structure
 from dorydate.definitions.library import WORDS, Defined, Library, Typed
 from dorydate.definitions.promise import BOOK, Judge
 from dorydate.definitions.reach import Reach, meanings_in, terms_of
 from dorydate.definitions.terms import (  # fmt: skip
-    Both, Case, Field, ForAll, Function, If, Implicit, Let, Name, Number, Operation, Term, inside,
+    Both, Case, Field, ForAll, Function, If, Implicit, Let, Name, Number, Operation, inside,
 )
 from workshop.second.agda import BUILT_IN
-from workshop.second.rows import All, Row, computed
+from workshop.second.rows import FAILS, HOLDS, UNREAD, All, Row, computed
 
 MOST_SECONDS = 4  # of the processor for each change: the rows that lead to the fewest definitions come first
 MOST_CALLS = 60_000  # of definitions in a row: a changed one may never end
 WAYS = 20  # how many changes of each definition are tried at most
 
 
-def pairs(text: str) -> dict[str, str]:
-    """The words of a list of pairs: to each first one the second."""
-    return {first: second for first, second in (it.split() for it in text.split(","))}
+def pairs(text: str, also_back: str = "") -> dict[str, str]:
+    """The words of a list of pairs: to each first one the second; and of another list each to the other."""
+    back = [it.split() for it in also_back.split(",") if it]
+    return dict([*(it.split() for it in text.split(",")), *back, *(it[::-1] for it in back)])
 
 
-def both(text: str) -> dict[str, str]:
-    """Each word of the pairs to the other."""
-    return pairs(text) | {second: first for first, second in pairs(text).items()}
-
-
-NAMES = both(
-    "true false, nat_lt nat_le, take drop, own partner, receives sends, from to, Dropped Stopped, receive send"
-) | pairs(
+NAMES = pairs(
     "list_any list_all, min max, foreign own, zero suc, a b, receiver sender, going coming, mine yours, h peer,"
-    "server user, is_receive_socket is_send_socket"
+    "server user, is_receive_socket is_send_socket",
+    "true false, nat_lt nat_le, take drop, own partner, receives sends, from to, Dropped Stopped, receive send",
 )
-FIELDS = both(
-    "source destination, host peer, socket foreign, own_stamp partner_stamp, Ended Closed, Out In, Down Up, Rst Rrp,"
-    "Sent Arrived"
-) | pairs("messages bits, granted returned, Rfnm Dead, Dead NotTaken, Open Closing, Reset Stopped")
-WORDS_OF = {"&&": "||", "||": "&&", "<": "≤", "≤": "<", "+": "-", "-": "+", "≡": "≢", "/": "%", "%": "/", "*": "+"}
+FIELDS = pairs(
+    "messages bits, granted returned, Rfnm Dead, Dead NotTaken, Open Closing, Reset Stopped",
+    "source destination, host peer, socket foreign, own_stamp partner_stamp, Ended Closed, Out In, Down Up, Rst Rrp, Sent Arrived",
+)
+OPERATIONS = pairs("+ -, - +, ≡ ≢, * +", "&& ||, < ≤, / %")
 Key = tuple[str, str]
 NOTICED, OPEN, EQUAL = "refused by a row", "no longer of given values", "the same"
 LATE, MISSED = "out of time", "not noticed"
@@ -65,7 +60,7 @@ class Change:
 
     key: Key
     what: str
-    item: Union[Definition, Structure]
+    item: Definition | Structure
 
     @property
     def called(self) -> str:
@@ -77,15 +72,18 @@ def bound_in(term: object) -> set[str]:
     return {it.text for it in inside(term) if isinstance(it, Name)}
 
 
-def inner_names(term: object, field: str) -> set[str]:
+def names_in(term: object, field: str) -> set[str]:
     """The names that a term gives to what one of its fields has."""
-    if isinstance(term, ForAll) and field == "body":
-        return {*term.binder.names}
-    if isinstance(term, Function) and field == "body":
-        return bound_in(tuple(it.pattern for it in term.parameters))
-    if isinstance(term, (Let, Case)) and field == "body":
-        return bound_in(term.pattern)
-    return {it.name for it in term.parts if it.name} if isinstance(term, Both) else set()
+    match term:
+        case Both(parts):
+            return {it.name for it in parts if it.name}
+        case ForAll(binder, _) if field == "body":
+            return {*binder.names}
+        case Function(parameters, _) if field == "body":
+            return bound_in(tuple(it.pattern for it in parameters))
+        case Let(pattern=pattern) | Case(pattern=pattern) if field == "body":
+            return bound_in(pattern)
+    return set()
 
 
 @dataclass(frozen=True)
@@ -101,7 +99,7 @@ class Changer:
         known: list[Collection[str]] = [local, here.own, here.forms, here.names, words.own, BUILT_IN]
         return any(name in it for it in known)
 
-    def changed(self, term: object, local: frozenset[str]) -> Iterator[tuple[str, object]]:
+    def changed(self, term: Any, local: frozenset[str]) -> Iterator[tuple[str, Any]]:
         """A term with one word changed, in each way, with what that is."""
         if isinstance(term, Implicit):
             return
@@ -111,52 +109,45 @@ class Changer:
                 yield from ((what, (*term[:at], other, *term[at + 1 :])) for what, other in self.changed(it, local))
         elif dataclasses.is_dataclass(term) and not isinstance(term, type):
             for one in dataclasses.fields(term):
-                inner = local | inner_names(term, one.name)
-                for what, other in self.changed(getattr(term, one.name), inner):
+                for what, other in self.changed(getattr(term, one.name), local | names_in(term, one.name)):
                     yield what, replace(term, **{one.name: other})
 
     def word(self, term: object, local: frozenset[str]) -> Iterator[tuple[str, object]]:
         """What the first word of a term may be instead."""
-        if isinstance(term, Name) and term.text in NAMES:
-            other = NAMES[term.text]
-            if (term.text in local) == (other in local) and self.has(other, local):
-                yield f"{term.text} → {other}", Name(other)
-        elif isinstance(term, Number):
-            yield f"{term.value} → {term.value + 1}", Number(term.value + 1)
-        elif isinstance(term, Operation) and term.word in WORDS_OF:
-            yield f"{term.word} → {WORDS_OF[term.word]}", Operation(WORDS_OF[term.word], term.left, term.right)
-        elif isinstance(term, Field) and term.name in FIELDS:
-            yield f".{term.name} → .{FIELDS[term.name]}", Field(term.of, FIELDS[term.name])
-        elif isinstance(term, If):
-            yield "then ↔ else", If(term.condition, term.otherwise, term.then)
+        match term:
+            case Name(text) if other := NAMES.get(text):
+                if (text in local) == (other in local) and self.has(other, local):
+                    yield f"{text} → {other}", Name(other)
+            case Number(value):
+                yield f"{value} → {value + 1}", Number(value + 1)
+            case Operation(word, left, right) if other := OPERATIONS.get(word):
+                yield f"{word} → {other}", Operation(other, left, right)
+            case Field(of, name) if other := FIELDS.get(name):
+                yield f".{name} → .{other}", Field(of, other)
+            case If(condition, then, otherwise):
+                yield "then ↔ else", If(condition, otherwise, then)
+
+    def items(self, item: Definition | Structure) -> Iterator[tuple[str, Definition | Structure]]:
+        """A definition with another word in the value of a clause, or in what a field says."""
+        if isinstance(item, Definition):
+            for at, clause in enumerate(item.clauses):
+                for what, value in self.changed(clause.value, frozenset(bound_in(clause.patterns))):
+                    clauses = [*item.clauses[:at], replace(clause, value=value), *item.clauses[at + 1 :]]
+                    yield f"clause {at + 1}: {what}", replace(item, clauses=clauses)
+            return
+        local = frozenset(name for it in item.binders for name in it.names)
+        for at, member in enumerate(item.members):
+            for what, type_ in self.changed(member.type, local | {it.name for it in item.members[:at]}):
+                members = (*item.members[:at], replace(member, type=type_), *item.members[at + 1 :])
+                yield f"{member.name}: {what}", replace(item, members=members)
 
 
 def changes(library: Library, key: Key, item: Definition | Structure) -> Iterator[Change]:
     """The changes of a definition, each with what it is called; the second of one kind in one part is numbered, too."""
     seen = Counter[str]()
-    for what, other in changed_items(Changer(library, key[0]), item):
+    for what, other in Changer(library, key[0]).items(item):
         seen[what] += 1
         yield Change(key, what if seen[what] == 1 else f"{what} ({seen[what]})", other)
-
-
-def changed_items(changer: Changer, item: Definition | Structure) -> Iterator[tuple[str, Definition | Structure]]:
-    """A definition with another word in the value of a clause, or in what a field says."""
-    if isinstance(item, Structure):
-        local = frozenset(name for it in item.binders for name in it.names)
-        for at, member in enumerate(item.members):
-            for what, type_ in changer.changed(member.type, local):
-                members = (*item.members[:at], replace(member, type=as_term(type_)), *item.members[at + 1 :])
-                yield f"{member.name}: {what}", replace(item, members=members)
-            local |= {member.name}
-        return
-    for at, clause in enumerate(item.clauses):
-        for what, value in changer.changed(clause.value, frozenset(bound_in(clause.patterns))):
-            clauses = [*item.clauses[:at], replace(clause, value=as_term(value)), *item.clauses[at + 1 :]]
-            yield f"clause {at + 1}: {what}", replace(item, clauses=clauses)
-
-
-def as_term(term: object) -> Term:
-    return term  # type: ignore[return-value]
 
 
 def spread(all_: list[Change], most: int) -> list[Change]:
@@ -180,19 +171,17 @@ class Rows:
         self.library = all_.library
         self.graph: dict[Key, set[Key]] = {}
         self.ordered: dict[Key, list[Row]] = {}
-        self.rows = [(row, self.below(row)) for row, said in all_.rows if said == "holds"]
+        self.rows = [(row, self.below(row)) for row, said in all_.rows if said == HOLDS]
 
     def below(self, row: Row) -> set[Key]:
         """The definitions to which a row leads."""
-        found: set[Key] = set()
-        todo = self.named(row.term, row.module)
+        found, todo = set[Key](), self.named(row.term, row.module)
         while todo:
             key = todo.pop()
-            if key not in found:
-                found.add(key)
-                if key not in self.graph:
-                    self.graph[key] = self.named(terms_of(self.library.module(key[0]).own[key[1]]), key[0])
-                todo |= self.graph[key] - found
+            found.add(key)
+            if key not in self.graph:
+                self.graph[key] = self.named(terms_of(self.library.module(key[0]).own[key[1]]), key[0])
+            todo |= self.graph[key] - found
         return found
 
     def named(self, term: object, module: str) -> set[Key]:
@@ -202,8 +191,8 @@ class Rows:
     def of(self, key: Key) -> list[Row]:
         """Those that lead to a definition: those first that noticed a change of it, and then the shortest."""
         if key not in self.ordered:
-            found = [(len(below), at, row) for at, (row, below) in enumerate(self.rows) if key in below]
-            self.ordered[key] = [row for _, _, row in sorted(found, key=lambda it: it[:2])]
+            found = sorted((len(below), at) for at, (_, below) in enumerate(self.rows) if key in below)
+            self.ordered[key] = [self.rows[at][0] for _, at in found]
         return self.ordered[key]
 
     def say(self, change: Change) -> str:
@@ -220,15 +209,14 @@ class Rows:
 
     def by_rows(self, change: Change) -> str:
         decider = Decider(self.library)
-        decider.compiler.most_calls = MOST_CALLS
-        end, open_ones = time.process_time() + MOST_SECONDS, 0
-        for row in [*self.of(change.key)]:
+        decider.most_calls = MOST_CALLS
+        end, open_ones, rows = time.process_time() + MOST_SECONDS, 0, self.of(change.key)
+        for row in [*rows]:
             found = computed(decider, row)
-            if found == "fails" or found.startswith("isn't"):
-                self.ordered[change.key].remove(row)
-                self.ordered[change.key].insert(0, row)
+            if found.startswith((FAILS, UNREAD)):
+                rows.insert(0, rows.pop(rows.index(row)))
                 return NOTICED
-            open_ones += found != "holds"
+            open_ones += found != HOLDS
             if time.process_time() > end:
                 return LATE
         return EQUAL if change.called in SAME else OPEN if open_ones else MISSED

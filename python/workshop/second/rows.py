@@ -10,23 +10,21 @@ from dataclasses import dataclass
 from pathlib import Path
 
 from dorydate.definitions.clauses import clauses_of, uses_of
-from dorydate.definitions.computing import Env, NotComputed, Unbound, Variable
-from dorydate.definitions.deciding import Decider, Goal, mentions
+from dorydate.definitions.compiling import Decider, mentions
+from dorydate.definitions.computing import Env, Goal, Unbound, Variable
 from dorydate.definitions.library import Library, Module, NoMeaning, Sources
 from dorydate.definitions.promise import sources_below
 from dorydate.definitions.reading import term_of
 from dorydate.definitions.terms import Term
-from dorydate.definitions.values import records_with
+from dorydate.definitions.values import NotComputed, records_with
 from workshop.parts import ROOT, text_of
 
 CRATES = f"{ROOT}/crates"
-OTHERS = {
-    "hex/specs/Hex.antt": "hex.txt",
-    "toml/specs/Data.antt": "toml.txt",
-}  # what rows name of the toolchain's crates
+OTHERS = {"hex/specs/Hex.antt": "hex.txt", "toml/specs/Data.antt": "toml.txt"}  # what rows name of the toolchain's crates
 WORKED = "worked"  # begins the names of functions of rows, or of the file that has them
-GENERIC = ("C",)  # what a generic function is about
+GENERIC = "C"  # what a generic function is about
 FLOW, FLOW_FIELDS = "Flow", ("source", "destination", "link")
+HOLDS, FAILS, OF_ALL, UNREAD = "holds", "fails", "speaks of all", "isn't read"
 
 
 @dataclass(frozen=True)
@@ -44,60 +42,6 @@ class Row:
         return f"{self.file}: {self.function}{f'.{self.name}' if self.name else ''}"
 
 
-def sources() -> Sources:
-    """The files of the repository, and those that state words of other crates."""
-    own = sources_below(Path(CRATES))
-    return lambda path: text_of(str(Path(__file__).with_name(OTHERS[path]))) if path in OTHERS else own(path)
-
-
-def files() -> list[str]:
-    found = glob.glob(f"{CRATES}/*/src/**/*.rt", recursive=True)
-    return sorted(os.path.relpath(it, CRATES) for it in found if is_worked(it) or f"\npub fn {WORKED}_" in text_of(it))
-
-
-def is_worked(file: str) -> bool:
-    """Whether all functions of a file are of rows."""
-    return os.path.basename(file).startswith(WORKED)
-
-
-def rows_of(library: Library, names: Iterable[str]) -> Iterator[Row]:
-    """The rows of some files."""
-    for file in names:
-        text = text_of(f"{CRATES}/{file}")
-        module = f"rows of {file}"
-        library.modules[module] = Module(module, uses_of(text))
-        for it in clauses_of(text):
-            if it.function.startswith(WORKED) or is_worked(file):
-                yield Row(file, it.function, it.name, term_of(it.text, it.line), module)
-
-
-def computed(decider: Decider, row: Row) -> str:
-    """What a row comes to: `holds`, `fails`, `speaks of all`, or why it isn't computed.
-
-    Where a definition speaks of all flows, as one of messages does, it is tried with those that the row's values have.
-    """
-    decider.forget()
-    decider.domains.pop(FLOW, None)
-    try:
-        try:
-            return found_of(decider, row)
-        except Unbound:
-            if mentions(row.term, FLOW):
-                return "speaks of all"
-        decider.domains[FLOW] = records_with(FLOW_FIELDS)
-        return found_of(decider, row)
-    except Unbound:
-        return "speaks of all"
-    except (NotComputed, NoMeaning) as why:
-        return f"isn't read: {why}"
-
-
-def found_of(decider: Decider, row: Row) -> str:
-    statement = decider.statement(row.term, row.module, frozenset(GENERIC))
-    env: Env = {it: Variable(it, "") for it in GENERIC}
-    return "holds" if decider.holds((Goal(statement, env),)) else "fails"
-
-
 @dataclass(frozen=True)
 class All:
     """Rows with what each comes to, and the library that has their modules."""
@@ -106,15 +50,57 @@ class All:
     rows: list[tuple[Row, str]]
 
     @property
-    def failed(self) -> list[str]:
-        return [f"{row.called} fails" for row, said in self.rows if said == "fails"]
-
-    @property
-    def unread(self) -> list[str]:
-        return [f"{row.called} {said}" for row, said in self.rows if said.startswith("isn't")]
+    def wrong(self) -> list[str]:
+        """The rows that fail, or that aren't read."""
+        return [f"{row.called} {said}" for row, said in self.rows if said not in (HOLDS, OF_ALL)]
 
     def counted(self) -> Counter[str]:
-        return Counter("isn't read" if said.startswith("isn't") else said for _, said in self.rows)
+        return Counter(said.partition(":")[0] for _, said in self.rows)
+
+
+def sources() -> Sources:
+    """The files of the repository, and those that state words of other crates."""
+    own = sources_below(Path(CRATES))
+    return lambda path: text_of(str(Path(__file__).with_name(OTHERS[path]))) if path in OTHERS else own(path)
+
+
+def is_worked(file: str) -> bool:
+    """Whether all functions of a file are of rows."""
+    return os.path.basename(file).startswith(WORKED)
+
+
+def files() -> list[str]:
+    found = glob.glob(f"{CRATES}/*/src/**/*.rt", recursive=True)
+    return sorted(os.path.relpath(it, CRATES) for it in found if is_worked(it) or f"\npub fn {WORKED}_" in text_of(it))
+
+
+def rows_of(library: Library, names: Iterable[str]) -> Iterator[Row]:
+    """The rows of some files."""
+    for file in names:
+        text, module = text_of(f"{CRATES}/{file}"), f"rows of {file}"
+        library.modules[module] = Module(module, uses_of(text))
+        for it in clauses_of(text):
+            if it.function.startswith(WORKED) or is_worked(file):
+                yield Row(file, it.function, it.name, term_of(it.text, it.line), module)
+
+
+def computed(decider: Decider, row: Row) -> str:
+    """What a row comes to, or why it isn't computed. Where a definition speaks of all flows, as one of messages does, it
+    is tried with those that the row's values have."""
+    decider.forget()
+    decider.domains.pop(FLOW, None)
+    statement = decider.expression(row.term, row.module, frozenset(GENERIC))
+    for is_last in (False, True):
+        try:
+            found: Env = {GENERIC: Variable(GENERIC, "")}
+            return HOLDS if decider.holds((Goal(statement, found),)) else FAILS
+        except Unbound:
+            if is_last or mentions(row.term, FLOW):
+                break
+            decider.domains[FLOW] = records_with(FLOW_FIELDS)
+        except (NotComputed, NoMeaning) as why:
+            return f"{UNREAD}: {why}"
+    return OF_ALL
 
 
 def all_rows(names: Sequence[str] | None = None) -> All:

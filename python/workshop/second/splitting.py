@@ -10,6 +10,9 @@ from typing import Any
 from dorydate.definitions.files import Clause
 from dorydate.definitions.terms import Apply, Implicit, Name, Operation, Term, Tuple, Unknown, head_of
 
+Place = tuple[int, ...]
+APART = "apart"
+
 
 @dataclass(frozen=True)
 class Forms:
@@ -27,16 +30,28 @@ class Written(Name):
     forms: Forms
 
 
-def made(forms: Forms, form: str, parts: Sequence[str]) -> Term:
-    """A form with names for its parts."""
-    if form == "∷":
-        return Operation(form, Name(parts[0]), Name(parts[1]))
-    head = Written(form, replace(forms, own=form))
-    return Apply(head, tuple(map(Name, parts))) if parts else head
+def parts_of(pattern: Term) -> tuple[Term, ...]:
+    match pattern:
+        case Operation(_, left, right):
+            return (left, right)
+        case Tuple(items):
+            return items
+        case Implicit(_, term):
+            return (term,)
+    return pattern.given if isinstance(pattern, Apply) else ()
 
 
-Place = tuple[int, ...]
-APART = "apart"
+def with_parts(pattern: Term, parts: tuple[Term, ...]) -> Term:
+    """A pattern with other parts."""
+    match pattern:
+        case Operation(word, _, _):
+            return Operation(word, *parts)
+        case Tuple():
+            return Tuple(parts)
+        case Implicit(name, _):
+            return Implicit(name, *parts)
+    assert isinstance(pattern, Apply)
+    return Apply(pattern.function, parts)
 
 
 class Splitter:
@@ -61,32 +76,19 @@ class Splitter:
         return [] if any(self.covers(other, clause.patterns) for other in self.before) else [clause]
 
     def form(self, pattern: Term) -> Forms | None:
-        if isinstance(pattern, Operation):
-            return self.forms_of(Name(pattern.word))
-        head = head_of(pattern)
-        return self.forms_of(head)
-
-    def parts(self, pattern: Term) -> tuple[Term, ...]:
-        if isinstance(pattern, Operation):
-            return (pattern.left, pattern.right)
-        if isinstance(pattern, Tuple):
-            return pattern.items
-        if isinstance(pattern, Implicit):
-            return (pattern.term,)
-        return pattern.given if isinstance(pattern, Apply) else ()
+        return self.forms_of(Name(pattern.word) if isinstance(pattern, Operation) else head_of(pattern))
 
     def place_of(self, patterns: Sequence[Term], others: Sequence[Term]) -> tuple[Place, Forms] | str | None:
         """Where a name is for which the others have a form; APART where no value fits both."""
         found: tuple[Place, Forms] | None = None
         for at, (own, other) in enumerate(zip(patterns, others)):
             mine, theirs = self.form(own), self.form(other)
-            inner: tuple[Place, Forms] | str | None = None
-            if mine is not None and theirs is not None and mine.own != theirs.own:
+            is_name = mine is None and isinstance(own, (Name, Unknown))
+            if mine and theirs and mine.own != theirs.own:
                 return APART
-            if mine is None and theirs is not None and isinstance(own, (Name, Unknown)):
-                inner = (), theirs
-            elif not isinstance(own, (Name, Unknown)) or mine is not None:
-                inner = self.place_of(self.parts(own), self.parts(other))
+            inner: tuple[Place, Forms] | str | None = ((), theirs) if is_name and theirs else None
+            if not is_name:
+                inner = self.place_of(parts_of(own), parts_of(other))
             if inner == APART:
                 return APART
             if found is None and isinstance(inner, tuple):
@@ -99,50 +101,37 @@ class Splitter:
             mine, theirs = self.form(own), self.form(other)
             if theirs is None and isinstance(other, (Name, Unknown)):
                 continue
-            if theirs is not None and (mine is None or mine.own != theirs.own):
-                return False
-            if not self.covers(self.parts(other), self.parts(own)):
+            if theirs and (mine is None or mine.own != theirs.own) or not self.covers(parts_of(other), parts_of(own)):
                 return False
         return True
 
     def put(self, clause: Clause, place: Place, forms: Forms, form: str, many: int) -> Clause:
         """A clause with a form where it has a name."""
-        new = made(forms, form, [self.new_name() for _ in range(many)])
+        parts = tuple(Name(self.new_name()) for _ in range(many))
+        head = Written(form, replace(forms, own=form))
+        new: Term = Operation(form, *parts) if form == "∷" else Apply(head, parts) if parts else head
         patterns, name = put_at(clause.patterns, place, new)
         value, where = with_term((clause.value, clause.where), name, new)
         return replace(clause, patterns=patterns, value=value, where=where)
 
 
-def put_at(patterns: Sequence[Term], place: Place, made: Term) -> tuple[tuple[Term, ...], str]:
+def put_at(patterns: tuple[Term, ...], place: Place, new: Term) -> tuple[tuple[Term, ...], str]:
+    """Patterns with another term at a place, and the name that was there."""
     at, rest = place[0], place[1:]
     own = patterns[at]
-    if not rest:
-        name = own.text if isinstance(own, Name) else "_"
-        return (*patterns[:at], made, *patterns[at + 1 :]), name
-    new: Term
-    if isinstance(own, Operation):
-        (left, right), name = put_at((own.left, own.right), rest, made)
-        new = Operation(own.word, left, right)
-    elif isinstance(own, Tuple):
-        items, name = put_at(own.items, rest, made)
-        new = Tuple(items)
-    elif isinstance(own, Implicit):
-        (term,), name = put_at((own.term,), rest, made)
-        new = Implicit(own.name, term)
-    else:
-        assert isinstance(own, Apply)
-        arguments, name = put_at(own.arguments, rest, made)
-        new = Apply(own.function, arguments)
+    name = own.text if isinstance(own, Name) else "_"
+    if rest:
+        inner, name = put_at(parts_of(own), rest, new)
+        new = with_parts(own, inner)
     return (*patterns[:at], new, *patterns[at + 1 :]), name
 
 
-def with_term(term: Any, name: str, made: Term) -> Any:
+def with_term(term: Any, name: str, new: Term) -> Any:
     """A term with another for a name. No clause of these files binds a name anew."""
     if isinstance(term, Name):
-        return made if term.text == name and not isinstance(term, Written) else term
+        return new if term.text == name and not isinstance(term, Written) else term
     if isinstance(term, tuple):
-        return tuple(with_term(it, name, made) for it in term)
+        return tuple(with_term(it, name, new) for it in term)
     if dataclasses.is_dataclass(term) and not isinstance(term, type):
-        fields = [it.name for it in dataclasses.fields(term)]
-        return replace(term, **{it: with_term(getattr(term, it), name, made) for it in fields})
+        return replace(term, **{it.name: with_term(getattr(term, it.name), name, new) for it in dataclasses.fields(term)})
     return term

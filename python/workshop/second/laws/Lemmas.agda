@@ -22,16 +22,6 @@ ap f refl = refl
 subst : {A : Set} (P : A → Set) {x y : A} → x ≡ y → P x → P y
 subst P refl p = p
 
--- a value to be looked at by its forms, a fact with a name, and a function that a macro makes
-of- : {A B : Set} → A → (A → B) → B
-of- x f = f x
-
-by- : {A B : Set} → (A → B) → A → B
-by- f x = f x
-
-itself : {A : Set} → A → A
-itself x = x
-
 -- ---- truth values
 
 and-parts : (x y : Bool) → (x && y) ≡ true → Sig2 (x ≡ true) (λ _ → y ≡ true)

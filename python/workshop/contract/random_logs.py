@@ -12,7 +12,7 @@ from dorydate.contract.rules import NEEDED
 from dorydate.contract.worlds.play import Acts, Play, some_world
 from dorydate.contract.worlds.programs import among
 from dorydate.model.names import spell_host
-from workshop.second.own_logs import of_interface
+from workshop.contract.own_logs import of_interface
 
 LENGTHS = 40, 80, 160
 OwnLog = tuple[str, list[Act]]  # of a host

@@ -17,10 +17,10 @@ from dorydate.contract.ends import Pair
 from dorydate.contract.fold import Own
 from dorydate.contract.rules import RULES
 from dorydate.contract.texts import Command, commands_of
-from dorydate.definitions.deciding import Decider
+from dorydate.definitions.compiling import Decider
 from dorydate.definitions.library import Defined
 from dorydate.definitions.logged import bits_value
-from dorydate.definitions.values import NIL, TRUE, Data, Lambda, Value, applied, data, items_of, listed, struct
+from dorydate.definitions.values import NIL, TRUE, Data, Value, applied, data, items_of, listed, struct
 from dorydate.model.commands import NOP, RTS
 
 CONTRACT = "Rattle.host_contract.specs.Contract"
@@ -194,10 +194,7 @@ class Contract:
     def called(self, name: str, *arguments: Value) -> Value:
         meaning = self.decider.library.meaning(CONTRACT, name)
         assert isinstance(meaning, Defined)
-        function = self.decider.compiler.function(meaning)
-        if isinstance(function, Lambda):
-            return applied(function, arguments)
-        return function.value({})
+        return applied(self.decider.defined(meaning).value({}), arguments)
 
     def broken(self, log: Data) -> set[str]:
         """The rules that a log breaks."""

@@ -1,0 +1,1 @@
+"""Own logs, judged by the definitions of the contract and by `dorydate keeps`."""
