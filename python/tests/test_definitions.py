@@ -10,7 +10,6 @@ from dorydate.definitions.computing import Goal, Unbound
 from dorydate.definitions.files import Definition, Structure, read_file
 from dorydate.definitions.library import WORDS, Defined, Library, Module
 from dorydate.definitions.promise import BOOK, BOOK_AMONG, Judge, Judged, crates_folder, deeply, sources_below
-from dorydate.definitions.reach import Reach
 from dorydate.definitions.reading import NotRead, term_of
 from dorydate.definitions.terms import Apply, Both, ForAll, Name, Operation
 from dorydate.definitions.values import NONE, Lambda, Value, applied, listed, number, shown, some, truth
@@ -172,11 +171,8 @@ class OfWords(unittest.TestCase):
 
 class OfThePromise(unittest.TestCase):
     def test_the_definitions_are_those_of_the_page(self) -> None:
-        judge = Judge()
-        reach = Reach(judge.library)
-        for _, term, module in judge.clauses(BOOK):
-            reach.follow_term(term, module)
-        found = {(module.removeprefix("Rattle."), name) for module, name in reach.definitions if module != WORDS}
+        definitions = Judge().reach(BOOK).definitions
+        found = {(module.removeprefix("Rattle."), name) for module, name in definitions if module != WORDS}
         page = {(f"{crate}.specs.{path}", name) for crate, path, name in believed.reading()[1].definitions}
         self.assertEqual(found, page)
 

@@ -39,9 +39,8 @@ def clauses_of(text: str) -> Iterator[Said]:
         at = found.end() if found else len(text)
         while it := ENSURES.match(text, at):
             at = closed(text, it.end())
-            yield Said(
-                function["name"], it["name"] or "", text[it.end() : at - 1].strip(), text.count("\n", 0, it.end()) + 1
-            )
+            line = text.count("\n", 0, it.end()) + 1
+            yield Said(function["name"], it["name"] or "", text[it.end() : at - 1].strip(), line)
 
 
 def uses_of(text: str) -> tuple[Item, ...]:

@@ -7,8 +7,8 @@ from collections.abc import Callable, Iterator, Mapping, Sequence
 from functools import cached_property
 
 from dorydate.definitions.computing import (  # fmt: skip
-    Abstraction, Arithmetic, Build, Call, Change, Choice, Construct, Defining, Env, Evidence, Expression,
-    Get, Goals, Join, Literal, Local, OfFields, OfForm, Pattern, Same, Selection, Slot, Slots, Unbound, Unread,
+    Abstraction, Arithmetic, Build, Call, Construct, Defining, Env, Evidence, Expression,
+    Get, Goals, Join, Literal, Local, OfFields, OfForm, Pattern, Selection, Slot, Slots, Unbound, Unread,
     braced, forced, goals_of, known_value,
 )
 from dorydate.definitions.deciding import (  # fmt: skip
@@ -20,7 +20,7 @@ from dorydate.definitions.terms import (  # fmt: skip
     Apply, Both, Changed, Field, ForAll, Function, If, Implicit, Let, Match, Name, Number, Operation, Record,
     Section, Term, Text, Tuple, Universe, Unknown, arity, binders_of, head_of, inside, result_of, taken_types,
 )
-from dorydate.definitions.values import FALSE, NIL, NONE, TRUE, TYPE, Data, Lambda, NotComputed, Struct, Value, applied, forget
+from dorydate.definitions.values import FALSE, NIL, NONE, TRUE, TYPE, Data, Lambda, NotComputed, Struct, Value, applied, forget, truth
 from dorydate.definitions.words import NATIVE
 
 Scope = frozenset[str]
@@ -165,13 +165,13 @@ class Decider(Search):
             case Operation(word, left, right):
                 return self.operation(word, of(left), of(right))
             case If(condition, then, otherwise):
-                return Choice(of(condition), of(then), of(otherwise))
+                return choice(of(condition), of(then), of(otherwise))
             case Tuple(items):
                 return Build([(str(at), of(it)) for at, it in enumerate(items)])
             case Record(fields):
                 return Build([(name, of(it)) for name, it in fields])
             case Changed(other, fields):
-                return Change(of(other), [(name, of(it)) for name, it in fields])
+                return Build([(name, of(it)) for name, it in fields], of(other))
             case Match(other, cases) if other is not None:
                 return Selection(of(other), [self.case(it.pattern, it.body, module, scope) for it in cases])
         return self.binding(term, module, scope)
@@ -239,7 +239,7 @@ class Decider(Search):
 
     def application(self, term: Apply, arguments: Sequence[Expression], module: str, scope: Scope) -> Expression:
         if term.function == Name("if◌then◌else◌"):
-            return Choice(*arguments)
+            return choice(*arguments)
         if term.function == Name("¬"):
             return Implied(self, arguments, Fixed(False))
         function = self.expression(term.function, module, scope)
@@ -323,12 +323,17 @@ class Decider(Search):
         return meaning.name if isinstance(meaning, Form) else ""
 
 
+def choice(condition: Expression, then: Expression, otherwise: Expression) -> Expression:
+    return Selection(condition, [(OfForm("true"), then), (Pattern(), otherwise)])
+
+
+SAME = Lambda(2, lambda one, other: truth(one == other))
 OPERATIONS: dict[str, Callable[[Expression, Expression], Expression]] = {
     "∷": lambda left, right: Construct("∷", [left, right]),
     "++": Join,
-    "==": Same,
-    "&&": lambda left, right: Choice(left, right, Literal(FALSE)),
-    "||": lambda left, right: Choice(left, Literal(TRUE), right),
+    "==": lambda left, right: Call(Literal(SAME), [left, right]),
+    "&&": lambda left, right: choice(left, right, Literal(FALSE)),
+    "||": lambda left, right: choice(left, Literal(TRUE), right),
     "≡": Equal,
     "<": lambda left, right: Less(left, right, 0),
     "≤": lambda left, right: Less(left, right, 1),

@@ -11,8 +11,8 @@ from dataclasses import dataclass, field
 from typing import Union
 
 from dorydate.definitions.values import (  # fmt: skip
-    NIL, TRUE, Data, Lambda, NotComputed, Struct, Value, applied, data, items_of, list_of, listed, number, reversed_list,
-    struct, truth,
+    NIL, Data, Lambda, NotComputed, Struct, Value, applied, data, items_of, list_of, listed, number, reversed_list,
+    struct,
 )
 
 
@@ -379,24 +379,24 @@ CALCULATED: dict[str, Callable[[int, int], int]] = {
 
 
 @dataclass(eq=False, slots=True)
-class Same(Expression):
-    """Whether two values are the same."""
+class Selection(Expression):
+    """A term by the form of a value: `elim`, `if`, or `let`, which has one case."""
 
-    left: Expression
-    right: Expression
+    of: Expression
+    cases: Sequence[tuple[Pattern, Expression]]
 
-    def value(self, env: Env) -> Value:
-        return truth(self.left.value(env) == self.right.value(env))
-
-
-class Leading(Expression):
-    """A term that is another one, once some values are known."""
-
-    __slots__ = ()
+    @property
+    def states(self) -> bool:
+        return any(body.states for _, body in self.cases)
 
     def led(self, env: Env) -> tuple[Expression, Env]:
-        """The other one, with the names in it."""
-        raise NotImplementedError
+        """The first term whose pattern fits, with the names in it."""
+        of = self.of.value(env)
+        for pattern, body in self.cases:
+            inner = dict(env)
+            if pattern.fits(of, inner):
+                return body, inner
+        raise NotComputed("no case fits")
 
     def value(self, env: Env) -> Value:
         term, inner = self.led(env)
@@ -408,40 +408,6 @@ class Leading(Expression):
 
     def says(self, env: Env, given: Slots, evidence: Evidence | None) -> Iterator[Goals]:
         return goals_of(*self.led(env), given, evidence)
-
-
-@dataclass(eq=False, slots=True)
-class Choice(Leading):
-    condition: Expression
-    then: Expression
-    otherwise: Expression
-
-    @property
-    def states(self) -> bool:
-        return self.then.states
-
-    def led(self, env: Env) -> tuple[Expression, Env]:
-        return self.then if self.condition.value(env) is TRUE else self.otherwise, env
-
-
-@dataclass(eq=False, slots=True)
-class Selection(Leading):
-    """A term by the form of a value: `elim`, or `let`, which has one case."""
-
-    of: Expression
-    cases: Sequence[tuple[Pattern, Expression]]
-
-    @property
-    def states(self) -> bool:
-        return any(body.states for _, body in self.cases)
-
-    def led(self, env: Env) -> tuple[Expression, Env]:
-        of = self.of.value(env)
-        for pattern, body in self.cases:
-            inner = dict(env)
-            if pattern.fits(of, inner):
-                return body, inner
-        raise NotComputed("no case fits")
 
 
 @dataclass(eq=False, slots=True)
@@ -476,30 +442,22 @@ class Get(Expression):
 
 @dataclass(eq=False, slots=True)
 class Build(Expression):
-    """A record by its fields, or a tuple."""
+    """A record by its fields, or a tuple; or a record with other fields."""
 
     fields: Sequence[tuple[str, Expression]]
+    of: Expression | None = None
 
     def value(self, env: Env) -> Value:
-        return struct({name: it.value(env) for name, it in self.fields})
-
-    def match(self, env: Env, wanted: Value) -> Iterator[None]:
-        if isinstance(wanted, Struct) and wanted.fields.keys() == {name for name, _ in self.fields}:
-            yield from ways_of_all([(it, wanted.fields[name]) for name, it in self.fields], env)
-
-
-@dataclass(eq=False, slots=True)
-class Change(Expression):
-    """A record with other fields."""
-
-    of: Expression
-    fields: Sequence[tuple[str, Expression]]
-
-    def value(self, env: Env) -> Value:
-        of = self.of.value(env)
+        of = Struct({}) if self.of is None else self.of.value(env)
         if not isinstance(of, Struct):
             raise NotComputed("what is changed is no record")
         return struct({**of.fields, **{name: it.value(env) for name, it in self.fields}})
+
+    def match(self, env: Env, wanted: Value) -> Iterator[None]:
+        if self.of is not None:
+            raise Unbound
+        if isinstance(wanted, Struct) and wanted.fields.keys() == {name for name, _ in self.fields}:
+            yield from ways_of_all([(it, wanted.fields[name]) for name, it in self.fields], env)
 
 
 @dataclass(eq=False, slots=True)

@@ -189,8 +189,7 @@ class FileReader:
         parser = Parser(tokens_of(re.sub(r"^\s*(pub )?(record|data) ", "", first), block.number))
         name, binders = parser.next().text, parser.binders()
         parser.want(":")
-        type_ = parser.term()
-        parser.end()
+        type_ = parser.whole()
         members = [member for it in blocks_of(rest) if not it.head.startswith("deriving") for member in members_of(it)]
         return Structure(name, binders, type_, tuple(members), is_record, block.number, block.comment)
 
@@ -198,8 +197,8 @@ class FileReader:
         before, rest = split_where(block) if block.has_where else (block.text, ())
         marks = MARKS.match(before.strip())
         tokens = tokens_of(before.strip()[marks.end() if marks else 0 :], block.number)
-        if is_signature(tokens):
-            found.append(signature(tokens, block, marks[0] if marks else ""))
+        if found_type := signature(tokens, block, marks[0] if marks else ""):
+            found.append(found_type)
             return
         patterns, name, value = clause(tokens)
         of = next((it for it in reversed(found) if isinstance(it, Definition) and it.name == name), None)
@@ -231,30 +230,23 @@ def members_of(block: Block) -> Iterator[Member]:
     while parser.peek() != ":":
         names.append(parser.next().text)
     parser.want(":")
-    type_ = parser.term()
-    parser.end()
+    type_ = parser.whole()
     yield from (Member(it, type_, block.comment) for it in names)
 
 
-def is_signature(tokens: Sequence[Token]) -> bool:
-    """Whether tokens say what type a name has: `f : T`, or `f {ℓ} : T`."""
-    if len(tokens) < 2 or tokens[1].text not in (":", "{"):
-        return False
-    closed = next((at for at, it in enumerate(tokens) if it.text == "}"), len(tokens))
-    return tokens[1].text == ":" or closed + 1 < len(tokens) and tokens[closed + 1].text == ":"
-
-
-def signature(tokens: Sequence[Token], block: Block, marks: str) -> Definition:
+def signature(tokens: Sequence[Token], block: Block, marks: str) -> Definition | None:
+    """The type that tokens give to a name, `f : T` or `f {ℓ} : T`; None where they are a clause."""
     parser = Parser(tokens)
     name, levels = parser.next().text, list[str]()
     if parser.peek() == "{":
         parser.next()
-        while parser.peek() != "}":
+        while parser.peek() not in ("}", ""):
             levels.append(parser.next().text)
-        parser.next()
-    parser.want(":")
-    type_ = parser.term()
-    parser.end()
+        parser.want("}")
+    if parser.peek() != ":":
+        return None
+    parser.next()
+    type_ = parser.whole()
     return Definition(name, tuple(levels), type_, block.number, block.comment, "abbrev" in marks)
 
 
@@ -274,9 +266,7 @@ def clause(tokens: Sequence[Token]) -> tuple[tuple[Term, ...], str, Term]:
         name = left.next().text
         while not left.is_done:
             patterns.append(braced(left) if left.peek() == "{" else left.atom())
-    value = right.term()
-    right.end()
-    return tuple(patterns), name, value
+    return tuple(patterns), name, right.whole()
 
 
 def braced(parser: Parser) -> Implicit:

@@ -20,13 +20,8 @@ def host_value(host: HostName) -> Struct:
 
 
 def flow_value(flow: Flow) -> Struct:
-    return struct(
-        {
-            "source": host_value(flow.source),
-            "destination": host_value(flow.destination),
-            "link": struct({"0": flow.link}),
-        }
-    )
+    ends = {"source": host_value(flow.source), "destination": host_value(flow.destination)}
+    return struct({**ends, "link": struct({"0": flow.link})})
 
 
 def bits_value(bits: Bits) -> Data:
@@ -88,27 +83,19 @@ class Logged:
         self.lives, self.handed = listed(lives), listed(map(bits_value, self.book.handed))
         self.fates = tuple(data(it.fate.capitalize()) for it in self.book.lives)
         self.labels |= {value: f"line{'s' * (len(its) > 1)} {', '.join(map(str, its))}" for value, its in lines.items()}
-        self.labels |= {
-            it: name for it, name in ((self.lives, "all lives"), (self.handed, "all lists")) if it is not NIL
-        }
+        self.labels |= {it: name for it, name in ((self.lives, "all lives"), (self.handed, "all lists")) if it is not NIL}
 
     @property
     def hosts(self) -> Data:
         """The hosts that the log names, each once."""
-        named = [
-            *self.book.strangers,
-            *hosts_in(self.book.log),
-            *(host for it in self.book.lives for host in (it.host, it.peer)),
-        ]
+        of_lives = (host for it in self.book.lives for host in (it.host, it.peer))
+        named = [*self.book.strangers, *hosts_in(self.book.log), *of_lives]
         return listed(map(host_value, dict.fromkeys(named)))
 
     @property
     def flows(self) -> list[Value]:
         """The flows that the log names, each once."""
-        return [
-            flow_value(it)
-            for it in dict.fromkeys(it.flow for it in self.book.log if isinstance(it, (Passed, Answered)))
-        ]
+        return [flow_value(it) for it in dict.fromkeys(it.flow for it in self.book.log if isinstance(it, (Passed, Answered)))]
 
     @property
     def strangers(self) -> Data:

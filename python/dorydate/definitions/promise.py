@@ -11,6 +11,7 @@ import gc
 import sys
 import threading
 from collections.abc import Callable, Iterator, Sequence
+from concurrent.futures import ThreadPoolExecutor
 from dataclasses import dataclass, replace
 from pathlib import Path
 from typing import TypeVar
@@ -18,7 +19,7 @@ from typing import TypeVar
 from dorydate.definitions.clauses import clauses_of, uses_of
 from dorydate.definitions.compiling import Decider, Fields, called
 from dorydate.definitions.computing import Env, Expression, Goal, Lacking
-from dorydate.definitions.library import Defined, Library, Module, Sources, Typed
+from dorydate.definitions.library import Defined, Library, Module, Sources, Typed, path_of
 from dorydate.definitions.logged import Logged
 from dorydate.definitions.reach import Reach
 from dorydate.definitions.reading import term_of
@@ -88,6 +89,14 @@ class Judge:
         if module not in self.library.modules:
             self.library.modules[module] = Module(module, uses_of(text))
         yield from ((it.name, term_of(it.text, it.line), module) for it in clauses_of(text) if it.name not in LEFT)
+
+    def reach(self, *files: str) -> Reach:
+        """The definitions to which the clauses of some files lead."""
+        reach = Reach(self.library)
+        for file in files:
+            for _, term, module in self.clauses(file):
+                reach.follow_term(term, module)
+        return reach
 
     def judged(self, book: Book) -> Iterator[Judged]:
         """What each part of the promise is of a log."""
@@ -173,36 +182,19 @@ def files_of_promise() -> list[str]:
     """The files of the definitions that judge a log, below `crates`: those to which the clauses lead, and those that
     only pass a definition on."""
     judge = Judge()
-    reach = Reach(judge.library)
-    for file in (BOOK, BOOK_AMONG):
-        for _, term, module in judge.clauses(file):
-            reach.follow_term(term, module)
-    read = [*reach.modules, *(it for it in judge.library.modules if it not in reach.modules)]
-    return [BOOK, BOOK_AMONG, *(f"{it.removeprefix('Rattle.').replace('.', '/')}.antt" for it in read if it.startswith("Rattle."))]
+    modules = [*judge.reach(BOOK, BOOK_AMONG).modules, *judge.library.modules]
+    return [BOOK, BOOK_AMONG, *(path_of(it) for it in dict.fromkeys(modules) if it.startswith("Rattle."))]
 
 
 def deeply(run: Callable[[], T]) -> T:
     """What a function gives that calls itself very often."""
-    found: list[T] = []
-    raised: list[BaseException] = []
-
-    def within() -> None:
-        try:
-            found.append(run())
-        except BaseException as why:  # it is raised again where it was called for
-            raised.append(why)
-
     before, size = sys.getrecursionlimit(), threading.stack_size(STACK)
     sys.setrecursionlimit(DEEPEST)
     gc.disable()  # values are many, and nearly all go when they are forgotten
     try:
-        thread = threading.Thread(target=within)
-        thread.start()
-        thread.join()
+        with ThreadPoolExecutor(1) as thread:
+            return thread.submit(run).result()
     finally:
         gc.enable()
         sys.setrecursionlimit(before)
         threading.stack_size(size)
-    if raised:
-        raise raised[0]
-    return found[0]

@@ -107,9 +107,12 @@ class Parser:
     def line(self) -> int:
         return self.tokens[min(self.at, len(self.tokens) - 1)].line if self.tokens else 0
 
-    def end(self) -> None:
+    def whole(self) -> Term:
+        """The term that all that is left is."""
+        found = self.term()
         if not self.is_done:
             raise NotRead(f"line {self.line()}: `{self.peek()}` is left over")
+        return found
 
     # ---- terms
 
@@ -342,7 +345,4 @@ class Parser:
 
 def term_of(text: str, line: int = 1) -> Term:
     """The term that a text is."""
-    parser = Parser(tokens_of(text, line))
-    found = parser.term()
-    parser.end()
-    return found
+    return Parser(tokens_of(text, line)).whole()

@@ -47,10 +47,7 @@ class Modules:
 
 def of_page(judge: Judge, clauses: Sequence[str]) -> Modules:
     """The definitions to which the clauses of some files lead, as one module."""
-    reach = Reach(judge.library)
-    for file in clauses:
-        for _, term, module in judge.clauses(file):
-            reach.follow_term(term, module)
+    reach = judge.reach(*clauses)
     writer = Writer(judge.library)
     writer.owners = [*owners(reach, [])]
     lines = [line for it in reach.definitions.values() for line in writer.written(it)]

@@ -13,7 +13,7 @@ from dorydate.definitions.compiling import Decider
 from dorydate.definitions.files import Definition, Structure
 from dorydate.definitions.library import WORDS, Defined, Library, Typed
 from dorydate.definitions.promise import BOOK, Judge
-from dorydate.definitions.reach import Reach, meanings_in, terms_of
+from dorydate.definitions.reach import meanings_in, terms_of
 from dorydate.definitions.terms import (  # fmt: skip
     Both, Case, Field, ForAll, Function, If, Implicit, Let, Name, Number, Operation, inside,
 )
@@ -157,11 +157,7 @@ def spread(all_: list[Change], most: int) -> list[Change]:
 
 def page() -> dict[Key, Defined | Typed]:
     """The definitions of the promise."""
-    judge = Judge()
-    reach = Reach(judge.library)
-    for _, term, module in judge.clauses(BOOK):
-        reach.follow_term(term, module)
-    return {key: it for key, it in reach.definitions.items() if key[0] != WORDS}
+    return {key: it for key, it in Judge().reach(BOOK).definitions.items() if key[0] != WORDS}
 
 
 class Rows:
