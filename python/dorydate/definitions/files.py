@@ -227,9 +227,8 @@ def members_of(block: Block) -> Iterator[Member]:
     """The fields or constructors of a line."""
     parser = Parser(tokens_of(re.sub(r"^\s*pub ", "", block.text), block.number))
     names = [parser.next().text]
-    while parser.peek() != ":":
+    while not parser.takes(":"):
         names.append(parser.next().text)
-    parser.want(":")
     type_ = parser.whole()
     yield from (Member(it, type_, block.comment) for it in names)
 
@@ -238,16 +237,13 @@ def signature(tokens: Sequence[Token], block: Block, marks: str) -> Definition |
     """The type that tokens give to a name, `f : T` or `f {ℓ} : T`; None where they are a clause."""
     parser = Parser(tokens)
     name, levels = parser.next().text, list[str]()
-    if parser.peek() == "{":
-        parser.next()
+    if parser.takes("{"):
         while parser.peek() not in ("}", ""):
             levels.append(parser.next().text)
         parser.want("}")
-    if parser.peek() != ":":
+    if not parser.takes(":"):
         return None
-    parser.next()
-    type_ = parser.whole()
-    return Definition(name, tuple(levels), type_, block.number, block.comment, "abbrev" in marks)
+    return Definition(name, tuple(levels), parser.whole(), block.number, block.comment, "abbrev" in marks)
 
 
 def clause(tokens: Sequence[Token]) -> tuple[tuple[Term, ...], str, Term]:
@@ -273,10 +269,7 @@ def braced(parser: Parser) -> Implicit:
     """A pattern in braces: `{x}` binds x to the argument of that name."""
     parser.want("{")
     name = parser.next().text
-    term: Term = Name(name)
-    if parser.peek() == "=":
-        parser.next()
-        term = parser.term()
+    term = parser.term() if parser.takes("=") else Name(name)
     parser.want("}")
     return Implicit(name, term)
 

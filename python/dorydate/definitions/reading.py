@@ -13,25 +13,13 @@ from dorydate.definitions.terms import (  # fmt: skip
 
 # infix words: how strongly they bind, and on which side a chain of them is nested
 INFIX = {
-    "↔": (0, "none"),
-    "⊎": (1, "right"),
-    "×": (2, "flat"),
-    "≡": (4, "none"),
-    "≢": (4, "none"),
-    "∙": (30, "right"),
-    "||": (30, "left"),
-    "&&": (35, "left"),
-    "==": (40, "none"),
-    "<": (50, "none"),
-    "≤": (50, "none"),
-    "+": (65, "left"),
-    "-": (65, "left"),
-    "++": (65, "right"),
-    "∷": (67, "right"),
-    "*": (70, "left"),
-    "/": (70, "left"),
-    "%": (70, "left"),
-    "^": (75, "right"),
+    word: (strength, nested)
+    for strength, nested, words in (
+        *((0, "none", "↔"), (1, "right", "⊎"), (2, "flat", "×"), (4, "none", "≡ ≢"), (30, "right", "∙"), (30, "left", "||")),
+        *((35, "left", "&&"), (40, "none", "=="), (50, "none", "< ≤"), (65, "left", "+ -"), (65, "right", "++")),
+        *((67, "right", "∷"), (70, "left", "* / %"), (75, "right", "^")),
+    )
+    for word in words.split()
 }
 PRODUCT = INFIX["×"][0]
 OPENS_STATEMENT = 6  # how strongly the last branch of an `if` binds
@@ -99,10 +87,15 @@ class Parser:
         self.at += 1
         return self.tokens[self.at - 1]
 
+    def takes(self, text: str) -> bool:
+        """Whether the next token is this; then it is read."""
+        found = self.peek() == text and not self.is_done
+        self.at += found
+        return found
+
     def want(self, text: str) -> None:
-        if self.is_done or self.peek() != text:
+        if not self.takes(text):
             raise NotRead(f"line {self.line()}: `{text}` is wanted, and not `{self.peek()}`")
-        self.at += 1
 
     def line(self) -> int:
         return self.tokens[min(self.at, len(self.tokens) - 1)].line if self.tokens else 0
@@ -118,10 +111,7 @@ class Parser:
 
     def term(self) -> Term:
         left = self.operators(0)
-        if self.peek() == "→":
-            self.next()
-            return ForAll(Binder((), left), self.term())
-        return left
+        return ForAll(Binder((), left), self.term()) if self.takes("→") else left
 
     def operators(self, least: int) -> Term:
         """A term whose infix words all bind at least so strongly."""
@@ -140,8 +130,7 @@ class Parser:
             return self.function()
         if word == "let":
             return self.let()
-        if word == "if":
-            self.next()
+        if self.takes("if"):
             condition = self.term()
             self.want("then")
             then = self.term()
@@ -153,8 +142,7 @@ class Parser:
 
     def bound(self, binders: tuple[Binder, ...]) -> Term:
         """What follows binders: a statement about all of these, or about some."""
-        if self.peek() == "→":
-            self.next()
+        if self.takes("→"):
             return for_all(binders, self.term())
         self.want("×")
         return self.product([Part(name, it.type) for it in binders for name in it.names])
@@ -163,15 +151,13 @@ class Parser:
         """The parts of a product, of which these have been read, with the infix word."""
         while True:
             if self.peek() in ("(", "{") and (binders := self.binders()):
-                if self.peek() == "→":
-                    self.next()
+                if self.takes("→"):
                     return Both((*parts, Part(None, for_all(binders, self.term()))))
                 parts += [Part(name, it.type) for it in binders for name in it.names]
             else:
                 parts.append(Part(None, self.operators(PRODUCT + 1)))
-            if self.peek() != "×":
+            if not self.takes("×"):
                 return Both(tuple(parts))
-            self.next()
 
     def binders(self) -> tuple[Binder, ...]:
         found = []
@@ -202,23 +188,19 @@ class Parser:
     def function(self) -> Term:
         self.want("λ")
         parameters: list[Parameter] = []
-        while self.peek() != ".":
+        while not self.takes("."):
             if binder := self.binder():
                 parameters += [Parameter(Name(it), binder.type) for it in binder.names]
             elif self.peek() in ("(", "record"):
                 parameters.append(Parameter(self.atom()))
             else:
                 parameters.append(Parameter(self.plain(self.next())))
-        self.want(".")
         return Function(tuple(parameters), self.term())
 
     def let(self) -> Term:
         self.want("let")
         pattern: Term = self.atom() if self.peek() in ("(", "record") else self.plain(self.next())
-        type_ = None
-        if self.peek() == ":":
-            self.next()
-            type_ = self.term()
+        type_ = self.term() if self.takes(":") else None
         self.want("=")
         value = self.term()
         self.want("in")
@@ -240,8 +222,7 @@ class Parser:
             name = self.next().text
             self.next()
         term = self.term()
-        while self.peek() == ",":
-            self.next()
+        while self.takes(","):
             self.term()
         self.want("}")
         return Implicit(name, term)
@@ -285,8 +266,7 @@ class Parser:
         return term
 
     def in_brackets(self) -> Term:
-        if self.peek() == ")":
-            self.next()
+        if self.takes(")"):
             return Tuple(())
         if self.peek().startswith("◌") and self.peek()[1:] in INFIX:
             word = self.next().text[1:]
@@ -294,8 +274,7 @@ class Parser:
             self.want(")")
             return Section(word, term, True)
         items = [self.term()]
-        while self.peek() == ",":
-            self.next()
+        while self.takes(","):
             if self.peek() != ")":
                 items.append(self.term())
         if self.peek().endswith("◌") and self.peek()[:-1] in INFIX:
@@ -314,32 +293,26 @@ class Parser:
     def record_fields(self) -> tuple[tuple[str, Term], ...]:
         self.want("{")
         found = []
-        while self.peek() != "}":
+        while not self.takes("}"):
             name = self.next().text
             self.want("=")
             found.append((name, self.term()))
-            if self.peek() == ";":
-                self.next()
-        self.want("}")
+            self.takes(";")
         return tuple(found)
 
     def match(self) -> Term:
         of = None if self.peek() in ("[", "[]") else self.atom()
-        if self.peek() == "as":
-            self.next()
+        if self.takes("as"):
             self.atom()
-        if self.peek() == "[]":
-            self.next()
+        if self.takes("[]"):
             return Match(of, ())
         self.want("[")
         cases = []
-        while self.peek() != "]":
-            if self.peek() == "|":
-                self.next()
+        while not self.takes("]"):
+            self.takes("|")
             pattern = self.operators(PRODUCT + 1)
             self.want("↦")
             cases.append(Case(pattern, self.term()))
-        self.want("]")
         return Match(of, tuple(cases))
 
 
