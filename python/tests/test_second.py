@@ -33,7 +33,7 @@ class OfAgda(unittest.TestCase):
         for last, wrong in (("f (suc n)", "Termination"), ("f n", "")):
             made = laws.Modules({})
             made.add("Recursion", ["f : ℕ → ℕ", "f zero = 0", f"f (suc n) = {last}"], ["Base"])
-            self.assertIn(wrong, found := laws.checked(made).said)
+            self.assertIn(wrong, found := laws.checked(made)[0])
             self.assertEqual(bool(wrong), bool(found))
 
     def test_names(self) -> None:
@@ -199,7 +199,6 @@ never l e f = let both : true ≡ false = sym (ap goes e) ∙ f in absurd (cc)
         name = "Rattle.a_test.proofs.Lights"
         library.modules[name] = Module(name, *read_file(text))
         writer = Writer(library)
-        writer.owners = [(name, "Light")]
         lines = laws.items(writer, library.module(name).items, name)
         found = laws.words(library)
         found.add("Lights", lines, [*map(laws.public, ("Base", "Words", "Lemmas")), laws.TACTICS])
@@ -208,7 +207,7 @@ never l e f = let both : true ≡ false = sym (ap goes e) ∙ f in absurd (cc)
     def said(self, text: str) -> str:
         if not shutil.which("agda"):
             self.skipTest("agda is not installed")
-        return laws.checked(self.written(text)).said
+        return laws.checked(self.written(text))[0]
 
     def test_a_clause_of_several_forms_is_written_for_each(self) -> None:
         lines = [it for it in self.written(self.FILE).texts["Lights"].split("\n") if it.startswith("goes-once-of-a-test-Lights ")]

@@ -80,7 +80,7 @@ class Module:
         self.forms: dict[str, Structure] = {}
         self.names: dict[str, tuple[str, str]] = {}  # imported names, with their module and their name there
         self.aliases: dict[str, str] = {}
-        self.passed: dict[str, str] = {}  # names that it passes on, with the module from which
+        self.passed: set[str] = set()  # imported names that it passes on
         self.groups: dict[str, tuple[Binder, ...]] = {}  # what a definition takes before its own arguments
         self.take(items, ())
 
@@ -102,8 +102,7 @@ class Module:
             return
         for here, there in use.names.items():
             self.names[here] = use.module, there
-            if use.is_public:
-                self.passed[here] = use.module
+        self.passed |= {*use.names} if use.is_public else set()
 
 
 def path_of(module: str) -> str:
@@ -145,13 +144,14 @@ class Library:
         return self.meanings[key]
 
     def found(self, module: str, name: str) -> Meaning:
-        """What a module has under a name."""
+        """What a module has under a name: else a word of the library, as the module of words defines it, or only its name."""
         parts = module.split(".")
-        if "declared" in parts and parts[1] != "std":
+        is_library = parts[1:2] == ["std"]
+        if "declared" in parts and not is_library:
             return declared(parts, name)
-        if parts[1:2] == ["std"]:
-            return Word(f"{parts[-1]}.{name}") if parts[-1] == "FinMap" else self.word(name)
-        if self.has(module):
+        if is_library and parts[-1] == "FinMap":
+            return Word(f"FinMap.{name}")
+        if not is_library and self.has(module):
             here = self.module(module)
             if name in here.own:
                 it = here.own[name]
@@ -159,16 +159,8 @@ class Library:
             if name in here.forms:
                 return Form(here.forms[name].name, name, module=module)
             if name in here.passed:
-                return self.found(here.names[name][0], here.names[name][1])
-        if module == WORDS:
-            return Word(name)
-        return self.word(name)
-
-    def word(self, name: str) -> Meaning:
-        """A word of the library: as the module of words defines it, or else only its name."""
-        if self.has(WORDS) and (name in self.module(WORDS).own or name in self.module(WORDS).forms):
-            return self.found(WORDS, name)
-        return Word(name)
+                return self.found(*here.names[name])
+        return Word(name) if module == WORDS else self.found(WORDS, name)
 
 
 def declared(parts: list[str], name: str) -> Meaning:

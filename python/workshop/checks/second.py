@@ -45,7 +45,7 @@ def in_agda() -> list[str]:
     if not shutil.which("agda"):
         lacking("second", f"Agda over the {what}", "Agda")
         return wrong
-    said = laws.checked(both).said
+    said, _ = laws.checked(both)
     print(f"check second: Agda: {what}: {'refused' if said else 'each is well typed, and each recursion ends'}", flush=True)
     return wrong + ([f"Agda: {said[:2000]}"] if said else [])
 

@@ -63,7 +63,6 @@ class Writer:
     def __init__(self, library: Library) -> None:
         self.library = library
         self.rust = Rust()
-        self.owners: Sequence[tuple[str, str]] = ()  # the data that were reached
         self.parameters: Local = NO_NAMES  # of the group of definitions
         self.fresh = 0
 
@@ -132,7 +131,7 @@ class Writer:
 
     def form(self, meaning: Form) -> str:
         """A constructor, with its type before it."""
-        if (meaning.module, meaning.type) in self.owners:
+        if meaning.module:
             return f"{self.name_of(meaning.module, meaning.type)}.{mangled(meaning.name)}"
         self.rust.write(meaning.type, meaning.crate)
         return f"{meaning.type}°.{mangled(meaning.name)}"
@@ -317,11 +316,10 @@ class Writer:
         meaning = self.meaning_of(term, module)
         if not isinstance(meaning, Form):
             return None
-        own, owner = self.form(meaning), (meaning.module, meaning.type)
-        if owner in self.owners:
-            structure = self.library.module(owner[0]).own[owner[1]]
-            assert isinstance(structure, Structure)
-            all_ = [(f"{self.name_of(*owner)}.{mangled(it.name)}", arity(it.type)) for it in structure.members]
+        own = self.form(meaning)
+        if meaning.module:
+            structure = self.library.module(meaning.module).forms[meaning.name]
+            all_ = [(f"{self.name_of(meaning.module, meaning.type)}.{mangled(it.name)}", arity(it.type)) for it in structure.members]
         else:
             lines = [line.strip().partition(" : ") for line in self.rust.written[meaning.type][1:]]
             all_ = [(f"{meaning.type}°.{form}", type_.count("→")) for form, _, type_ in lines]

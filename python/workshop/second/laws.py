@@ -49,7 +49,6 @@ def of_page(judge: Judge, clauses: Sequence[str]) -> Modules:
     """The definitions to which the clauses of some files lead, as one module."""
     reach = judge.reach(*clauses)
     writer = Writer(judge.library)
-    writer.owners = [*owners(reach, [])]
     lines = [line for it in reach.definitions.values() for line in writer.written(it)]
     if opaque := " ".join(f"({it}° : Set)" for it in writer.rust.opaque):
         lines = [f"module _ {opaque} where", *(f"  {it}" if it else it for it in lines)]
@@ -64,7 +63,6 @@ def of_laws(library: Library, crate: str) -> Modules:
     files = in_order(library, files_of(crate))
     reach = reached(library, files)
     writer = Writer(library)
-    writer.owners = [*owners(reach, files)]
     laws = words(library)
     specs = [line for it in below(reach, files) for line in writer.written(it)]
     laws.definitions = sum(1 for _ in below(reach, files))
@@ -78,18 +76,15 @@ def of_laws(library: Library, crate: str) -> Modules:
         is_answer = any(it.endswith(".Goals") for it in here.aliases.values())
         laws.answers += many if is_answer else 0
         laws.lemmas += 0 if is_answer else many
-        laws.add(module_name(name), [*items(writer, here.items, name)], [*before, TACTICS])
+        laws.add(module_name(name), items(writer, here.items, name), [*before, TACTICS])
         before.append(module_name(name))
     return laws
 
 
 def words(library: Library) -> Modules:
     """The words of the library, as a module."""
-    writer = Writer(library)
-    here = library.module(WORDS)
-    writer.owners = [(WORDS, name) for name, it in here.own.items() if isinstance(it, Structure)]
     found = Modules({})
-    found.add("Words", [*items(writer, here.items, WORDS)], ["Base"])
+    found.add("Words", items(Writer(library), library.module(WORDS).items, WORDS), ["Base"])
     return found
 
 
@@ -138,15 +133,6 @@ def below(reach: Reach, files: Sequence[str]) -> Iterator[Defined | Typed]:
                 yield reach.definitions[module, name]
 
 
-def owners(reach: Reach, files: Sequence[str]) -> Iterator[tuple[str, str]]:
-    """The data that occur."""
-    yield from (key for key, it in reach.definitions.items() if isinstance(it, Typed) and not it.item.is_record)
-    for name in files:
-        for own in reach.library.module(name).own.values():
-            if isinstance(own, Structure) and not own.is_record and (name, own.name) not in reach.definitions:
-                yield name, own.name
-
-
 def public(module: str) -> str:
     """An import that is passed on: of a module, or of some names of it."""
     name, using, names = module.partition(" using ")
@@ -173,16 +159,8 @@ def items(writer: Writer, found: Sequence[Item], module: str) -> Iterator[str]:
             yield from writer.written(Defined(module, it) if isinstance(it, Definition) else Typed(module, it))
 
 
-@dataclass(frozen=True)
-class Checked:
-    """What Agda said of some modules: nothing where it finds nothing; and in how many seconds of the processor."""
-
-    said: str
-    seconds: float
-
-
-def checked(modules: Modules) -> Checked:
-    """Has Agda check some modules."""
+def checked(modules: Modules) -> tuple[str, float]:
+    """What Agda says is wrong with some modules, nothing where it finds nothing; and its seconds of the processor."""
     with tempfile.TemporaryDirectory() as room:
         for it in BY_HAND:
             shutil.copy(file_of(it), room)
@@ -193,7 +171,7 @@ def checked(modules: Modules) -> Checked:
         ran = subprocess.run(["agda", "All.agda"], cwd=room, capture_output=True, text=True, check=False)
         after = resource.getrusage(resource.RUSAGE_CHILDREN)
     said = "" if ran.returncode == 0 else ran.stdout + ran.stderr
-    return Checked(said, after.ru_utime + after.ru_stime - before.ru_utime - before.ru_stime)
+    return said, after.ru_utime + after.ru_stime - before.ru_utime - before.ru_stime
 
 
 def file_of(module: str) -> Path:
@@ -209,11 +187,11 @@ def faults() -> list[str]:
     wrong = []
     for crate in CRATES:
         laws = deeply(partial(of_laws, Library(sources()), crate))
-        found = checked(laws)
+        said, seconds = checked(laws)
         what = f"{laws.lemmas} lemmas and {laws.answers} answers, over {laws.definitions} definitions"
-        said = "refused" if found.said else "each is checked"
-        print(f"check second: Agda: {crate}: {what}: {said} ({found.seconds:.0f} s of the processor)", flush=True)
-        wrong += [f"{crate}: {found.said[-2000:]}"] if found.said else []
+        found = "refused" if said else "each is checked"
+        print(f"check second: Agda: {crate}: {what}: {found} ({seconds:.0f} s of the processor)", flush=True)
+        wrong += [f"{crate}: {said[-2000:]}"] if said else []
     lines = [f"{it.name} {it.read_text(encoding='utf-8').count(chr(10))} lines" for it in [*map(file_of, BY_HAND), WORDS_FILE]]
     print(f"check second: by hand: {', '.join(lines)}", flush=True)
     return wrong
