@@ -31,7 +31,7 @@ fn found_in(arrivals: &[Arrival], place: Option<usize>) -> Option<Arrival>
 }
 
 /// Returns from which message on one had gone out between each that came in and the next, up to the one with a number, before
-/// which so many had gone out, and after this.
+/// which that many had gone out, and after this.
 fn risen(last: Arrival, number: usize, sent: usize) -> usize
     ensures { result ≡ tests.risen last number sent }
 {
@@ -43,7 +43,7 @@ fn risen(last: Arrival, number: usize, sent: usize) -> usize
 }
 
 /// Returns from which message of a flow on one had gone out between each that came in and the next, up to the one with a
-/// number, before which so many had gone out. Of some earlier ones it is known.
+/// number, before which that many had gone out. Of some earlier ones it is known.
 fn since_of(into: &Joined, arrivals: &[Arrival], flow: &Flow, number: usize, sent: usize) -> usize
     ensures { (log : List Crossing) → AreJoined true log into.now → AreArrivals (length arrivals.now) arrivals.now log → IsSteady flow.now log number sent result }
 {

@@ -18,7 +18,7 @@ use interface::Flow;
 use net_sim::Life;
 
 /// Returns whether the message that came in with a number on a receiving life's flow went out as the one with its number
-/// of a life that it matches; also where so many didn't come in.
+/// of a life that it matches; also where that many didn't come in.
 fn was_sent(
     into: &Joined,
     arrivals: &[Arrival],
@@ -96,8 +96,8 @@ fn is_steady(into: &Joined, arrivals: &[Arrival], flow: &Flow, first: usize, num
     }
 }
 
-/// Returns the number after that of the last message that a life counts, among those of its flow that came in: so many had
-/// come in before it, and so many have in all.
+/// Returns the number after that of the last message that a life counts, among those of its flow that came in: that many had
+/// come in before it, and that many have in all.
 fn past_of(before: usize, messages: u128, count: usize) -> usize
     ensures inside { (n : ℕ) → before ≤ n → n < result → n < before + messages }
     ensures all { (n : ℕ) → before ≤ n → n < before + messages → n < count → n < result }

@@ -9,7 +9,7 @@ use Rattle.book_judge.specs.declared.arrivals.Arrival.{Arrival}
 abbrev pub sent_by : Flow → List Crossing → ℕ → ℕ
 sent_by f log place = length (texts_by false f (take place log))
 
--- of the messages of a flow that came in: from one on up to another, before which so many had gone out, one more had gone
+-- of the messages of a flow that came in: from one on up to another, before which that many had gone out, one more had gone
 -- out before each next one
 abbrev pub IsSteady : Flow → List Crossing → ℕ → ℕ → ℕ → Type 0
 IsSteady f log n sent since =
@@ -32,12 +32,12 @@ abbrev pub found_in : List Arrival → Option ℕ → Option Arrival
 found_in arrivals None = None
 found_in arrivals (Some place) = slice_get arrivals place
 
--- from which message on it is so up to another, before which so many had gone out: from as far as up to the last before it,
+-- from which message on it is so up to another, before which that many had gone out: from as far as up to the last before it,
 -- if one more had
 abbrev pub risen : Arrival → ℕ → ℕ → ℕ
 risen e n sent = if nat_lt e.sent sent && (sent - e.sent) == 1 then e.since else n
 
--- of the message of a flow that came in with a number, or that so many didn't
+-- of the message of a flow that came in with a number, or that that many didn't
 abbrev pub ArrivalOf : Flow → List Crossing → ℕ → Option Arrival → Type 0
 ArrivalOf f log n None = (place : ℕ) → IsNth true f log n place → ⊥
 ArrivalOf f log n (Some e) = (place : ℕ) × IsNth true f log n place × IsArrival f log n place e

@@ -96,7 +96,7 @@ HasNumber n f was is = NumberBy (map.get was.numbers f) n f was is
 
 -- ---- numbers
 
--- the message of a flow with this number crosses at a place: so many crossed before it
+-- the message of a flow with this number crosses at a place: that many crossed before it
 abbrev pub IsNth : Bool → Flow → List Crossing → ℕ → ℕ → Type 0
 IsNth comes f log n place =
     (place < length log) × (length (texts_by comes f (take place log)) ≡ n) × (length (texts_by comes f (take (suc place) log)) ≡ suc n)
