@@ -116,7 +116,7 @@ def known_value(slot: Slot) -> Value | None:
     return found if isinstance(found, (int, Data, Struct)) else None
 
 
-@dataclass(frozen=True)
+@dataclass(eq=False, slots=True)
 class Goal:
     """A statement of the values of names, and the evidence that is made where it holds, if anybody looks at that."""
 
