@@ -33,7 +33,6 @@ class Clause:
     patterns: tuple[Term, ...]
     value: Term
     where: tuple[Definition, ...]
-    line: int
 
     @property
     def given(self) -> tuple[Term, ...]:
@@ -46,7 +45,6 @@ class Definition:
     name: str
     levels: tuple[str, ...]
     type: Term
-    line: int
     comment: str = ""
     is_abbreviation: bool = False
     clauses: list[Clause] = field(default_factory=list)
@@ -70,7 +68,6 @@ class Structure:
     type: Term
     members: tuple[Member, ...]
     is_record: bool
-    line: int
     comment: str = ""
 
 
@@ -191,7 +188,7 @@ class FileReader:
         parser.want(":")
         type_ = parser.whole()
         members = [member for it in blocks_of(rest) if not it.head.startswith("deriving") for member in members_of(it)]
-        return Structure(name, binders, type_, tuple(members), is_record, block.number, block.comment)
+        return Structure(name, binders, type_, tuple(members), is_record, block.comment)
 
     def signature_or_clause(self, block: Block, found: list[Item]) -> None:
         before, rest = split_where(block) if block.has_where else (block.text, ())
@@ -205,7 +202,7 @@ class FileReader:
         if of is None:
             raise NotRead(f"line {block.number}: `{name}` has no type")
         where = tuple(it for it in self.items_of(rest) if isinstance(it, Definition))
-        of.clauses.append(Clause(patterns, value, where, block.number))
+        of.clauses.append(Clause(patterns, value, where))
 
 
 def use_of(found: re.Match[str]) -> Use:
@@ -243,7 +240,7 @@ def signature(tokens: Sequence[Token], block: Block, marks: str) -> Definition |
         parser.want("}")
     if not parser.takes(":"):
         return None
-    return Definition(name, tuple(levels), parser.whole(), block.number, block.comment, "abbrev" in marks)
+    return Definition(name, tuple(levels), parser.whole(), block.comment, "abbrev" in marks)
 
 
 def clause(tokens: Sequence[Token]) -> tuple[tuple[Term, ...], str, Term]:
