@@ -10,7 +10,8 @@ import { label, SIGNS, STROKES } from "./signs.js";
 /** @typedef {import("../state.js").State} State */
 /** @typedef {import("../trace.js").Frame} Frame */
 
-const SHIFTS = [0, 0.12, -0.12, 0.24, -0.24, 0.36, -0.36]; // shares of a line by which a frame keeps off names
+// shares of a line by which a frame keeps off names
+const SHIFTS = [0, 0.06, -0.06, 0.12, -0.12, 0.18, -0.18, 0.24, -0.24, 0.3, -0.3, 0.36, -0.36, 0.42, -0.42];
 const SIGN = 11; // pixels of a frame's sign on a map of dots
 
 /**
@@ -42,10 +43,12 @@ export function drawFrame(map, state, element, { line, way, place, frame, count,
     const along = Math.max(0.06 * length, length / 2 + gap * ((count - 1) / 2 - place));
     const side = factor * (map.layout.small ? 7 : 13);
     const [wayX, wayY] = [(to.x - from.x) / length, (to.y - from.y) / length];
-    const places = (map.layout.small ? SHIFTS : [0]).map((share) => {
+    const at = (/** @type {number} */ share, /** @type {number} */ aside) => {
         const far = Math.min(0.96 * length, Math.max(0.04 * length, along + share * length));
-        return { x: from.x + wayX * far - side * wayY, y: from.y + wayY * far + side * wayX };
-    });
+        return { x: from.x + wayX * far - aside * wayY, y: from.y + wayY * far + aside * wayX };
+    };
+    // beside its line, or else on it, or on the other side
+    const places = map.layout.small ? [side, 0, -side].flatMap((it) => SHIFTS.map((share) => at(share, it))) : [at(0, side)];
     const seen = places.map((it) => map.onScreen(it));
     const free = firstFree(seen, map.layout.unit * SIGN, map.layout.unit * SIGN, map.names);
     const { x, y } = places[free ? seen.indexOf(free) : 0];
