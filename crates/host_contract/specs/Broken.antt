@@ -1,9 +1,10 @@
--- Own logs each of which breaks one rule and keeps all others. They are read newest first.
+-- Own logs each of which breaks one rule and keeps all others; two (`no_link`, `sizeless`) break two. They are read
+-- newest first.
 use Rattle.std.specs.Prelude.{true, List, [], ◌∷◌, ◌++◌}
 use Rattle.interface.specs.declared.crossing.Answer.TheVariants as answer
 use Rattle.ncp_control.specs.declared.command.Command.TheVariants as command
-use Rattle.host_contract.specs.Acts.{Act, Says, Sends, Takes, Hears, Ignores, Answered, Stops, Starts, Else, Hands}
-use Rattle.host_contract.specs.Acts.{Grants, Closes, Opened, Arrived, Returned, Ended}
+use Rattle.host_contract.specs.Acts.{Act, Says, Sends, Takes, Hears, Ignores, Answered, Stops, Starts, Else, Contacts}
+use Rattle.host_contract.specs.Acts.{Asks, Hands, Grants, Closes, Opened, Arrived, Returned, Ended}
 use Rattle.host_contract.specs.Example.{to_me, from_me, letter, text, one, taken, said, met, asked, receiving, sending}
 use Rattle.host_contract.specs.Example.{granted, allowed, sent, arrived}
 
@@ -81,6 +82,19 @@ owed = said command.Nop (Hears command.Rst ∷ [])
 abbrev pub own_reset : List Act
 own_reset = Grants to_me 1 8 ∷ said command.Rst receiving
 
+-- a user who asks for a reset drops what there is: one grants at a dropped end, or a request goes before the RST
+abbrev pub contacted : List Act
+contacted = Grants to_me 1 8 ∷ Contacts ∷ receiving
+
+abbrev pub not_yet : List Act
+not_yet = said (command.Rts 16 33 2) (Contacts ∷ met)
+
+-- the RRP fails that answers an RST which crossed the host's own
+abbrev pub crossed_failed : List Act
+crossed_failed =
+    said (command.Rts 16 33 2)
+    (Answered 0 answer.Incomplete ∷ said command.Rrp (Hears command.Rst ∷ taken (said command.Rst [])))
+
 -- ---- requests and CLS
 
 -- an end asks twice, or a receiver asks by an STR
@@ -93,9 +107,24 @@ once_more = Says (command.Str 33 16 36) ∷ said (command.Str 33 16 8) met
 abbrev pub unformed : List Act
 unformed = said (command.Str 16 33 8) met
 
+-- of a request one socket can't be its partner's: two even ones, two odd ones
+abbrev pub both_even : List Act
+both_even = said (command.Rts 16 34 2) met
+
+abbrev pub both_odd : List Act
+both_odd = said (command.Str 33 17 8) met
+
+-- link 0 is that of control commands, and of no connection in any profile
+abbrev pub no_link : List Act
+no_link = said (command.Rts 16 33 0) met
+
 -- two ends have one link, though one of them isn't open
 abbrev pub link : List Act
 link = Says (command.Rts 18 35 2) ∷ said (command.Rts 16 33 2) met
+
+-- an end has its link until its partner's CLS
+abbrev pub still_linked : List Act
+still_linked = Says (command.Rts 18 35 2) ∷ Says (command.Cls 16 33) ∷ said (command.Rts 16 33 2) met
 
 -- a CLS for nothing, for a request that was ignored, and a second one
 abbrev pub closes : List Act
@@ -103,6 +132,24 @@ closes = said (command.Cls 16 33) met
 
 abbrev pub unheard : List Act
 unheard = said (command.Cls 33 16) (Ignores (command.Rts 16 33 2) ∷ met)
+
+-- for what is no request: of two odd sockets, of two even ones, or with link 0
+abbrev pub unreadable : List Act
+unreadable = said (command.Cls 33 17) (Hears (command.Rts 17 33 2) ∷ met)
+
+abbrev pub unsendable : List Act
+unsendable = said (command.Cls 16 34) (Hears (command.Str 34 16 8) ∷ met)
+
+abbrev pub linkless : List Act
+linkless = said (command.Cls 33 16) (Hears (command.Rts 16 33 0) ∷ met)
+
+-- for another connection of a socket that has asked, or for one whose request came after its CLS
+abbrev pub other_sockets : List Act
+other_sockets = said (command.Cls 16 35) (said (command.Rts 16 33 2) met)
+
+abbrev pub behind_time : List Act
+behind_time =
+    said (command.Cls 33 16) (Hears (command.Rts 16 33 2) ∷ Hears (command.Cls 16 33) ∷ Asks from_me ∷ met)
 
 abbrev pub twice : List Act
 twice = Says (command.Cls 16 33) ∷ Says (command.Cls 16 33) ∷ said (command.Rts 16 33 2) met
@@ -143,9 +190,16 @@ ended = Ended to_me ∷ Hears (command.Cls 33 16) ∷ receiving
 abbrev pub unwished : List Act
 unwished = Ended from_me ∷ Says (command.Cls 33 16) ∷ said (command.Str 33 16 8) (Hears (command.Cls 16 33) ∷ met)
 
+-- or a reset dropped it
+abbrev pub reset_over : List Act
+reset_over = Ended to_me ∷ Hears command.Rst ∷ receiving
+
 -- link 40 is named, or opens an end though the request was ignored, or has data
 abbrev pub links : List Act
 links = said (command.Rts 16 33 40) met
+
+abbrev pub link_one : List Act
+link_one = said (command.Rts 16 33 1) met
 
 abbrev pub unlinked : List Act
 unlinked = Opened from_me ∷ said (command.Str 33 16 8) (Ignores (command.Rts 16 33 40) ∷ met)
@@ -170,9 +224,22 @@ after = Sends 2 one ∷ Hears (command.Cls 16 33) ∷ allowed
 abbrev pub behind_cls : List Act
 behind_cls = Sends 2 one ∷ said (command.Cls 33 16) (Closes from_me ∷ allowed)
 
+-- data go on another link than the sending end's, or on the link of a receiving end
+abbrev pub elsewhere : List Act
+elsewhere = Sends 3 one ∷ allowed
+
+abbrev pub backwards : List Act
+backwards = Sends 2 one ∷ granted
+
 -- two bytes of four bits go where the STR named eight
 abbrev pub size : List Act
 size = Sends 2 (text 4 2 letter) ∷ allowed
+
+-- bytes without bits are none: the STR is no request, and data of its size are in no bytes
+abbrev pub sizeless : List Act
+sizeless =
+    Sends 2 (text 0 1 []) ∷ Hears (command.All 2 1 8) ∷ Opened from_me ∷
+    said (command.Str 33 16 0) (Hears (command.Rts 16 33 2) ∷ met)
 
 -- no message is granted, or too few bits
 abbrev pub within : List Act
@@ -188,12 +255,30 @@ handed = Sends 2 one ∷ Hears (command.All 2 1 8) ∷ sending
 abbrev pub repeated : List Act
 repeated = Sends 2 one ∷ Hears (command.All 2 1 8) ∷ Answered 2 answer.Rfnm ∷ sent
 
+-- bits are handed over before the end is open, or at a receiving one
+abbrev pub hasty : List Act
+hasty = Hands from_me letter ∷ said (command.Str 33 16 8) (Hears (command.Rts 16 33 2) ∷ met)
+
+abbrev pub misplaced : List Act
+misplaced = Hands to_me letter ∷ receiving
+
 -- an ALL says what nobody granted, or grants twice
 abbrev pub grants : List Act
 grants = said (command.All 2 1 8) receiving
 
 abbrev pub doubled : List Act
 doubled = said (command.All 2 1 8) granted
+
+-- or goes after the end's CLS, or on a link that it doesn't have
+abbrev pub granted_late : List Act
+granted_late = Says (command.All 2 1 8) ∷ said (command.Cls 16 33) (Closes to_me ∷ Grants to_me 1 8 ∷ receiving)
+
+abbrev pub all_elsewhere : List Act
+all_elsewhere = said (command.All 3 1 8) (Grants to_me 1 8 ∷ receiving)
+
+-- a user grants before the end has asked
+abbrev pub granted_unasked : List Act
+granted_unasked = Grants to_me 1 8 ∷ Hears (command.Str 33 16 8) ∷ met
 
 -- a message is sent, or returned again, that was returned
 abbrev pub returns : List Act
@@ -204,6 +289,13 @@ counted = said (command.Ret 2 1 0) (Answered 2 answer.Rfnm ∷ sent)
 
 abbrev pub more : List Act
 more = Says (command.Ret 2 1 0) ∷ said (command.Ret 2 1 0) allowed
+
+-- something is returned after the end's CLS, or of an ALL that came after the partner's
+abbrev pub returns_late : List Act
+returns_late = Says (command.Ret 2 1 8) ∷ said (command.Cls 33 16) (Closes from_me ∷ allowed)
+
+abbrev pub late_all : List Act
+late_all = said (command.Ret 2 1 8) (Hears (command.All 2 1 8) ∷ Hears (command.Cls 16 33) ∷ sending)
 
 -- a user is notified of data that didn't come, of others, of what isn't granted, or of what comes after a gap
 abbrev pub takes : List Act
@@ -217,6 +309,18 @@ ungranted = Arrived to_me letter ∷ Takes 2 one ∷ receiving
 
 abbrev pub gap : List Act
 gap = Arrived to_me letter ∷ Takes 2 one ∷ Takes 2 one ∷ Closes to_me ∷ granted
+
+-- one message is granted, and it has been counted, or given back, or is waiting for the size
+abbrev pub beyond : List Act
+beyond = Arrived to_me letter ∷ Takes 2 one ∷ arrived
+
+abbrev pub taken_back : List Act
+taken_back = Arrived to_me letter ∷ Takes 2 one ∷ Returned to_me 1 8 ∷ Hears (command.Ret 2 1 8) ∷ granted
+
+abbrev pub second : List Act
+second =
+    Arrived to_me letter ∷ Arrived to_me letter ∷ Opened to_me ∷ Hears (command.Str 33 16 8) ∷ Takes 2 one ∷
+    Takes 2 one ∷ Grants to_me 1 8 ∷ asked
 
 abbrev pub other_size : List Act
 other_size =
@@ -233,6 +337,17 @@ returned = Returned to_me 1 8 ∷ granted
 
 abbrev pub used : List Act
 used = Returned to_me 1 0 ∷ Hears (command.Ret 2 1 0) ∷ arrived
+
+-- or twice what one RET said, or before the user knows that the end is open
+abbrev pub returned_twice : List Act
+returned_twice =
+    Returned to_me 1 8 ∷ Returned to_me 1 8 ∷ Hears (command.Ret 2 1 8) ∷
+    taken (said (command.All 2 2 16) (Grants to_me 2 16 ∷ receiving))
+
+abbrev pub returned_early : List Act
+returned_early =
+    Returned to_me 1 8 ∷ Hears (command.Ret 2 1 8) ∷
+    taken (said (command.All 2 1 8) (Grants to_me 1 8 ∷ Hears (command.Str 33 16 8) ∷ asked))
 
 -- an ALL goes before the partner has asked
 abbrev pub waits : List Act

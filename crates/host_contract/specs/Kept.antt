@@ -76,6 +76,16 @@ refused_link =
     Says (command.Str 33 16 8) ∷ said (command.Cls 35 18)
     (Hears (command.Rts 16 33 2) ∷ Hears (command.Rts 18 35 2) ∷ met)
 
+-- and so already for an ALL that comes before the request of the other end goes
+abbrev pub refused_first : List Act
+refused_first =
+    Sends 2 one ∷ Hands from_me letter ∷ Opened from_me ∷ said (command.Str 33 16 8) (Hears (command.All 2 1 8) ∷
+    taken (said (command.Cls 35 18) (Hears (command.Rts 16 33 2) ∷ Hears (command.Rts 18 35 2) ∷ met)))
+
+-- a request is refused that names link 1, which no connection of this profile has
+abbrev pub refused_one : List Act
+refused_one = said (command.Cls 33 16) (Hears (command.Rts 16 33 1) ∷ met)
+
 -- a second request of the partner for one end is nothing
 abbrev pub asked_twice : List Act
 asked_twice =
@@ -86,6 +96,10 @@ asked_twice =
 abbrev pub in_parts : List Act
 in_parts =
     said (command.All 2 1 8) (taken (said (command.All 2 1 8) (Grants to_me 2 16 ∷ receiving)))
+
+-- two grants are said by one ALL
+abbrev pub granted_twice : List Act
+granted_twice = said (command.All 2 2 16) (Grants to_me 1 8 ∷ Grants to_me 1 8 ∷ receiving)
 
 abbrev pub back_in_parts : List Act
 back_in_parts =
@@ -100,6 +114,23 @@ refused = said (command.Cls 33 16) (Hears (command.Rts 16 33 2) ∷ met)
 abbrev pub sized : List Act
 sized = Arrived to_me letter ∷ Opened to_me ∷ Hears (command.Str 33 16 8) ∷ Takes 2 one ∷ Grants to_me 1 8 ∷ asked
 
+-- two messages are granted and counted: one after the other, or both after the size was named
+abbrev pub each : List Act
+each =
+    Arrived to_me letter ∷ Takes 2 one ∷ Arrived to_me letter ∷ Takes 2 one ∷
+    taken (said (command.All 2 2 16) (Grants to_me 2 16 ∷ receiving))
+
+abbrev pub both : List Act
+both =
+    Arrived to_me letter ∷ Arrived to_me letter ∷ Opened to_me ∷ Hears (command.Str 33 16 8) ∷ Takes 2 one ∷
+    Takes 2 one ∷ Grants to_me 2 16 ∷ asked
+
+-- the STR names bytes of one bit
+abbrev pub single_bits : List Act
+single_bits =
+    Sends 2 (text 1 8 letter) ∷ Hands from_me letter ∷ Hears (command.All 2 1 8) ∷ Opened from_me ∷
+    said (command.Str 33 16 1) (Hears (command.Rts 16 33 2) ∷ met)
+
 -- an end that was closed may pass over a message, and so may one whose partner's CLS came
 abbrev pub passed : List Act
 passed = Else ∷ Takes 2 one ∷ Closes to_me ∷ granted
@@ -107,6 +138,10 @@ passed = Else ∷ Takes 2 one ∷ Closes to_me ∷ granted
 -- a grant comes back, and its user is notified
 abbrev pub came_back : List Act
 came_back = Returned to_me 1 8 ∷ Hears (command.Ret 2 1 8) ∷ granted
+
+-- it comes back in two parts
+abbrev pub parts_back : List Act
+parts_back = Returned to_me 0 8 ∷ Hears (command.Ret 2 0 8) ∷ Returned to_me 1 0 ∷ Hears (command.Ret 2 1 0) ∷ granted
 
 -- the answer has come, and the end may close
 abbrev pub answered : List Act

@@ -26,6 +26,9 @@ pub fn worked_resets()
     ensures forgets { broken log.forgets ≡ rule.Forgets ∷ [] }
     ensures dropped { broken log.dropped ≡ rule.Forgets ∷ [] }
     ensures own_reset { broken log.own_reset ≡ rule.Forgets ∷ [] }
+    ensures contacted { broken log.contacted ≡ rule.Forgets ∷ [] }
+    ensures not_yet { broken log.not_yet ≡ rule.Through ∷ [] }
+    ensures crossed_failed { broken log.crossed_failed ≡ rule.Failed ∷ [] }
     ensures reply { broken log.reply ≡ rule.Reply ∷ [] }
     ensures owed { broken log.owed ≡ rule.Reply ∷ [] }
 {}
@@ -35,9 +38,18 @@ pub fn worked_requests()
     ensures once { broken log.once ≡ rule.Once ∷ [] }
     ensures once_more { broken log.once_more ≡ rule.Once ∷ [] }
     ensures unformed { broken log.unformed ≡ rule.Once ∷ [] }
+    ensures both_even { broken log.both_even ≡ rule.Once ∷ [] }
+    ensures both_odd { broken log.both_odd ≡ rule.Once ∷ [] }
+    ensures no_link { broken log.no_link ≡ rule.Once ∷ rule.Links ∷ [] }
     ensures link { broken log.link ≡ rule.Link ∷ [] }
+    ensures still_linked { broken log.still_linked ≡ rule.Link ∷ [] }
     ensures closes { broken log.closes ≡ rule.Closes ∷ [] }
     ensures unheard { broken log.unheard ≡ rule.Closes ∷ [] }
+    ensures unreadable { broken log.unreadable ≡ rule.Closes ∷ [] }
+    ensures unsendable { broken log.unsendable ≡ rule.Closes ∷ [] }
+    ensures linkless { broken log.linkless ≡ rule.Closes ∷ [] }
+    ensures other_sockets { broken log.other_sockets ≡ rule.Closes ∷ [] }
+    ensures behind_time { broken log.behind_time ≡ rule.Closes ∷ [] }
     ensures twice { broken log.twice ≡ rule.Closes ∷ [] }
     ensures over { broken log.over ≡ rule.Over ∷ [] }
     ensures drained { broken log.drained ≡ rule.Drained ∷ [] }
@@ -49,7 +61,9 @@ pub fn worked_requests()
     ensures given_up { broken log.given_up ≡ rule.Opens ∷ [] }
     ensures ended { broken log.ended ≡ rule.Ended ∷ [] }
     ensures unwished { broken log.unwished ≡ rule.Ended ∷ [] }
+    ensures reset_over { broken log.reset_over ≡ rule.Ended ∷ [] }
     ensures links { broken log.links ≡ rule.Links ∷ [] }
+    ensures link_one { broken log.link_one ≡ rule.Links ∷ [] }
     ensures unlinked { broken log.unlinked ≡ rule.Links ∷ [] }
     ensures on_forty { broken log.on_forty ≡ rule.Links ∷ [] }
 {}
@@ -60,24 +74,39 @@ pub fn worked_streams()
     ensures unknown { broken log.unknown ≡ rule.Sends ∷ [] }
     ensures after { broken log.after ≡ rule.Sends ∷ [] }
     ensures behind_cls { broken log.behind_cls ≡ rule.Sends ∷ [] }
+    ensures elsewhere { broken log.elsewhere ≡ rule.Sends ∷ [] }
+    ensures backwards { broken log.backwards ≡ rule.Sends ∷ [] }
     ensures size { broken log.size ≡ rule.Size ∷ [] }
+    ensures sizeless { broken log.sizeless ≡ rule.Once ∷ rule.Size ∷ [] }
     ensures within { broken log.within ≡ rule.Within ∷ [] }
     ensures wide { broken log.wide ≡ rule.Within ∷ [] }
     ensures handed { broken log.handed ≡ rule.Handed ∷ [] }
     ensures repeated { broken log.repeated ≡ rule.Handed ∷ [] }
+    ensures hasty { broken log.hasty ≡ rule.Handed ∷ [] }
+    ensures misplaced { broken log.misplaced ≡ rule.Handed ∷ [] }
     ensures grants { broken log.grants ≡ rule.Grants ∷ [] }
     ensures doubled { broken log.doubled ≡ rule.Grants ∷ [] }
+    ensures granted_late { broken log.granted_late ≡ rule.Grants ∷ [] }
+    ensures all_elsewhere { broken log.all_elsewhere ≡ rule.Grants ∷ [] }
+    ensures granted_unasked { broken log.granted_unasked ≡ rule.Grants ∷ [] }
     ensures returns { broken log.returns ≡ rule.Returns ∷ [] }
     ensures counted { broken log.counted ≡ rule.Returns ∷ [] }
     ensures more { broken log.more ≡ rule.Returns ∷ [] }
+    ensures returns_late { broken log.returns_late ≡ rule.Returns ∷ [] }
+    ensures late_all { broken log.late_all ≡ rule.Returns ∷ [] }
     ensures takes { broken log.takes ≡ rule.Takes ∷ [] }
     ensures other { broken log.other ≡ rule.Takes ∷ [] }
     ensures ungranted { broken log.ungranted ≡ rule.Takes ∷ [] }
     ensures gap { broken log.gap ≡ rule.Takes ∷ [] }
+    ensures beyond { broken log.beyond ≡ rule.Takes ∷ [] }
+    ensures taken_back { broken log.taken_back ≡ rule.Takes ∷ [] }
+    ensures second { broken log.second ≡ rule.Takes ∷ [] }
     ensures other_size { broken log.other_size ≡ rule.Takes ∷ [] }
     ensures all { broken log.all ≡ rule.All ∷ [] }
     ensures returned { broken log.returned ≡ rule.Returned ∷ [] }
     ensures used { broken log.used ≡ rule.Returned ∷ [] }
+    ensures returned_twice { broken log.returned_twice ≡ rule.Returned ∷ [] }
+    ensures returned_early { broken log.returned_early ≡ rule.Returned ∷ [] }
     ensures waits { broken log.waits ≡ rule.Waits ∷ [] }
 {}
 
@@ -96,13 +125,20 @@ pub fn worked_kept()
     ensures wished { broken kept.wished ≡ [] }
     ensures at_once { broken kept.at_once ≡ [] }
     ensures refused_link { broken kept.refused_link ≡ [] }
+    ensures refused_first { broken kept.refused_first ≡ [] }
+    ensures refused_one { broken kept.refused_one ≡ [] }
     ensures asked_twice { broken kept.asked_twice ≡ [] }
     ensures in_parts { broken kept.in_parts ≡ [] }
+    ensures granted_twice { broken kept.granted_twice ≡ [] }
     ensures back_in_parts { broken kept.back_in_parts ≡ [] }
     ensures refused { broken kept.refused ≡ [] }
     ensures sized { broken kept.sized ≡ [] }
+    ensures each { broken kept.each ≡ [] }
+    ensures both { broken kept.both ≡ [] }
+    ensures single_bits { broken kept.single_bits ≡ [] }
     ensures passed { broken kept.passed ≡ [] }
     ensures came_back { broken kept.came_back ≡ [] }
+    ensures parts_back { broken kept.parts_back ≡ [] }
     ensures answered { broken kept.answered ≡ [] }
     ensures given_back { broken kept.given_back ≡ [] }
     ensures next { broken kept.next ≡ [] }
