@@ -276,9 +276,12 @@ granted_late = Says (command.All 2 1 8) ∷ said (command.Cls 16 33) (Closes to_
 abbrev pub all_elsewhere : List Act
 all_elsewhere = said (command.All 3 1 8) (Grants to_me 1 8 ∷ receiving)
 
--- a user grants before the end has asked
+-- a user grants before the end has asked, or after its CLS
 abbrev pub granted_unasked : List Act
 granted_unasked = Grants to_me 1 8 ∷ Hears (command.Str 33 16 8) ∷ met
+
+abbrev pub granted_over : List Act
+granted_over = Grants to_me 1 8 ∷ said (command.Cls 16 33) (Closes to_me ∷ receiving)
 
 -- a message is sent, or returned again, that was returned
 abbrev pub returns : List Act

@@ -89,6 +89,7 @@ pub fn worked_streams()
     ensures granted_late { broken log.granted_late ≡ rule.Grants ∷ [] }
     ensures all_elsewhere { broken log.all_elsewhere ≡ rule.Grants ∷ [] }
     ensures granted_unasked { broken log.granted_unasked ≡ rule.Grants ∷ [] }
+    ensures granted_over { broken log.granted_over ≡ rule.Grants ∷ [] }
     ensures returns { broken log.returns ≡ rule.Returns ∷ [] }
     ensures counted { broken log.counted ≡ rule.Returns ∷ [] }
     ensures more { broken log.more ≡ rule.Returns ∷ [] }
