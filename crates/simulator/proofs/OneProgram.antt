@@ -60,10 +60,10 @@ no_input options left before after ends = elim (ends.read refl) [
   | inr is ↦ no_parts _ _ is.2.parted
 ]
 
-none_read : (first : List ℕ) (x : ℕ) → [] ≡ first ++ x ∷ [] → ⊥
+none_read : (first : List ℕ) (x : ℕ) → first ++ x ∷ [] ≡ [] → ⊥
 none_read [] x e = cc
 none_read (y ∷ first) x e = cc
 
 pub invented : (options : Options) (x : ℕ) (unread : Bool) (before after : Option (List ℕ))
     → EndsReplay options (sides (Some []) (Some (x ∷ [])) unread before after) (Ok tt) → ⊥
-invented options x unread before after ends = none_read ends.reads.0 x ends.reads.1
+invented options x unread before after ends = none_read ends.reads.0 x (sym ends.reads.1)
