@@ -56,14 +56,12 @@ class Decider(Search):
 
     def meaning(self, term: Term, module: str, scope: Scope) -> Meaning | None:
         """What a name means, or a name of another module; None of a local name, and of all other terms."""
-        if isinstance(term, Name) and term.text not in scope:
+        found = self.library.named(term, module, scope)
+        if found is None and isinstance(term, Name) and term.text not in scope:
             return self.library.meaning(module, term.text)
-        if isinstance(term, Field) and isinstance(term.of, Name) and term.of.text not in scope:
-            if term.of.text in self.library.module(module).aliases:
-                return self.library.meaning(module, term.name, term.of.text)
-            if term.of.text[0].isupper():
-                return Form(term.of.text, term.name)  # a constructor, by its type
-        return None
+        if found is None and isinstance(term, Field) and isinstance(term.of, Name) and term.of.text not in scope:
+            return Form(term.of.text, term.name) if term.of.text[0].isupper() else None  # a constructor, by its type
+        return found
 
     def defined(self, meaning: Defined | Typed) -> Clauses | Fields:
         """A definition, or a record of statements."""

@@ -2,12 +2,12 @@
 
 from __future__ import annotations
 
-from collections.abc import Callable, Sequence
+from collections.abc import Callable, Collection, Sequence
 from dataclasses import dataclass
 from typing import Union
 
 from dorydate.definitions.files import Definition, Group, Item, Structure, Use, read_file
-from dorydate.definitions.terms import Binder
+from dorydate.definitions.terms import Binder, Field, Name
 
 Sources = Callable[[str], "str | None"]  # the text of a file, by its path below `crates`; None where there is no such file
 WORDS = "words"  # the module that has the words of the library
@@ -129,6 +129,16 @@ class Library:
 
     def has(self, name: str) -> bool:
         return name in self.modules or self.sources(path_of(name)) is not None
+
+    def named(self, term: object, module: str, local: Collection[str] = ()) -> Meaning | None:
+        """What a name of a file or of its imports means, or a name of a module that it imports; None of any other term."""
+        here = self.module(module)
+        known: tuple[Collection[str], ...] = (here.own, here.forms, here.names)
+        if isinstance(term, Name) and term.text not in local and any(term.text in it for it in known):
+            return self.meaning(module, term.text)
+        if isinstance(term, Field) and isinstance(term.of, Name) and term.of.text in here.aliases and term.of.text not in local:
+            return self.meaning(module, term.name, term.of.text)
+        return None
 
     def meaning(self, module: str, name: str, alias: str = "") -> Meaning:
         """What a name means in a module, or in one that it imports as a whole."""

@@ -6,7 +6,7 @@ from collections.abc import Iterator
 
 from dorydate.definitions.files import Definition, Structure
 from dorydate.definitions.library import WORDS, Defined, Form, Library, Meaning, NoMeaning, Typed
-from dorydate.definitions.terms import Field, Name, inside
+from dorydate.definitions.terms import Name, inside
 
 
 class Reach:
@@ -41,19 +41,15 @@ def terms_of(item: Definition | Structure) -> tuple[object, ...]:
 def meanings_in(library: Library, term: object, module: str) -> Iterator[Meaning]:
     """What the names in a term mean; of a constructor, the type that it is of. A local name may be that of a definition,
     too: one too many."""
-    here, words = library.module(module), library.module(WORDS)
+    words = library.module(WORDS)
     for it in inside(term):
         try:
-            if isinstance(it, Name) and (it.text in here.own or it.text in here.forms or it.text in here.names):
-                meaning = library.meaning(module, it.text)
-            elif isinstance(it, Name) and it.text in words.own:
-                meaning = library.found(WORDS, it.text)
-            elif isinstance(it, Field) and isinstance(it.of, Name) and it.of.text in {*here.aliases} - {*here.names}:
-                meaning = library.meaning(module, it.name, it.of.text)
-            else:
-                continue
+            meaning = library.named(it, module)
         except NoMeaning:
             continue
+        if meaning is None and isinstance(it, Name) and it.text in words.own:
+            meaning = library.found(WORDS, it.text)
         if isinstance(meaning, Form) and meaning.module:
             meaning = Typed(meaning.module, library.module(meaning.module).forms[meaning.name])
-        yield meaning
+        if meaning is not None:
+            yield meaning

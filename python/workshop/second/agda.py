@@ -75,15 +75,6 @@ class Writer:
         _, crate, _, *file = module.split(".")
         return f"{name}-of-{'-'.join([crate, *file])}".replace("_", "-")
 
-    def meaning_of(self, term: Term, module: str, local: Local = NO_NAMES) -> Meaning | None:
-        """What a name of a file or of its imports means; None of any other term."""
-        here = self.library.module(module)
-        if isinstance(term, Name) and (term.text in here.own or term.text in here.forms or term.text in here.names):
-            return self.library.meaning(module, term.text)
-        if isinstance(term, Field) and isinstance(term.of, Name) and term.of.text in {*here.aliases} - local:
-            return self.library.meaning(module, term.name, term.of.text)
-        return None
-
     def meant(self, term: Term, module: str, local: Local) -> str | None:
         """What a name is in Agda; None of a term that is none."""
         if isinstance(term, Written):
@@ -95,7 +86,7 @@ class Writer:
             if of.endswith(".Goals"):  # the clause of a function: `goal.returns-clause-NAME`
                 said, rows = goal_of(self.library, of, term.name)
                 return f"(⊤ → {self.term(said, rows, NO_NAMES)})"
-        if meaning := self.meaning_of(term, module, local):
+        if meaning := self.library.named(term, module, local):
             assert isinstance(term, (Name, Field))
             return self.of_meaning(meaning, module, term.text if isinstance(term, Name) else term.name)
         return self.built_in(term.text) if isinstance(term, Name) else None
@@ -270,7 +261,7 @@ class Writer:
                 return self.is_statement(body, module)
             case Both(parts):
                 return all(self.is_statement(it.type, module) for it in parts)
-        meaning = self.meaning_of(head_of(type_), module)
+        meaning = self.library.named(head_of(type_), module)
         if isinstance(meaning, Typed):
             return meaning.item.is_record and bool(meaning.item.binders)
         return isinstance(meaning, Defined) and isinstance(result_of(meaning.item.type), Universe)
@@ -313,7 +304,7 @@ class Writer:
             return term.forms
         if isinstance(term, Name) and term.text in TYPE_OF and (term.text == "∷" or self.is_form(term.text, module)):
             return Forms(TYPE_OF[term.text], BUILT_IN_FORMS[TYPE_OF[term.text]], term.text)
-        meaning = self.meaning_of(term, module)
+        meaning = self.library.named(term, module)
         if not isinstance(meaning, Form):
             return None
         own = self.form(meaning)
