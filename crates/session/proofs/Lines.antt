@@ -51,7 +51,7 @@ some_long line h =
     let same : length line ≡ length (ended_line h.0) = ap length h.2 in
     omega (arith, long, same)
 
--- nothing is heard at the end of the input alone
+-- nothing is heard at the end of the input only
 pub nothing : (whole : Bool) (line left : List ℕ) (ended : Bool) → IsHeard whole line left ended → length line ≡ 0
     → (line ≡ []) × (left ≡ []) × (ended ≡ true)
 nothing true line left ended (some, going) none = absurd (let long : 1 ≤ length line = some_long line some in omega (arith, long, none))

@@ -12,7 +12,7 @@ IsLine line = All (λ x. (x == 10) ≡ false) line
 abbrev pub IsEnded : List ℕ → Type 0
 IsEnded octets = (line : List ℕ) × IsLine line × (octets ≡ ended_line line)
 
--- octets begin with a line that has its end, and so many octets
+-- octets begin with a line that has its end; it has this many octets
 pub record EndsAt (octets : List ℕ) (count : ℕ) : Type 0 where
   pub line : List ℕ
   pub rest : List ℕ
@@ -25,7 +25,7 @@ abbrev pub IsHeard : Bool → List ℕ → List ℕ → Bool → Type 0
 IsHeard true line left ended = IsEnded line × (ended ≡ false)
 IsHeard false line left ended = IsLine line × (left ≡ []) × (ended ≡ true)
 
--- a line is what was read earlier and what is read now, up to what is left; and with the latter, so many octets were read
+-- a line is what was read earlier and what is read now, up to what is left; and with the latter, this many octets were read
 pub record Hears (pending line left : List ℕ) (before after : Option (List ℕ)) (read all : ℕ) : Type 0 where
   pub more : List ℕ
   pub parts : pending ++ more ≡ line ++ left

@@ -12,7 +12,7 @@ use script::{LineFault, MAX_INPUT};
 use std::alloc::Global;
 
 /// Hears the lines of a script to the end of the input, and answers each before it hears the next: what its event
-/// shows, and an empty line. Octets of the script that were read already are pending; so many of the input were read.
+/// shows, and an empty line. Octets of the script that were read already are pending; this is how many octets of the input were read.
 ///
 /// Errors: `CannotRead`, `TooLong` and `OutOfMemory` as in [`hear`]; `BadLine` for the first line that is no event, after
 /// the answers to those before it; `CannotWrite`.

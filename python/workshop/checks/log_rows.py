@@ -360,10 +360,10 @@ VERDICTS = [
 TAKES_TWO, SENDS_TWO = OLD.splitlines()[27:29]
 SENT = [
     ("", "", "broken sent lines 28 29"),
-    # the first alone isn't the sender's first, and none is counted
+    # the first only isn't the sender's first, and none is counted
     (TAKES_TWO, TAKES_TWO.replace("2 16 9", "1 8 9").replace("5858", "58"), "broken sent lines 28 29"),
     (TAKES_TWO, TAKES_TWO.replace("2 16 9", "0 0 9").replace("5858", "-"), "kept"),
-    # whichever line is first, the receiver's is named first; and alone where its sender isn't there
+    # whichever line is first, the receiver's is named first; and nobody else where its sender isn't there
     (f"{TAKES_TWO}\n{SENDS_TWO}", f"{SENDS_TWO}\n{TAKES_TWO}", "broken streams line 28\nbroken sent lines 29 28"),
     (SENDS_TWO, SENDS_TWO.replace("0/1 16 16", "0/1 18 16"), "broken lives line 29\nbroken streams line 28\nbroken sent line 28"),
 ]

@@ -38,10 +38,10 @@ def listed(seen: Counter[str]) -> str:
 def in_agda() -> list[str]:
     """What is wrong with the definitions, as Agda says."""
     judge = Judge()
-    alone, both = laws.of_page(judge, [BOOK]).definitions, laws.of_page(judge, [BOOK, BOOK_AMONG])
+    own, both = laws.of_page(judge, [BOOK]).definitions, laws.of_page(judge, [BOOK, BOOK_AMONG])
     owed = len(believed.reading()[1].definitions)
-    wrong = [] if alone == owed else [f"{alone} definitions are written of the promise, and its page has {owed}"]
-    what = f"{alone} definitions of the promise, {both.definitions} with those among strangers, and {both.types} types of Rust"
+    wrong = [] if own == owed else [f"{own} definitions are written of the promise, and its page has {owed}"]
+    what = f"{own} definitions of the promise, {both.definitions} with those among strangers, and {both.types} types of Rust"
     if not shutil.which("agda"):
         lacking("second", f"Agda over the {what}", "Agda")
         return wrong

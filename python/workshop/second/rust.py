@@ -24,7 +24,7 @@ def mangled(name: str) -> str:
 
 
 def parts_of(text: str, at: int) -> list[str]:
-    """What commas separate, from a place behind a bracket to where that is closed."""
+    """What commas separate, from a place after a bracket to where that is closed."""
     found, depth = [""], 1
     for letter in text[at:]:
         depth += (letter in "{([<") - (letter in "})]>")
