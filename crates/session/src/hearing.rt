@@ -96,7 +96,7 @@ fn line_end(octets: &[u8]) -> Option<usize>
     Some(line.len() + 1)
 }
 
-/// Takes this many octets from the front of what is pending.
+/// Takes the first octets of what is pending, this many.
 ///
 /// Errors: `AllocError`.
 fn first_part(pending: &mut Vec<u8>, count: usize) -> Result<Vec<u8>, AllocError>

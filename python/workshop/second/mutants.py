@@ -1,4 +1,5 @@
-"""Changes each definition of the promise in one word, in some ways, and looks whether a worked row notices."""
+"""Changes each definition of the promise, or of the contract, in one word, in some ways, and looks whether a worked row
+notices."""
 
 from __future__ import annotations
 
@@ -41,6 +42,8 @@ FIELDS = pairs(
     "source destination, host peer, socket foreign, own_stamp partner_stamp, Ended Closed, Out In, Down Up, Rst Rrp, Sent Arrived",
 )
 OPERATIONS = pairs("+ -, - +, ≡ ≢, * +", "&& ||, < ≤, / %")
+CONTRACT = "Rattle.host_contract.specs."
+LOGS_OF_CONTRACT = "Broken", "Example", "Kept"  # the files of its worked logs
 Key = tuple[str, str]
 NOTICED, OPEN, EQUAL = "refused by a row", "no longer of given values", "the same"
 LATE, MISSED = "out of time", "not noticed"
@@ -163,8 +166,8 @@ def page() -> dict[Key, Defined | Typed]:
 class Rows:
     """The rows that hold, by the definitions to which they lead."""
 
-    def __init__(self, all_: All) -> None:
-        self.library = all_.library
+    def __init__(self, all_: All, most_seconds: int = MOST_SECONDS) -> None:
+        self.library, self.most_seconds = all_.library, most_seconds
         self.graph: dict[Key, set[Key]] = {}
         self.ordered: dict[Key, list[Row]] = {}
         self.rows = [(row, self.below(row)) for row, said in all_.rows if said == HOLDS]
@@ -206,7 +209,7 @@ class Rows:
     def by_rows(self, change: Change) -> str:
         decider = Decider(self.library)
         decider.most_calls = MOST_CALLS
-        end, open_ones, rows = time.process_time() + MOST_SECONDS, 0, self.of(change.key)
+        end, open_ones, rows = time.process_time() + self.most_seconds, 0, self.of(change.key)
         for row in [*rows]:
             found = computed(decider, row)
             if found.startswith((FAILS, UNREAD)):
@@ -223,6 +226,15 @@ def tried(all_: All, most: int = WAYS) -> Iterator[tuple[Change, str]]:
     rows = Rows(all_)
     for key, it in sorted(page().items()):
         yield from ((it, rows.say(it)) for it in spread([*changes(rows.library, key, it.item)], most))
+
+
+def tried_of_contract(all_: All) -> Iterator[tuple[Change, str]]:
+    """All changes of the definitions of the contract, and what rows say of them."""
+    rows = Rows(all_, 4 * MOST_SECONDS)  # all rows lead to most definitions
+    reached = {key for _, below in rows.rows for key in below if key[0].startswith(CONTRACT)}
+    for key in sorted(it for it in reached if it[0].removeprefix(CONTRACT) not in LOGS_OF_CONTRACT):
+        item = rows.library.module(key[0]).own[key[1]]
+        yield from ((it, rows.say(it)) for it in changes(rows.library, key, item))
 
 
 def lacking_rows(found: Iterable[tuple[Change, str]]) -> list[str]:
