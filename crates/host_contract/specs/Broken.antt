@@ -344,7 +344,7 @@ used = Returned to_me 1 0 ∷ Hears (command.Ret 2 1 0) ∷ arrived
 -- or twice what one RET said, or before the user knows that the end is open
 abbrev pub returned_twice : List Act
 returned_twice =
-    Returned to_me 1 8 ∷ Returned to_me 1 8 ∷ Hears (command.Ret 2 1 8) ∷
+    Returned to_me 1 0 ∷ Returned to_me 0 8 ∷ Returned to_me 1 0 ∷ Hears (command.Ret 2 1 8) ∷
     taken (said (command.All 2 2 16) (Grants to_me 2 16 ∷ receiving))
 
 abbrev pub returned_early : List Act
