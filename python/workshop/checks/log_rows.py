@@ -14,8 +14,8 @@ from workshop.parts import ROOT, text_of
 
 PAGE, OLD = (text_of(f"{ROOT}/{it}") for it in ("docs/audit.md", "logs/an-old-message"))
 # the log of that page without its ALL, of which the audit reads nothing
-LINES = text_of(f"{ROOT}/logs/two-octets").splitlines(keepends=True)
-SHORT = "".join(LINES[:6] + LINES[9:])
+OF_PAGE = text_of(f"{ROOT}/logs/two-octets").splitlines(keepends=True)
+SHORT = "".join(OF_PAGE[:6] + OF_PAGE[9:])
 
 # ---- the short log with a text changed, and the verdict. Its crossings are the lines 1 to 9, its lives 10 and 11, its lists 12 and 13
 
