@@ -35,7 +35,7 @@ pub data Rule : Type 0 where
   -- an end is over when both CLS have crossed, and before that its sockets ask for nothing (CLS). Else the answer to
   -- the older request opens the newer connection
   Over : Rule
-  -- a sender's CLS goes only when all its data are answered (CLS). Else the next connection on that link counts the
+  -- a sender's CLS waits until all its data are answered (CLS). Else the next connection on that link counts the
   -- last message of the one before
   Drained : Rule
   -- the CLS of an end that opened is sent only if its user closed it, or its partner's CLS came (CLS). Else a user is
