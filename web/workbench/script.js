@@ -146,11 +146,15 @@ export function headComment(input) {
 }
 
 /**
- * The IMPs of the hosts that events name.
+ * The IMPs that events name, and those of the hosts that they name.
  *
  * @param {string[][]} events
  */
 export function impsNamed(events) {
     const isHost = (/** @type {string} */ word) => /^\d+\/\d+$/.test(word);
-    return new Set(events.flatMap((words) => words.slice(1, 3).filter(isHost).map((it) => Number(it.split("/")[1]))));
+    return new Set(events.flatMap(([kind, ...words]) => (
+        /^(?:enddown|endup|impdown|impup)$/.test(kind)
+            ? [Number(words[0])]
+            : words.slice(0, 2).filter(isHost).map((it) => Number(it.split("/")[1]))
+    )));
 }

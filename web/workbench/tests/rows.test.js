@@ -6,7 +6,7 @@ import { test } from "node:test";
 import { faultOf, wrongLine } from "../faults.js";
 import { stopsOfFlow, stopsWith } from "../follow.js";
 import { MOST_READ } from "../octets.js";
-import { headComment, readInput } from "../script.js";
+import { headComment, impsNamed, readInput } from "../script.js";
 import { sentenceOf } from "../sentences.js";
 import { fragment, noLesson, packed, placeIn, unpacked } from "../share.js";
 import { stopsOf } from "../stops.js";
@@ -338,4 +338,9 @@ test("an endless calm is cut, and what was printed till then is there", async ()
         { seconds: 20, octets: 20_000_000 },
     );
     assert(isReplay(outcome) && outcome.cut !== "" && outcome.moments.length > 1000);
+});
+
+test("the sites of a lesson are those of the hosts and IMPs that its events name", () => {
+    const lines = ["calm 3", "out 0/42 1/36 5 8 41", "enddown 26 40", "impdown 7", "deliver 3 + 0", "take 0/9"];
+    assert.deepEqual([...impsNamed(lines.map((it) => it.split(" ")))], [42, 36, 26, 7, 9]);
 });
