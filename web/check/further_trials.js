@@ -294,10 +294,11 @@ export async function compared({ $, one, all, focused, until, changed, press, lo
         $("index").open && all("#index [data-name]").length === $("lesson").options.length,
         "the index has other lessons than the list",
     );
-    want(focused().dataset.name === one("#index [data-name]").dataset.name, "the index doesn't begin at its first lesson");
+    const first = one("#index [data-name]").dataset.name;
+    want(focused().dataset.name === first, "the index doesn't begin at its first lesson");
     const words = all("#index .words dt").map((it) => it.textContent);
-    const lacking = ["IMP", "host", "link", "RFNM", "Dead", "RST", "RTS", "STR", "ALL", "CLS", "allocation", "stranger", "calm"]
-        .filter((it) => !words.includes(it));
+    const newcomers = "IMP host link RFNM Dead RST RTS STR ALL CLS allocation stranger calm".split(" ");
+    const lacking = newcomers.filter((it) => !words.includes(it));
     want(lacking.length === 0, "the index doesn't say what these are: " + lacking);
     want(
         all("#index .lessons ul > li").filter((it) => !it.querySelector("ol")).length === 12,

@@ -1,8 +1,8 @@
 /**
  * Tries the workbench in a browser: node web/check/workbench.js PAGE [PART..] BROWSER..
  *
- * The parts are --lessons, --deeds, --sizes, --maps, --looks and --faults; without one all of them are tried. Each is told when it
- * is done, since all of them take minutes.
+ * The parts are --lessons, --deeds, --sizes, --maps, --looks and --faults; without one all of them are tried. Each is
+ * told when it is done, since all of them take minutes.
  *
  * Each lesson is stepped forth and back, parts are tapped, an address is opened again, keys and the focus are looked
  * at, and what a screen reader gets, and at each size nothing is cut and no text is on another. Faults that are
@@ -526,7 +526,10 @@ async function deeds(browser) {
         wrong.push(...(await trial(browser, [sending])).map((it) => `${it}, at ${size.join(" by ")}`));
     }
     await browser.resize(...WIDE);
-    const bodies = [named, unopened, happening, judged, keys, tapped, holding, distances, compared, booked, printed, hidden, typed];
+    const bodies = [
+        named, unopened, happening, judged, keys, tapped, holding,
+        distances, compared, booked, printed, hidden, typed,
+    ];
     for (const body of bodies) wrong.push(...(await trial(browser, [body])));
     wrong.push(...(await spoken(browser)));
     return { wrong, tried: `${bodies.length + 5} kinds of deeds` };
@@ -586,7 +589,8 @@ async function maps(browser) {
     const { legible, uncovered } = trials;
     for (const [width, height] of READ_AT) {
         await browser.resize(width, height);
-        const found = await trial(browser, ...MAPS.map((name) => /** @type {[Trial, any?]} */ ([legible, name])), [uncovered, PACKETS]);
+        const tried = MAPS.map((name) => /** @type {[Trial, any?]} */ ([legible, name]));
+        const found = await trial(browser, ...tried, [uncovered, PACKETS]);
         wrong.push(...found.map((it) => `${it}, at ${width} by ${height}`));
     }
     return { wrong, tried: `${MAPS.length} maps at ${READ_AT.length} sizes` };

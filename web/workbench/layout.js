@@ -55,8 +55,10 @@ export const DOTS = { name: "dots", title: 10.5, text: 9.6, half: 8, pad: 3, rad
 
 const PLAIN = { width: 640, height: 360, unit: 1 };
 const MOST_BOXES = 12; // IMPs of a map with boxes
-/** The widths of bold letters, as shares of their height: of those that are narrower or wider than others, and of others. */
-const WIDTHS = /** @type {[RegExp, number][]} */ ([[/[IJ ]/, 0.42], [/[MW]/, 1.05], [/[EFLPTXYZ0-9a-z]/, 0.7], [/./, 0.8]]);
+/** The widths of bold letters, as shares of their height: of narrow ones, of wide ones, and of others. */
+const WIDTHS = /** @type {[RegExp, number][]} */ (
+    [[/[IJ ]/, 0.42], [/[MW]/, 1.05], [/[EFLPTXYZ0-9a-z]/, 0.7], [/./, 0.8]]
+);
 const EDGE = 8; // pixels around a map
 const ROOMY = { width: 640, height: 300, most: 1.2 }; // a frame that is larger has larger letters
 /** How much larger all is in the map of a few IMPs, where it has room at the largest text too. Each is below 5/4 of the next. */

@@ -193,8 +193,8 @@ def tasks_of(number: int, row: dict[str, str]) -> Iterator[Task]:
 
 
 def network_of(row: dict[str, str]) -> Network:
-    foreign = row.get("foreign", "").split()
-    return Network.joined(*row["network"].split(), raw=is_yes(row.get("raw", "")), carrier=carrier_of(row), foreign=foreign)
+    raw, foreign = is_yes(row.get("raw", "")), row.get("foreign", "").split()
+    return Network.joined(*row["network"].split(), raw=raw, carrier=carrier_of(row), foreign=foreign)
 
 
 def carrier_of(row: dict[str, str]) -> str:

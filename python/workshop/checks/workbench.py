@@ -12,11 +12,11 @@ proved and has one):
 - random lines have a fault here exactly where the reader in Python finds one;
 - planted faults in all of these are found.
 
-TypeScript (`node-typescript`) checks the types where it is there. With --browser the page of `./build --wasm`, or that
-of the released module where it is of these sources, is opened in Chromium, Firefox and WebKit (Debian's packages `chromium`, `firefox-esr`, and `webkit2gtk-driver` with
-`xvfb`), as many of them as there are: each lesson is stepped forth and back, parts are tapped, sizes measured, planted faults found.
-Selenium isn't used, since Debian 12 has no geckodriver, without which it drives no Firefox: web/check/browser.js speaks
-each browser's own protocol.
+TypeScript (`node-typescript`) checks the types where it is there. With --browser the page of `./build --wasm`, or
+that of the released module where it is of these sources, is opened in Chromium, Firefox and WebKit (Debian's packages
+`chromium`, `firefox-esr`, and `webkit2gtk-driver` with `xvfb`), as many of them as there are: each lesson is stepped
+forth and back, parts are tapped, sizes measured, planted faults found. Selenium isn't used, since Debian 12 has no
+geckodriver, without which it drives no Firefox: web/check/browser.js speaks each browser's own protocol.
 """
 
 from __future__ import annotations

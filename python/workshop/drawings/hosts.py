@@ -55,7 +55,9 @@ def end() -> Drawing:
         "CLS queued": "nothing more is sent", "CLS sent": "the partner's is awaited", "over": "both CLS have passed",
     }  # fmt: skip
     kinds = ("plain", "green", "orange", "orange", "orange", "plain")
-    until = "RTS and STR have crossed", "its user closes it", "all is sent and answered", "it goes out", "the partner's CLS"
+    until = (
+        "RTS and STR have crossed", "its user closes it", "all is sent and answered", "it goes out", "the partner's CLS",
+    )  # fmt: skip
     for at, ((name, does), kind) in enumerate(zip(states.items(), kinds)):
         y = 44 + at * 70
         drawing.label(20, y, 206, 46, [name, does], kind, soft_after=1)

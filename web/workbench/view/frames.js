@@ -48,7 +48,9 @@ export function drawFrame(map, state, element, { line, way, place, frame, count,
         return { x: from.x + wayX * far - aside * wayY, y: from.y + wayY * far + aside * wayX };
     };
     // beside its line, or else on it, or on the other side
-    const places = map.layout.small ? [side, 0, -side].flatMap((it) => SHIFTS.map((share) => at(share, it))) : [at(0, side)];
+    const places = map.layout.small
+        ? [side, 0, -side].flatMap((it) => SHIFTS.map((share) => at(share, it)))
+        : [at(0, side)];
     const seen = places.map((it) => map.onScreen(it));
     const free = firstFree(seen, map.layout.unit * SIGN, map.layout.unit * SIGN, map.names);
     const { x, y } = places[free ? seen.indexOf(free) : 0];
