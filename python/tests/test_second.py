@@ -25,7 +25,9 @@ class OfAgda(unittest.TestCase):
         self.assertIn("--safe", text)
         self.assertNotIn("postulate", text)
         self.assertIn("is-over-of-promise-Fates Fate°.Open = false", text)
-        self.assertIn("record Match-of-promise-Safe (log : (List Crossing°)) (receiver sender : Life°) : Set where", text)
+        self.assertIn(
+            "record Match-of-promise-Safe (log : (List Crossing°)) (receiver sender : Life°) : Set where", text
+        )
 
     def test_what_never_ends_is_refused(self) -> None:
         if not shutil.which("agda"):

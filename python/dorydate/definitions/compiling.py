@@ -1,4 +1,4 @@
-"""Makes of the terms of a library what can be computed and decided: an expression of each, and one of each definition."""
+"""Makes of the terms of a library what can be computed and decided, and so of its definitions."""
 
 from __future__ import annotations
 
@@ -15,12 +15,16 @@ from dorydate.definitions.deciding import (  # fmt: skip
     DONE, AllOf, Conjunct, Either, Equal, Every, Fixed, Implied, Less, Member, Search,
 )
 from dorydate.definitions.files import Definition, Structure
-from dorydate.definitions.library import WORDS, Constant, Declared, Defined, Form, Library, Meaning, NoMeaning, Typed, Word
+from dorydate.definitions.library import (  # fmt: skip
+    WORDS, Constant, Declared, Defined, Form, Library, Meaning, NoMeaning, Typed, Word,
+)
 from dorydate.definitions.terms import (  # fmt: skip
     Apply, Both, Changed, Field, ForAll, Function, If, Implicit, Let, Match, Name, Number, Operation, Record,
     Section, Term, Text, Tuple, Universe, Unknown, arity, binders_of, head_of, inside, result_of, taken_types,
 )
-from dorydate.definitions.values import FALSE, NIL, NONE, TRUE, TYPE, Data, Lambda, NotComputed, Struct, Value, applied, forget, truth
+from dorydate.definitions.values import (  # fmt: skip
+    FALSE, NIL, NONE, TRUE, TYPE, Data, Lambda, NotComputed, Struct, Value, applied, forget, truth,
+)
 from dorydate.definitions.words import NATIVE
 
 Scope = frozenset[str]
@@ -43,7 +47,8 @@ class Decider(Search):
         self.kinds: dict[tuple[str, str], bool] = {}
         self.memory: dict[tuple[object, ...], Value] = {}
         self.decided: dict[tuple[object, ...], bool] = {}
-        self.calls, self.most_calls = 0, 0  # how many definitions were computed since, and how many may be; 0 is any number
+        # how many definitions were computed since, and how many may be; 0 is any number
+        self.calls, self.most_calls = 0, 0
 
     def forget(self) -> None:
         """Forgets all that was computed and decided."""
@@ -116,7 +121,9 @@ class Decider(Search):
         types = [it for it in structure.binders if isinstance(it.type, Universe)]
         names = frozenset(name for it in types for name in it.names) | {it.name for it in structure.members}
         return structure.is_record and (
-            len(types) < len(structure.binders) or any(self.is_statement(it.type, module, names) for it in structure.members)
+            len(types) < len(structure.binders) or any(
+                self.is_statement(it.type, module, names) for it in structure.members
+            )
         )
 
     def takes(self, type_: Term, module: str) -> int | None:
@@ -190,7 +197,9 @@ class Decider(Search):
                 return self.every(term, module, scope)
         raise NotComputed(f"a {type(term).__name__} is no value")
 
-    def clause(self, patterns: Sequence[Term], body: Term, module: str, scope: Scope) -> tuple[list[Pattern], Expression]:
+    def clause(
+        self, patterns: Sequence[Term], body: Term, module: str, scope: Scope
+    ) -> tuple[list[Pattern], Expression]:
         """What some arguments have to be, and the value that has their names."""
         names: set[str] = set()
         found = [self.pattern(it, module, names) for it in patterns]
@@ -245,7 +254,8 @@ class Decider(Search):
             return Arithmetic("+", arguments[0], Literal(1))
         if isinstance(function, Construct):
             return Construct(function.form, [*function.arguments, *arguments])
-        if isinstance(function, Clauses) and (function.module, function.item.name, len(arguments)) == (WORDS, "Contains", 2):
+        key = (function.module, function.item.name) if isinstance(function, Clauses) else ("", "")
+        if key == (WORDS, "Contains") and len(arguments) == 2:
             return Member(*arguments)
         return Call(function, arguments) if arguments else function
 
@@ -261,7 +271,9 @@ class Decider(Search):
 
     # ---- statements
 
-    def conjuncts(self, parts: Sequence[tuple[str, Term]], module: str, scope: Scope, after: Sequence[Term] = ()) -> list[Conjunct]:
+    def conjuncts(
+        self, parts: Sequence[tuple[str, Term]], module: str, scope: Scope, after: Sequence[Term] = ()
+    ) -> list[Conjunct]:
         """The parts of a product, or the premises of something that comes after them."""
         found = []
         for at, (name, type_) in enumerate(parts):
@@ -269,7 +281,9 @@ class Decider(Search):
             is_local = not name and isinstance(type_, Name) and type_.text in scope
             is_statement = is_local or self.is_statement(type_, module, scope)
             statement = self.expression(type_, module, scope) if is_statement else None
-            found.append(Conjunct(name, statement, type_name(type_), bool(name) and any(mentions(it, name) for it in later)))
+            found.append(
+                Conjunct(name, statement, type_name(type_), bool(name) and any(mentions(it, name) for it in later))
+            )
             scope = scope | {name} if name else scope
         return found
 
@@ -281,7 +295,9 @@ class Decider(Search):
         premises = self.conjuncts(parts, module, scope, [term])
         conclusion = self.expression(term, module, scope | {name for name, _ in parts if name})
         plain = [it.statement for it in premises if it.statement is not None and not it.is_named]
-        return Implied(self, plain, conclusion) if len(plain) == len(premises) else Every(self, AllOf(premises), conclusion)
+        if len(plain) == len(premises):
+            return Implied(self, plain, conclusion)
+        return Every(self, AllOf(premises), conclusion)
 
     # ---- patterns
 
@@ -397,7 +413,9 @@ class Clauses(Saying):
         value = forced(given[place])
         form = value.form if isinstance(value, Data) else "suc" if value else "zero"
         if form not in self.by_form:
-            self.by_form[form] = [it for it in self.clauses if not isinstance(it[0][place], OfForm) or it[0][place].name == form]
+            self.by_form[form] = [
+                it for it in self.clauses if not isinstance(it[0][place], OfForm) or it[0][place].name == form
+            ]
         return self.by_form[form]
 
     def in_braces(self, patterns: Sequence[Implicit]) -> dict[str, tuple[int, int] | None]:
@@ -406,7 +424,8 @@ class Clauses(Saying):
         types = [*enumerate(taken_types(self.definition.type))]
         found: dict[str, tuple[int, int] | None] = {}
         for it, (name, type_) in zip(patterns, binders):
-            places = ((at, place) for at, one in types if isinstance(one, Apply) for place, part in enumerate(one.given) if part == Name(name))
+            parts = [(at, place, it) for at, one in types if isinstance(one, Apply) for place, it in enumerate(one.given)]
+            places = ((at, place) for at, place, part in parts if part == Name(name))
             if isinstance(it.term, Name):
                 found[it.term.text] = None if isinstance(type_, Universe) else next(places, None)
         return found
@@ -427,7 +446,9 @@ class Clauses(Saying):
 
     def opened(self, given: Slots) -> tuple[Expression, Env, Slots]:
         for patterns, body, in_braces in self.fitting(given):
-            env: Env = {name: TRUE if place is None else said_of(given[place[0]], place[1]) for name, place in in_braces.items()}
+            env: Env = {
+                name: TRUE if place is None else said_of(given[place[0]], place[1]) for name, place in in_braces.items()
+            }
             if all([pattern.fits(it, env) for pattern, it in zip(patterns, given)]):
                 return body, env, given[len(patterns) :]
         raise NotComputed(f"no clause of {self.definition.name} fits")

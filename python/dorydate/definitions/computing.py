@@ -470,7 +470,8 @@ class Abstraction(Expression):
     def inner(self, env: Env, given: Slots) -> Env:
         """The names in its value."""
         inner = dict(env)
-        if len(given) < len(self.patterns) or not all([pattern.fits(it, inner) for pattern, it in zip(self.patterns, given)]):
+        fits = [pattern.fits(it, inner) for pattern, it in zip(self.patterns, given)]
+        if len(given) < len(self.patterns) or not all(fits):
             raise NotComputed("an argument of another form")
         return inner
 
@@ -505,7 +506,9 @@ class OfForm(Pattern):
     def fits(self, slot: Slot, env: Env) -> bool:
         value = forced(slot)
         if type(value) is Data:
-            return value.form == self.name and all([pattern.fits(it, env) for pattern, it in zip(self.parts, value.parts)])
+            return value.form == self.name and all(
+                [pattern.fits(it, env) for pattern, it in zip(self.parts, value.parts)]
+            )
         if self.name == "zero":
             return value == 0
         return self.name == "suc" and number(value) > 0 and self.parts[0].fits(number(value) - 1, env)
@@ -519,4 +522,6 @@ class OfFields(Pattern):
 
     def fits(self, slot: Slot, env: Env) -> bool:
         value = forced(slot)
-        return isinstance(value, Struct) and all([pattern.fits(value.fields[name], env) for name, pattern in self.parts])
+        return isinstance(value, Struct) and all(
+            [pattern.fits(value.fields[name], env) for name, pattern in self.parts]
+        )

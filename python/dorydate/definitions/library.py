@@ -9,7 +9,8 @@ from typing import Union
 from dorydate.definitions.files import Definition, Group, Item, Structure, Use, read_file
 from dorydate.definitions.terms import Binder, Field, Name
 
-Sources = Callable[[str], "str | None"]  # the text of a file, by its path below `crates`; None where there is no such file
+# the text of a file, by its path below `crates`; None where there is no such file
+Sources = Callable[[str], "str | None"]
 WORDS = "words"  # the module that has the words of the library
 
 
@@ -131,13 +132,14 @@ class Library:
         return name in self.modules or self.sources(path_of(name)) is not None
 
     def named(self, term: object, module: str, local: Collection[str] = ()) -> Meaning | None:
-        """What a name of a file or of its imports means, or a name of a module that it imports; None of any other term."""
+        """What a name of a file or of its imports means, or of a module that it imports; None of any other term."""
         here = self.module(module)
         known: tuple[Collection[str], ...] = (here.own, here.forms, here.names)
         if isinstance(term, Name) and term.text not in local and any(term.text in it for it in known):
             return self.meaning(module, term.text)
-        if isinstance(term, Field) and isinstance(term.of, Name) and term.of.text in here.aliases and term.of.text not in local:
-            return self.meaning(module, term.name, term.of.text)
+        of = term.of if isinstance(term, Field) else None
+        if isinstance(term, Field) and isinstance(of, Name) and of.text in here.aliases and of.text not in local:
+            return self.meaning(module, term.name, of.text)
         return None
 
     def meaning(self, module: str, name: str, alias: str = "") -> Meaning:
@@ -154,7 +156,7 @@ class Library:
         return self.meanings[key]
 
     def found(self, module: str, name: str) -> Meaning:
-        """What a module has under a name: else a word of the library, as the module of words defines it, or only its name."""
+        """What a module has under a name: else a word of the library, as `words.txt` defines it, or only its name."""
         parts = module.split(".")
         is_library = parts[1:2] == ["std"]
         if "declared" in parts and not is_library:

@@ -83,7 +83,9 @@ class Logged:
         self.lives, self.handed = listed(lives), listed(map(bits_value, self.book.handed))
         self.fates = tuple(data(it.fate.capitalize()) for it in self.book.lives)
         self.labels |= {value: f"line{'s' * (len(its) > 1)} {', '.join(map(str, its))}" for value, its in lines.items()}
-        self.labels |= {it: name for it, name in ((self.lives, "all lives"), (self.handed, "all lists")) if it is not NIL}
+        self.labels |= {
+            it: name for it, name in ((self.lives, "all lives"), (self.handed, "all lists")) if it is not NIL
+        }
 
     @property
     def hosts(self) -> Data:
@@ -95,7 +97,8 @@ class Logged:
     @property
     def flows(self) -> list[Value]:
         """The flows that the log names, each once."""
-        return [flow_value(it) for it in dict.fromkeys(it.flow for it in self.book.log if isinstance(it, (Passed, Answered)))]
+        flows = dict.fromkeys(it.flow for it in self.book.log if isinstance(it, (Passed, Answered)))
+        return [flow_value(it) for it in flows]
 
     @property
     def strangers(self) -> Data:

@@ -28,7 +28,8 @@ from dorydate.definitions.terms import Term
 from dorydate.definitions.values import Lambda, Value, data, listed, struct
 from dorydate.model.log import Book
 
-BOOK, BOOK_AMONG = "headline/src/book.rt", "mixed_worlds/src/book.rt"  # what is promised of a book, and of one among strangers
+# what is promised of a book, and of one among strangers
+BOOK, BOOK_AMONG = "headline/src/book.rt", "mixed_worlds/src/book.rt"
 ENDS = "Rattle.promise.specs.Ends"
 LEFT = ("value", "lawful")  # their clauses that speak of the world and its programs
 WORDS_FILE = Path(__file__).with_name("words.txt")  # no .antt: the toolchain asks that each is of a crate
@@ -160,8 +161,8 @@ class Judge:
         contacts: list[Value] = []
         for life, fate in logged.each_life():
             closing = data("Closing")
-            if fate is data("Open") and not self.is_left([], logged, life, fate) and self.is_left([], logged, life, closing):
-                fate = closing
+            if fate is data("Open") and not self.is_left([], logged, life, fate):
+                fate = closing if self.is_left([], logged, life, closing) else fate
             fates.append(fate)
             if fate is data("Reset") and not self.is_left(contacts, logged, life, fate):
                 contacts += self.contact(contacts, logged, life, fate)

@@ -80,7 +80,7 @@ NATIVE: dict[str, Value] = {
     "count_by": Lambda(2, lambda test, values: sum(holds(test, it) for it in items_of(values))),
     "find": Lambda(2, lambda test, values: next((some(it) for it in items_of(values) if holds(test, it)), NONE)),
     "reverse": Lambda(1, reversed_list),
-    "FinMap.get": Lambda(2, lambda values, key: next((some(value) for name, value in pairs_of(values) if name == key), NONE)),
+    "FinMap.get": Lambda(2, lambda values, key: next((some(it) for name, it in pairs_of(values) if name == key), NONE)),
     "FinMap.insert": Lambda(3, lambda values, key, value: made([*pairs_of(values), (key, value)])),
     "FinMap.remove": Lambda(2, lambda values, key: made([it for it in pairs_of(values) if it[0] != key])),
     "FinMap.retain_keys": Lambda(2, lambda values, test: made([it for it in pairs_of(values) if holds(test, it[0])])),

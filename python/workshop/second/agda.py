@@ -26,12 +26,12 @@ from workshop.second.splitting import Forms, Splitter, Written, parts_of
 BUILT_IN = {*"zero suc true false [] Some None Ok Err nat_lt Option Result List Bool ℕ ⊥".split()}
 # what `laws/Lemmas.agda` and the language of proofs have beside definitions
 PROVED = {
-    *"refl sym ap subst absurd inl inr tt eq-eqb eqb-true ne_eqb leb-true le-leb ltb-true lt-ltb and_parts and_from".split(),
-    *"and_right and_cases or_left or_parts not-true false_from_ne_true same_Some append-nil append_assoc".split(),
+    *"refl sym ap subst absurd inl inr tt eq-eqb eqb-true ne_eqb leb-true le-leb ltb-true lt-ltb".split(),
+    *"and_parts and_from and_right and_cases or_left or_parts not-true false_from_ne_true same_Some append-nil append_assoc".split(),
     *"length-append min-le_left min-eq_left eq-or-lt_of_le".split(),
 }
 FORM_NAMES = {*"zero suc true false None Some Ok Err inl inr refl tt".split()}
-WIDTHS = {"w8": "1", "w16": "2", "w32": "4", "w64": "8", "w128": "16", "Width": "ℕ", "byte_len": "(λ n → n)", "cc": "(cc- no-facts)"}
+WIDTHS = {"w8": "1", "w16": "2", "w32": "4", "w64": "8", "w128": "16", "Width": "ℕ"}
 TACTICS = ("omega", "cc", "rw", "eq-or-lt_of_le", "search", "grind", "simp")
 # lemmas below whose proofs leave to the prover what Agda doesn't find: `laws/Lemmas.agda` has them
 BY_HAND = {("Rattle.ncp_control.proofs.Counters", "share-le")}
@@ -98,6 +98,8 @@ class Writer:
             return self.name_of(WORDS, name)
         if name in WIDTHS:
             return WIDTHS[name]
+        if name in ("byte_len", "cc"):
+            return "(λ n → n)" if name == "byte_len" else "(cc- no-facts)"
         if name in BUILT_IN:
             return mangled(name)
         if found := re.fullmatch("◌(.*)◌", name):
@@ -187,7 +189,9 @@ class Writer:
             return "search-"
         if name == "eq-or-lt_of_le":
             return f"(eq-or-lt- {self.term(given[0], module, local)})"
-        facts = [it for one in given[:1] for it in (one.items if isinstance(one, Tuple) else (one,)) if it != Name("arith")]
+        facts = [
+            it for one in given[:1] for it in (one.items if isinstance(one, Tuple) else (one,)) if it != Name("arith")
+        ]
         texts = [self.term(it, module, local) for it in facts]
         if name != "rw":
             return f"({name}- ({' & '.join([*texts, 'no-facts'])}))"
@@ -207,7 +211,8 @@ class Writer:
             case Function():
                 return self.function(term, module, local)
             case Let(Name(text), type_, value, body):
-                name, known, inner = variable(text), self.term(value, module, local), self.term(body, module, local | {text})
+                name, known = variable(text), self.term(value, module, local)
+                inner = self.term(body, module, local | {text})
                 if type_ is None:
                     return f"(let {name} = {known} in {inner})"
                 said = self.term(type_, module, local)
@@ -310,7 +315,8 @@ class Writer:
         own = self.form(meaning)
         if meaning.module:
             structure = self.library.module(meaning.module).forms[meaning.name]
-            all_ = [(f"{self.name_of(meaning.module, meaning.type)}.{mangled(it.name)}", arity(it.type)) for it in structure.members]
+            owner = self.name_of(meaning.module, meaning.type)
+            all_ = [(f"{owner}.{mangled(it.name)}", arity(it.type)) for it in structure.members]
         else:
             lines = [line.strip().partition(" : ") for line in self.rust.written[meaning.type][1:]]
             all_ = [(f"{meaning.type}°.{form}", type_.count("→")) for form, _, type_ in lines]
@@ -404,7 +410,7 @@ class Writer:
             yield from (f"  {line}" for line in self.definition(it, module, inner))
 
     def selected(self, item: Definition, module: str) -> int | None:
-        """The place of the one argument by whose form a statement's clauses differ, where it is written by what selects one."""
+        """The place of the one argument by whose form a statement's clauses differ, if what selects a form writes it."""
         given = [it.given for it in item.clauses]
         is_plain = item.is_abbreviation and not any(it.where or len(it.given) < len(it.patterns) for it in item.clauses)
         if not is_plain or f"'{item.name}'" in repr([it.value for it in item.clauses]):
@@ -417,7 +423,8 @@ class Writer:
         if first is None or first.type in BUILT_IN_FORMS or first.type.endswith("°"):
             return None
         is_flat = not any(self.is_of_form(part, module) for one in given for part in parts_of(one[at]))
-        return at if is_flat and {self.own_form(one[at], module) for one in given} == {it for it, _ in first.all} else None
+        own = {self.own_form(one[at], module) for one in given}
+        return at if is_flat and own == {it for it, _ in first.all} else None
 
     def is_of_form(self, pattern: Term, module: str) -> bool:
         return not isinstance(pattern, (Name, Unknown)) or self.forms_of(pattern, module) is not None
@@ -435,10 +442,14 @@ class Writer:
         branches = []
         for it in (clauses[form] for form, _ in forms.all):
             parts = [part.text if isinstance(part, Name) else "_" for part in parts_of(it.given[at])]
-            others = [(one.text, new) for one, new in zip(it.given, names) if isinstance(one, Name) and new != names[at]]
+            others = [
+                (one.text, new) for one, new in zip(it.given, names) if isinstance(one, Name) and new != names[at]
+            ]
             shown = "".join(f"let {variable(name)} = {new} in " for name, new in others)
             taken = f"λ {' '.join(map(variable, parts))} → " if parts else ""
-            branches.append(f"({taken}{shown}{self.term(it.value, module, local | {*parts} | {name for name, _ in others})})")
+            branches.append(
+                f"({taken}{shown}{self.term(it.value, module, local | {*parts} | {name for name, _ in others})})"
+            )
         return f"{' '.join(names)} = case-{forms.type} {' '.join(branches)} {names[at]}"
 
 

@@ -100,13 +100,17 @@ def compared(log: tuple[str, bytes]) -> tuple[Counter[str], list[str]]:
     asked = [(part, part in broken, names) for part, names in PARTS.items() if part not in left_out]
     if book.strangers and "malformed" not in said:
         asked.append(("toward, or streams or grants", bool(broken & TOWARD), TOWARD_PARTS))
-    seen: Counter[str] = Counter({"logs": 1, "logs with strangers": bool(book.strangers), "logs that are kept": said == "kept\n"})
+    seen: Counter[str] = Counter(
+        {"logs": 1, "logs with strangers": bool(book.strangers), "logs that are kept": said == "kept\n"}
+    )
     wrong = []
     for part, is_broken, names in asked:
         found = [it for it in fails if it.startswith(names)]
         seen[f"{part}: {'broken' if is_broken else 'kept'} by both"] += is_broken == bool(found)
         if is_broken != bool(found):
-            wrong.append(f"{name}: the audit says {said.split(chr(10))}, and by the definitions {found} of {part} are broken")
+            wrong.append(
+                f"{name}: the audit says {said.split(chr(10))}, and by the definitions {found} of {part} are broken"
+            )
     return seen, wrong
 
 

@@ -192,6 +192,7 @@ def faults() -> list[str]:
         found = "refused" if said else "each is checked"
         print(f"check second: Agda: {crate}: {what}: {found} ({seconds:.0f} s of the processor)", flush=True)
         wrong += [f"{crate}: {said[-2000:]}"] if said else []
-    lines = [f"{it.name} {it.read_text(encoding='utf-8').count(chr(10))} lines" for it in [*map(file_of, BY_HAND), WORDS_FILE]]
+    texts = {it.name: it.read_text(encoding="utf-8") for it in [*map(file_of, BY_HAND), WORDS_FILE]}
+    lines = [f"{name} {text.count(chr(10))} lines" for name, text in texts.items()]
     print(f"check second: by hand: {', '.join(lines)}", flush=True)
     return wrong

@@ -20,7 +20,8 @@ from dorydate.definitions.values import NotComputed, records_with
 from workshop.parts import ROOT, text_of
 
 CRATES = f"{ROOT}/crates"
-OTHERS = {"hex/specs/Hex.antt": "hex.txt", "toml/specs/Data.antt": "toml.txt"}  # what rows name of the toolchain's crates
+# what rows name of the toolchain's crates
+OTHERS = {"hex/specs/Hex.antt": "hex.txt", "toml/specs/Data.antt": "toml.txt"}
 WORKED = "worked"  # begins the names of functions of rows, or of the file that has them
 GENERIC = "C"  # what a generic function is about
 FLOW, FLOW_FIELDS = "Flow", ("source", "destination", "link")

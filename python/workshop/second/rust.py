@@ -83,10 +83,14 @@ class Rust:
         parts = parts_of(text, found.end()) if found[2] != ";" else []
         if found[1] == "struct":
             pairs = [it.split(":", 1) if found[2] == "{" else [str(at), it] for at, it in enumerate(parts)]
-            fields = [f"    #{mangled(it.split()[-1])} : {self.type(of.replace('pub ', ''), home, text)}" for it, of in pairs]
+            fields = [
+                f"    #{mangled(it.split()[-1])} : {self.type(of.replace('pub ', ''), home, text)}" for it, of in pairs
+            ]
             self.written[name] = [f"record {name}° : Set where", "  field", *fields, f"open {name}° public"]
             return
         variants = [it for part in parts if (it := re.match(r"(\w+)\s*[({]?", part))]
-        types = [[self.type(of.split(":", 1)[-1], home, text) for of in parts_of(it.string, it.end())] for it in variants]
+        types = [
+            [self.type(of.split(":", 1)[-1], home, text) for of in parts_of(it.string, it.end())] for it in variants
+        ]
         lines = [f"  {it[1]} : {' → '.join([*of, f'{name}°'])}" for it, of in zip(variants, types)]
         self.written[name] = [f"data {name}° : Set where", *lines]

@@ -133,5 +133,7 @@ def with_term(term: Any, name: str, new: Term) -> Any:
     if isinstance(term, tuple):
         return tuple(with_term(it, name, new) for it in term)
     if dataclasses.is_dataclass(term) and not isinstance(term, type):
-        return replace(term, **{it.name: with_term(getattr(term, it.name), name, new) for it in dataclasses.fields(term)})
+        return replace(
+            term, **{it.name: with_term(getattr(term, it.name), name, new) for it in dataclasses.fields(term)}
+        )
     return term
