@@ -39,8 +39,8 @@ def terms_of(item: Definition | Structure) -> tuple[object, ...]:
 
 
 def meanings_in(library: Library, term: object, module: str) -> Iterator[Meaning]:
-    """What the names in a term mean; of a constructor, the type that it is of. A local name may be that of a definition,
-    too: one too many."""
+    """What the names in a term mean; of a constructor, the type that it is of. A local name may be that of a
+    definition, too: one too many."""
     words = library.module(WORDS)
     for it in inside(term):
         try:

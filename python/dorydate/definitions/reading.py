@@ -15,8 +15,8 @@ from dorydate.definitions.terms import (  # fmt: skip
 INFIX = {
     word: (strength, nested)
     for strength, nested, words in (
-        *((0, "none", "↔"), (1, "right", "⊎"), (2, "flat", "×"), (4, "none", "≡ ≢"), (30, "right", "∙"), (30, "left", "||")),
-        *((35, "left", "&&"), (40, "none", "=="), (50, "none", "< ≤"), (65, "left", "+ -"), (65, "right", "++")),
+        *((0, "none", "↔"), (1, "right", "⊎"), (2, "flat", "×"), (4, "none", "≡ ≢"), (30, "right", "∙")),
+        *((30, "left", "||"), (35, "left", "&&"), (40, "none", "=="), (50, "none", "< ≤"), (65, "left", "+ -"), (65, "right", "++")),
         *((67, "right", "∷"), (70, "left", "* / %"), (75, "right", "^")),
     )
     for word in words.split()

@@ -177,8 +177,8 @@ class Unknown:
 
 
 Term = Union[
-    Name, Number, Text, Implicit, Apply, Operation, ForAll, Both, Function, Let, Tuple, Field, Record, Changed, Match, If,
-    Section, Universe, Unknown,
+    Name, Number, Text, Implicit, Apply, Operation, ForAll, Both, Function, Let, Tuple, Field, Record, Changed, Match,
+    If, Section, Universe, Unknown,
 ]  # fmt: skip
 
 

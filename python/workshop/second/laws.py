@@ -31,8 +31,8 @@ TACTICS = "Tactics using (rw-; cc-; omega-; search-; eq-or-lt-; no-facts; _&_)"
 
 @dataclass
 class Modules:
-    """Modules of Agda by their names, each after those that it needs, and how many definitions, types of Rust, lemmas and
-    answers they have."""
+    """Modules of Agda by their names, each after those that it needs, and how many definitions, types of Rust, lemmas
+    and answers they have."""
 
     texts: dict[str, str]
     definitions: int = 0

@@ -39,7 +39,8 @@ NAMES = pairs(
 )
 FIELDS = pairs(
     "messages bits, granted returned, Rfnm Dead, Dead NotTaken, Open Closing, Reset Stopped",
-    "source destination, host peer, socket foreign, own_stamp partner_stamp, Ended Closed, Out In, Down Up, Rst Rrp, Sent Arrived",
+    "source destination, host peer, socket foreign, own_stamp partner_stamp, Ended Closed, Out In, Down Up, Rst Rrp,"
+    "Sent Arrived",
 )
 OPERATIONS = pairs("+ -, - +, ≡ ≢, * +", "&& ||, < ≤, / %")
 CONTRACT = "Rattle.host_contract.specs."

@@ -86,8 +86,8 @@ def rows_of(library: Library, names: Iterable[str]) -> Iterator[Row]:
 
 
 def computed(decider: Decider, row: Row) -> str:
-    """What a row comes to, or why it isn't computed. Where a definition speaks of all flows, as one of messages does, it
-    is tried with those that the row's values have."""
+    """What a row comes to, or why it isn't computed. Where a definition speaks of all flows, as one of messages does,
+    it is tried with those that the row's values have."""
     decider.forget()
     decider.domains.pop(FLOW, None)
     statement = decider.expression(row.term, row.module, frozenset(GENERIC))

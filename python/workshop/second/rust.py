@@ -8,8 +8,8 @@ from pathlib import Path
 from workshop.parts import ROOT, text_of
 
 KEYWORDS = {
-    *"field open where data record module let in to renaming using hiding import with abstract rewrite do quote".split(),
-    *"syntax tactic macro instance private public forall constructor pattern variable".split(),
+    *"field open where data record module let in to renaming using hiding import with abstract rewrite".split(),
+    *"do quote syntax tactic macro instance private public forall constructor pattern variable".split(),
 }
 PLAIN = {**dict.fromkeys(("u8", "u16", "u32", "u64", "u128", "usize"), "ℕ"), "bool": "Bool"}
 VALUES = {**{it: it for it in ("ℕ", "List Bool", "List ℕ")}, "Host": "Host-of-interface-Host"}  # of models, in Agda
