@@ -13,7 +13,7 @@ has to notice. And it judges 1,000 logs, by hand, of the examples and of random 
 of the processor). It is no part of the gate: `./check release` does it before a release.
 
 ./check second --mutants does that in 20 ways, and prints which of these changes no row refuses, and why (a minute of
-the processor).
+the processor). ./check second --contract changes those of the crate `host_contract` in all ways (five minutes of it).
 """
 
 from __future__ import annotations
@@ -29,6 +29,7 @@ from workshop.tools import lacking
 from workshop.words import Words
 
 LOGS = 1_000
+CONTRACT_ROWS = "host_contract/src/law.rt"
 
 
 def listed(seen: Counter[str]) -> str:
@@ -60,6 +61,11 @@ def worked() -> list[str]:
     return all_.wrong + mutants.lacking_rows(found)
 
 
+def changed_contract() -> list[tuple[mutants.Change, str]]:
+    """What its rows say of changes of the contract."""
+    return [*mutants.tried_of_contract(rows.all_rows([CONTRACT_ROWS]))]
+
+
 def judge(count: int) -> list[str]:
     """What is wrong with the judge, beside the audit."""
     seen, wrong = beside_audit(count)
@@ -73,14 +79,16 @@ def main() -> int:
     what.add_argument("--laws", action="store_true", help="have Agda check the laws of streams and of resets")
     changed = "change each definition of the promise in one word, and say which changes no row notices"
     what.add_argument("--mutants", action="store_true", help=changed)
+    of_contract = "change each definition of the contract in one word, and say which changes no row notices"
+    what.add_argument("--contract", action="store_true", help=of_contract)
     asked = words.asked()
     if asked.laws:
         wrong = laws.faults()
         print(*wrong, sep="\n", end="\n" if wrong else "")
         print("check second: laws are refused" if wrong else "check second: the laws are proved a second time")
         return 1 if wrong else 0
-    if asked.mutants:
-        found = deeply(lambda: [*mutants.tried(rows.all_rows())])
+    if asked.mutants or asked.contract:
+        found = deeply(changed_contract if asked.contract else lambda: [*mutants.tried(rows.all_rows())])
         print(*mutants.table(found), *mutants.lacking_rows(found), sep="\n")
         return 1 if mutants.lacking_rows(found) else 0
     wrong = [*in_agda(), *worked(), *judge(asked.logs)]
