@@ -272,9 +272,10 @@ const PLANTED = /** @type {Planted[]} */ ([
     },
     {
         what: "letters that shrink with the map",
-        from: "const unit = frame.unit * grown;",
-        to: "const unit = 0.8 * frame.unit * grown;",
+        from: "const unit = frame.unit * grown(",
+        to: "const unit = 0.8 * frame.unit * grown(",
         by: "legible",
+        size: [1280, 800],
         words: "letters of",
     },
     {
@@ -282,6 +283,7 @@ const PLANTED = /** @type {Planted[]} */ ([
         from: "this.named.has(number) ? 16 : 0",
         to: "this.named.has(number) ? -16 : 0",
         by: "legible",
+        size: [390, 844],
         words: "has no name on the map",
     },
     {
@@ -647,6 +649,10 @@ async function planted(browser, page, file) {
         writeFileSync(file, opened(page.replace(spelled(from), () => to)));
         await browser.resize(...(size ?? WIDE));
         await browser.open(`file://${file}`);
+        if (by === "entered") { // a visit is the first one where the tab keeps nothing of another
+            await browser.evaluate("sessionStorage.clear();");
+            await browser.open(`file://${file}`);
+        }
         const given = GIVEN[by]?.();
         const found = by === "spoken"
             ? await spoken(browser)
