@@ -35,7 +35,7 @@ class Foreign(unittest.TestCase):
             9: "broken grants lines 13 14",
             12: "kept",  # an answer: no later message on this link wants it
             13: "broken streams line 14",
-            15: "broken streams lines 13 14",
+            15: "broken streams lines 13 14\nbroken sent lines 13 14",
             16: "broken run line 11\nbroken lives line 12\nbroken messages line 11",
         }
         found = {lacking: says(written(lacking).encode()) for lacking in wanted}

@@ -173,23 +173,34 @@ export class Book {
     }
 
     /**
+     * The flow of the link that the RTS of a life's requests names, "" where that didn't cross.
+     *
+     * @param {Life} life
+     */
+    flowByRts(life) {
+        const { own, partner } = this.named(life);
+        const [link, sender, receiver] = life.receives ? [own, life.peer, life.host] : [partner, life.host, life.peer];
+        return link ? `${sender} ${receiver} ${link}` : "";
+    }
+
+    /**
      * The flow of a life's link, "" where its requests name none.
      *
      * @param {Life} life
      */
     flowOf(life) {
         const { own, partner } = this.named(life);
-        if (!own || !partner) return "";
-        return life.receives ? `${life.peer} ${life.host} ${own}` : `${life.host} ${life.peer} ${partner}`;
+        return own && partner ? this.flowByRts(life) : "";
     }
 
     /**
      * Where the messages on a life's link crossed after both its requests, the oldest first.
      *
      * @param {Life} life
+     * @param {string} [flow]
      */
-    placesOf(life) {
-        const [flow, kind] = [this.flowOf(life), life.receives ? "in" : "out"];
+    placesOf(life, flow = this.flowOf(life)) {
+        const kind = life.receives ? "in" : "out";
         const begun = Math.max(life.own, life.partner);
         return this.log.flatMap((it, at) => (flow && at > begun && it.kind === kind && it.flow === flow ? [at] : []));
     }
@@ -198,9 +209,10 @@ export class Book {
      * Where those crossed whose data are a life's bits.
      *
      * @param {Life} life
+     * @param {string} [flow]
      */
-    countedBy(life) {
-        return this.placesOf(life).slice(0, Number(life.messages));
+    countedBy(life, flow = this.flowOf(life)) {
+        return this.placesOf(life, flow).slice(0, Number(life.messages));
     }
 
     /**

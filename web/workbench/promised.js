@@ -258,10 +258,11 @@ function within(book, life) {
  * @param {Life[]} others
  */
 function sent(book, life, others) {
-    const [flow, taken] = [book.flowOf(life), book.countedBy(life)];
+    const flow = book.flowByRts(life);
+    const taken = book.countedBy(life, flow);
     if (!taken.length) return said("sent", "none counted");
     const outs = taken.map((at) => book.lastOut(flow, at));
-    const known = others.map((it) => common(outs, book.countedBy(it)));
+    const known = others.map((it) => common(outs, book.countedBy(it, book.flowByRts(it))));
     const most = Math.max(0, ...known);
     if (most < outs.length) return said("sent", "not that", { number: most + 1, line: taken[most] + 1 });
     const other = others[known.indexOf(most)].line;

@@ -56,7 +56,7 @@ REQUESTS = (
          "a CLS ends the next connection of the same sockets at one host only"),
     Rule("over", "An end is over when both CLS have crossed, and before that its sockets ask for nothing.", "CLS",
          "the answer to the older request opens the newer connection"),
-    Rule("drained", "A sender's CLS goes only when all its data are answered.", "CLS",
+    Rule("drained", "A sender's CLS waits until all its data are answered.", "CLS",
          "the next connection on that link counts the last message of the one before"),
     Rule("willed",
          "The CLS of an end that opened is sent only if its user closed it, or its partner's CLS came.", "CLS",
