@@ -243,7 +243,8 @@ class ByNodeTests(unittest.TestCase):
             shutil.copyfile(f"{ROOT}/web/package.json", f"{room}/package.json")
             shutil.copyfile(f"{ROOT}/released/note.json", f"{room}/note.json")
             page = Path(f"{ROOT}/released/dorydate.html").read_text(encoding="utf-8")
-            at = page.index('id="program">') + 100_000
+            begun = page.index('id="program">') + 100_000
+            at = next(it for it in range(begun, len(page)) if page[it].isalnum())  # no end of a line
             other = page[:at] + chr(ord(page[at]) ^ 1) + page[at + 1 :]
             Path(f"{room}/dorydate.html").write_text(other, encoding="utf-8")
             ran = Program(f"{room}/run/arpasim.mjs").run(INPUT)
