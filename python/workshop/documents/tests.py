@@ -381,7 +381,7 @@ class Walks(unittest.TestCase):
             ["CONTRIBUTING.md: the row of `Event` doesn't name three, which has a walk over its cases"],
         )
         self.assertEqual([*walks.unnamed("Request", {"one"}, row)], ["CONTRIBUTING.md has no row of `Request`"])
-        paths = f"{walks.ROOT}/crates/one/src/a.rt", f"{walks.ROOT}/crates/one/specs/b.antt"
+        paths = f"{ROOT}/crates/one/src/a.rt", f"{ROOT}/crates/one/specs/b.antt"
         self.assertEqual(walks.walked_crates(paths), {"one"})
 
 

@@ -11,7 +11,7 @@ from dataclasses import dataclass
 from functools import partial
 from pathlib import Path
 
-from dorydate.definitions.files import Definition, Group, Item, Structure, Use
+from dorydate.definitions.files import Definition, Group, Item, Use
 from dorydate.definitions.library import WORDS, Defined, Library, Typed
 from dorydate.definitions.promise import WORDS_FILE, Judge, deeply
 from dorydate.definitions.reach import Reach, terms_of
