@@ -11,6 +11,6 @@ TellsEnd (Err e) ended = ended ≡ false
 abbrev pub ReadsFirst : Option (List ℕ) → Option (List ℕ) → Type 0
 ReadsFirst old new = (first : List ℕ) × Consumes old new first × (length first ≤ 268435457)
 
--- all octets are read, or 1,048,577, which are too many for an input
+-- all octets are read, or 268,435,457, which are too many for an input
 abbrev pub ReadsAll : Option (List ℕ) → Option (List ℕ) → Type 0
 ReadsAll old new = (first : List ℕ) × Consumes old new first × (IsAtEnd new ⊎ (length first ≡ 268435457))

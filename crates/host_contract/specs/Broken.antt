@@ -224,7 +224,7 @@ after = Sends 2 one ∷ Hears (command.Cls 16 33) ∷ allowed
 abbrev pub behind_cls : List Act
 behind_cls = Sends 2 one ∷ said (command.Cls 33 16) (Closes from_me ∷ allowed)
 
--- data go on another link than the sending end's, or on the link of a receiving end
+-- data leave on another link than the sending end's, or on the link of a receiving end
 abbrev pub elsewhere : List Act
 elsewhere = Sends 3 one ∷ allowed
 

@@ -51,7 +51,7 @@ used =
     book_told first (notice.Returned 16 1 4) (book_told first (notice.Arrived 16 eight) (book_told second (notice.Sent 33 eight)
     (asked second (request.Send 33 eight) (asked first (request.Grant 16 2 100) opened_kept))))
 
--- and the receiver is told that its end is over by CLS
+-- and the receiver learns by CLS that its end is over
 abbrev pub ended : Kept
 ended = book_told first (notice.Ended 16 second 33) used
 

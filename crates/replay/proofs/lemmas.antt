@@ -1,4 +1,4 @@
--- The lemmas of this crate that others may use: the proofs of command_line, trace, world_replay and world_trace do. All others in proofs/ are its own.
+-- The lemmas of this crate that others may use: the proofs of command_line, session, trace, world_replay and world_trace do. All others in proofs/ are its own.
 pub use Rattle.replay.proofs.Handing.{Each, ends_last, kept_written, one_round_seen, seen_written}
 pub use Rattle.replay.proofs.InTurn.{ends_front, in_turn_once, last_shown, last_written, one_written, text_more, text_of-append}
 pub use Rattle.replay.proofs.Passing.{grown_more}

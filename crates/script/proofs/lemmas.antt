@@ -1,4 +1,4 @@
--- The lemmas of this crate that others may use: the proofs of command_line, trace and world_script do. All others in proofs/ are its own.
+-- The lemmas of this crate that others may use: the proofs of command_line, session, trace and world_script do. All others in proofs/ are its own.
 pub use Rattle.script.proofs.Digits.{spelled_digits}
 pub use Rattle.script.proofs.Hosts.{host_unmarked}
 pub use Rattle.script.proofs.Keywords.{differs, keyword, made, operand, plain, spelled, text_of, unmarked_where}

@@ -56,7 +56,7 @@ MOST_REACHING = 0  # imports into another crate's proofs/ beside lemmas
 MOST_DEAD = 53  # declarations of proofs/ that nothing leads to that is proved; `python3 python dead` names them
 MOST_ENTRIES = 40  # of a folder of proofs/
 MOST_CROWDED = 1  # folders with more: book_judge/proofs
-MOST_FEW = 1  # names that a crate's Common passes on to one file: `runs_out` of net_sim
+MOST_FEW = 0  # names that a crate's Common passes on to one file
 MOST_NAMED = 0
 DECLARED = re.compile(
     r"\bimpl(?:<[^>]*>)? +(?:\w+::)*(\w+)"

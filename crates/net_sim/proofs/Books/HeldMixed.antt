@@ -1,12 +1,11 @@
 -- What a world with strangers keeps is enough for its next event.
-use Rattle.net_sim.proofs.Common.{◌≡◌, ℕ, Bool, false, List, [], sym, subst, MatchBool, Calls, InOrder, Host, IsAddress, is_host, IsNamed, Kept, shown, running, StepGives, WorldState, WorldFault, Carrier, Seat, ServiceSeat}
+use Rattle.net_sim.proofs.Common.{runs_out, ◌≡◌, ℕ, Bool, false, List, [], sym, subst, MatchBool, Calls, InOrder, Host, IsAddress, is_host, IsNamed, Kept, shown, running, StepGives, WorldState, WorldFault, Carrier, Seat, ServiceSeat}
 use Rattle.net_sim.specs.World.{Event}
 use Rattle.std.proofs.Common.{All, Result}
 use Rattle.std.specs.List.{filter}
 use Rattle.interface.specs.Mailboxes.{IsRun}
 use Rattle.interface.specs.declared.carrier.CarrierFault.TheVariants as fault
 use Rattle.net_sim.specs.Inside.Mixed.{IsHeldAmong}
-use Rattle.net_sim.specs.Inside.Parts.{runs_out}
 use Rattle.net_sim.specs.Laws.Worlds.{IsNamedMixed}
 use Rattle.net_sim.specs.MixedWorlds.{IsLawfulAmong, MixedCalmGives, MixedEvent, MixedEventGives, MixedState, MixedStepGives, RefusesMixed, opening_mixed, strange_in}
 use Rattle.net_sim.proofs.Books.Held.{have_addresses, still_running}

@@ -1,6 +1,5 @@
-use Rattle.net_sim.proofs.Common.{rules, ◌≡◌, shown, Calls}
+use Rattle.net_sim.proofs.Common.{rules, runs_out, ◌≡◌, shown, Calls}
 use Rattle.net_sim.specs.Inside.Mixed.{mixed_with}
-use Rattle.net_sim.specs.Inside.Parts.{runs_out}
 use Rattle.net_sim.specs.MixedWorlds.{MixedEventGives, MixedState}
 use Rattle.net_sim.proofs.Books.HeldMixed.{followed_mixed, mixed_ended, on_now}
 use Rattle.net_sim.proofs.Books.SomeWorld.{among_some, core_live}
