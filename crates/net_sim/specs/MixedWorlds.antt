@@ -2,7 +2,6 @@
 -- is, and what it takes is written down as a crossing.
 use Rattle.std.specs.Prelude.{◌≡◌, ◌⊎◌, ℕ, Bool, true, false, not, if◌then◌else◌, List, [], ◌∷◌, filter, find, map, Option, Some, None, Result, Ok, Err}
 use Rattle.std.specs.Bool.{MatchBool}
-use Rattle.std.specs.List.{list_any}
 use Rattle.interface.specs.Calls.{Calls, Seen, crossing_of}
 use Rattle.interface.specs.Host.{Host, is_host, same_host}
 use Rattle.interface.specs.Mailboxes.{IsRun}
@@ -20,11 +19,9 @@ use Rattle.net_sim.specs.Story.{Moment}
 use Rattle.net_sim.specs.Timeline.{contacts_of, crossings_of}
 use Rattle.net_sim.specs.Told.{without_reports}
 use Rattle.net_sim.specs.Whole.{AreServed, seat_in}
-use Rattle.net_sim.specs.World.{Event, Net, Quiet, Offer, Take, Ask, Server, User, Typed}
+use Rattle.net_sim.specs.World.{Event, Net, Quiet, Offer, Take, Ask, Server, User, Typed, Out}
 pub use Rattle.net_sim.specs.World.{HasProgram, NoProgram}
-use Rattle.net_sim.specs.World.{WorldState, WorldFault, Carrier, changed, with_carrier, CalmGives, Does, Halts, Passes, StepGives, opening_seats, opening_services, stops, Seat}
-pub use Rattle.net_sim.specs.declared.mixed.MixedEvent.{MixedEvent}
-pub use Rattle.net_sim.specs.declared.mixed.MixedEvent.TheVariants.{Any, Out}
+use Rattle.net_sim.specs.World.{WorldState, WorldFault, Carrier, changed, with_carrier, CalmGives, Does, Halts, Passes, StepGives, opening_seats, opening_services, stops}
 pub use Rattle.net_sim.specs.declared.mixed.StrangersFault.{StrangersFault}
 use Rattle.net_sim.specs.declared.mixed.StrangersFault.TheVariants as absent
 
@@ -110,6 +107,7 @@ asked_at (Ask h q) = Some h
 asked_at (Server h listen base) = Some h
 asked_at (User h peer listen own) = Some h
 asked_at (Typed h line) = Some h
+asked_at (Out m) = None
 
 abbrev pub is_strange : (Host → Bool) → Option Host → Bool
 is_strange strange None = false
@@ -119,37 +117,25 @@ is_strange strange (Some h) = strange h
 abbrev pub AskedGives : {C : Type 0} → Calls C → MixedState C → Event → Result (Unit {0}) WorldFault → MixedState C → Type 0
 AskedGives calls old e r new = MatchBool (is_strange (strange_in old) (asked_at e)) (RefusesMixed NoProgram old r new) (OfWorld (StepGives calls old.world e) old r new)
 
--- but it takes what came for it
-abbrev pub AnyGives : {C : Type 0} → Calls C → MixedState C → Event → Result (Unit {0}) WorldFault → MixedState C → Type 0
-AnyGives calls old (Take h) r new = MatchBool (strange_in old h) (OfWorld (FetchGives calls h old.world) old r new) (OfWorld (StepGives calls old.world (Take h)) old r new)
-AnyGives calls old e r new = AskedGives calls old e r new
-
-abbrev pub has_seat : Host → List Seat → Bool
-has_seat h seats = list_any (λ s. same_host h s.host) seats
-
--- only strangers send what no program says
-abbrev pub SaysGives : {C : Type 0} → Calls C → MixedState C → HostMessage → Result (Unit {0}) WorldFault → MixedState C → Type 0
-SaysGives calls old m r new =
-    MatchBool (strange_in old m.flow.source) (OfWorld (OutGives calls m old.world) old r new)
-    (RefusesMixed (if has_seat m.flow.source old.world.seats then HasProgram else Carrier fault.NoSuch) old r new)
-
-abbrev pub MixedEventGives : {C : Type 0} → Calls C → MixedState C → MixedEvent → Result (Unit {0}) WorldFault → MixedState C → Type 0
-MixedEventGives calls old (Any e) r new = AnyGives calls old e r new
-MixedEventGives calls old (Out m) r new = SaysGives calls old m r new
+-- but it takes what came for it, and sends what it likes
+abbrev pub MixedEventGives : {C : Type 0} → Calls C → MixedState C → Event → Result (Unit {0}) WorldFault → MixedState C → Type 0
+MixedEventGives calls old (Take h) r new = MatchBool (strange_in old h) (OfWorld (FetchGives calls h old.world) old r new) (OfWorld (StepGives calls old.world (Take h)) old r new)
+MixedEventGives calls old (Out m) r new = MatchBool (strange_in old m.flow.source) (OfWorld (OutGives calls m old.world) old r new) (OfWorld (StepGives calls old.world (Out m)) old r new)
+MixedEventGives calls old e r new = AskedGives calls old e r new
 
 -- after memory has run out every event is refused as `Stopped`
-abbrev pub MixedStepGives : {C : Type 0} → Calls C → MixedState C → MixedEvent → Result (Unit {0}) WorldFault → MixedState C → Type 0
+abbrev pub MixedStepGives : {C : Type 0} → Calls C → MixedState C → Event → Result (Unit {0}) WorldFault → MixedState C → Type 0
 MixedStepGives calls old e r new = MatchBool old.world.stopped (RefusesMixed (Carrier fault.Stopped) old r new) (MixedEventGives calls old e r new)
 
 -- ---- several events
 
 -- one event after the other: it continues after a refusal, and ends when memory runs out
-abbrev pub MixedRuns : {C : Type 0} → Calls C → MixedState C → List MixedEvent → Result (Unit {0}) WorldFault → MixedState C → Type 0
+abbrev pub MixedRuns : {C : Type 0} → Calls C → MixedState C → List Event → Result (Unit {0}) WorldFault → MixedState C → Type 0
 MixedRuns calls old [] r new = (r ≡ Ok tt) × (new ≡ old)
 MixedRuns {C} calls old (e ∷ events) r new =
     (answer : Result (Unit {0}) WorldFault) × (mid : MixedState C) × MixedStepGives calls old e answer mid × MatchBool (stops answer) ((r ≡ answer) × (new ≡ mid)) (MixedRuns calls mid events r new)
 
-abbrev pub MixedRunGives : {C : Type 0} → Calls C → MixedState C → List MixedEvent → Result (Unit {0}) WorldFault → MixedState C → Type 0
+abbrev pub MixedRunGives : {C : Type 0} → Calls C → MixedState C → List Event → Result (Unit {0}) WorldFault → MixedState C → Type 0
 MixedRunGives calls old events r new = MatchBool old.world.stopped (RefusesMixed (Carrier fault.Stopped) old r new) (MixedRuns calls old events r new)
 
 -- this many times: a quiet round, and then each host with a program that is up takes and offers. A stranger has no turn

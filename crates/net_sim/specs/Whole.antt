@@ -8,7 +8,7 @@ use Rattle.net_sim.specs.Story.{Moment, program}
 use Rattle.net_sim.specs.Timeline.{IsAddressed, IsAsked, IsTimeline, crossings_of, contacts_of}
 use Rattle.net_sim.specs.Told.{kept_in, without_reports}
 use Rattle.host_services.specs.Named.{NamePeers}
-use Rattle.net_sim.specs.World.{Event, Net, Quiet, Offer, Take, Ask, Server, User, Typed, Seat, ServiceSeat, WorldState}
+use Rattle.net_sim.specs.World.{Event, Net, Quiet, Offer, Take, Ask, Server, User, Typed, Out, Seat, ServiceSeat, WorldState}
 
 -- a host's seat after these moments
 abbrev pub seat_in : List Host → List Moment → Host → Seat
@@ -41,6 +41,7 @@ IsNamed (Ask h r) = IsAddressed r × IsAsked r
 IsNamed (Server h listen base) = Unit {0}
 IsNamed (User h peer listen own) = IsAddress peer × IsWord listen
 IsNamed (Typed h line) = Unit {0}
+IsNamed (Out m) = Unit {0}
 
 abbrev pub Each : (Event → Type 0) → List Event → Type 0
 Each P [] = Unit {0}

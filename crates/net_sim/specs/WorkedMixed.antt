@@ -5,11 +5,10 @@ use Rattle.interface.specs.Calls.{Calls, Seen, ShowsTake}
 use Rattle.interface.specs.Host.{Host, same_host}
 use Rattle.interface.specs.declared.crossing.Crossing.TheVariants as crossing
 use Rattle.interface.specs.declared.crossing.Inbound.{Inbound}
-use Rattle.net_sim.specs.MixedWorlds.{MixedCalmGives, MixedEvent, MixedState, MixedStepGives, OpensMixed, StrangersFault, opening_mixed}
+use Rattle.net_sim.specs.MixedWorlds.{MixedCalmGives, MixedState, MixedStepGives, OpensMixed, StrangersFault, opening_mixed}
 use Rattle.net_sim.specs.declared.mixed.StrangersFault.TheVariants as absent
 use Rattle.net_sim.specs.Worked.{accepting_carrier, any_carrier, message}
-use Rattle.net_sim.specs.MixedWorlds.{Out}
-use Rattle.net_sim.specs.World.{WorldFault}
+use Rattle.net_sim.specs.World.{Event, Out, WorldFault}
 use Rattle.sockets.specs.Worked.{first, second, third}
 
 -- hosts that aren't there
@@ -50,7 +49,7 @@ abbrev pub spent : MixedState Seen
 spent = record beside_third { world = record beside_third.world { stopped = true } }
 
 -- an event is refused for this, and changes nothing
-abbrev pub IsRefusedThere : MixedState Seen → MixedEvent → WorldFault → Type 0
+abbrev pub IsRefusedThere : MixedState Seen → Event → WorldFault → Type 0
 IsRefusedThere s e f = (r : Result (Unit {0}) WorldFault) (new : MixedState Seen) → MixedStepGives any_carrier s e r new → (r ≡ Err f) × (new ≡ s)
 
 -- what a stranger says to a carrier that takes each message is written down, and nobody is notified, until memory runs out

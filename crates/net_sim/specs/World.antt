@@ -1,6 +1,7 @@
 -- Hosts with their programs over a carrier, whatever it is made of, and each event of them.
 use Rattle.std.specs.Prelude.{◌≡◌, ◌⊎◌, ℕ, ◌||◌, Bool, true, false, if◌then◌else◌, zero, suc, List, [], ◌∷◌, map, filter, length, find, nat_lt, Option, Some, None, Result, Ok, Err, is_some}
 use Rattle.std.specs.Bool.{MatchBool}
+use Rattle.std.specs.List.{list_any}
 use Rattle.interface.specs.Calls.{Calls, Seen, crossing_of, step_crossings, is_memory, is_halt}
 use Rattle.interface.specs.Host.{Host, same_host}
 use Rattle.interface.specs.declared.carrier.CarrierFault.{CarrierFault}
@@ -11,7 +12,7 @@ use Rattle.interface.specs.declared.crossing.Inbound.{Inbound}
 use Rattle.interface.specs.declared.event.NetEvent.{NetEvent}
 use Rattle.interface.specs.declared.message.HostMessage.{HostMessage}
 pub use Rattle.net_sim.specs.declared.event.Event.{Event}
-pub use Rattle.net_sim.specs.declared.event.Event.TheVariants.{Net, Quiet, Offer, Take, Ask, Server, User, Typed}
+pub use Rattle.net_sim.specs.declared.event.Event.TheVariants.{Net, Quiet, Offer, Take, Ask, Server, User, Typed, Out}
 pub use Rattle.net_sim.specs.declared.event.WorldFault.{WorldFault}
 pub use Rattle.net_sim.specs.declared.event.WorldFault.TheVariants.{Carrier, Program, NoProgram, HasProgram}
 pub use Rattle.net_sim.specs.declared.seat.Seat.{Seat}
@@ -37,6 +38,9 @@ opening_seats hosts = map (λ h. record { host = h; program = Some (opening_stat
 
 abbrev pub seat_of : Host → List Seat → Option Seat
 seat_of h seats = find (λ s. same_host h s.host) seats
+
+abbrev pub has_seat : Host → List Seat → Bool
+has_seat h seats = list_any (λ s. same_host h s.host) seats
 
 abbrev pub with_program : Bool → Option NcpState → Seat → Seat
 with_program here program s = if here then record { host = s.host; program = program } else s
@@ -245,6 +249,15 @@ TypeGives h line s (Some socket) old r new = AskGives h (request.Send socket (li
 abbrev pub DoesOrHalts : {C : Type 0} → WorldState C → WorldState C → Result (Unit {0}) WorldFault → WorldState C → Type 0
 DoesOrHalts done old r new = Does done r new ⊎ Halts old.carrier old r new
 
+-- what only a stranger sends
+abbrev pub is_sent : Event → Bool
+is_sent (Out m) = true
+is_sent e = false
+
+-- only strangers send what no program says: why it is refused of another
+abbrev pub unsaid : HostMessage → List Seat → WorldFault
+unsaid m seats = if has_seat m.flow.source seats then HasProgram else Carrier fault.NoSuch
+
 -- a host that isn't there and one that is down are refused before anything else
 abbrev pub AtProgram : {C : Type 0} → (NcpState → Type 0) → Option NcpState → WorldState C → Result (Unit {0}) WorldFault → WorldState C → Type 0
 AtProgram Gives None old r new = Refuses (Carrier fault.IsDown) old r new
@@ -263,6 +276,7 @@ EventGives calls old (Ask h q) r new = AtSeat (λ s. AskGives h q s (refusal s q
 EventGives calls old (Server h listen base) r new = AtSeat (λ s. DoesOrHalts (with_server h listen base s old) old r new) (seat_of h old.seats) old r new
 EventGives calls old (User h peer listen own) r new = AtSeat (λ s. DoesOrHalts (with_user h peer listen own s old) old r new) (seat_of h old.seats) old r new
 EventGives calls old (Typed h line) r new = AtSeat (λ s. TypeGives h line s (services_of h old.services).typing old r new) (seat_of h old.seats) old r new
+EventGives calls old (Out m) r new = Refuses (unsaid m old.seats) old r new
 
 -- after memory has run out every event is refused as `Stopped`
 abbrev pub StepGives : {C : Type 0} → Calls C → WorldState C → Event → Result (Unit {0}) WorldFault → WorldState C → Type 0

@@ -1,7 +1,7 @@
 //! What may happen in a world, and why it is refused.
 
 use host_services::TypedLine;
-use interface::{CarrierFault, HostAddr, NetEvent};
+use interface::{CarrierFault, HostAddr, HostMessage, NetEvent};
 use sockets::{NcpFault, Request};
 use thiserror::Error;
 
@@ -48,6 +48,8 @@ pub enum Event {
         /// The line that is typed.
         line: TypedLine,
     },
+    /// A stranger's message goes to the network as it is. Its source is the stranger; a host with a program says itself what goes out.
+    Out(HostMessage),
 }
 
 /// Why an event is refused.

@@ -4,14 +4,16 @@ ghost use Rattle.std.specs.Prelude.{◌≡◌};
 ghost use Rattle.net_sim.specs.Carriers.{shown};
 ghost use Rattle.net_sim.specs.Inside.Parts.{AreLive, world_after, world_of};
 ghost use Rattle.net_sim.specs.Whole.{IsNamed};
-ghost use Rattle.net_sim.specs.World.{EventGives, Net, Quiet, Offer, Take, Ask, Server, User, Typed};
+ghost use Rattle.net_sim.specs.World as world;
+ghost use Rattle.net_sim.specs.World.{EventGives, Net, Quiet, Offer, Take, Ask, Server, User, Typed, Out};
 
 use crate::asking::is_addressed;
 use crate::hosting::likely_place;
 use crate::parts::Hosts;
+use crate::seat::Seat;
 use crate::{Event, WorldFault};
 use host_services::TypedLine;
-use interface::{Carrier, HostAddr, NetEvent};
+use interface::{Carrier, CarrierFault, HostAddr, HostMessage, NetEvent};
 use sockets::Request;
 
 /// Lets an event happen inside the network, or to a host.
@@ -150,7 +152,30 @@ pub(crate) fn type_line<C: Carrier>(
     hosts.type_at(at, line)
 }
 
-/// Lets any of the eight events happen.
+/// Returns whether a host has a seat.
+fn has_seat(seats: &[Seat], host: HostAddr) -> bool
+    ensures { result ≡ world.has_seat host seats.now }
+{
+    seats.iter().any(|seat| host == seat.host)
+}
+
+/// Refuses a message that another than a stranger is to send: a host with a program says itself what goes out.
+pub(crate) fn refuse<C: Carrier>(
+    carrier: &mut C,
+    hosts: &mut Hosts,
+    message: &HostMessage,
+) -> Result<(), WorldFault>
+    ensures { EventGives (shown C.calls) (world_of carrier.old hosts.old) (Out message.now) result (world_after carrier.new hosts.new result) }
+{
+    // for the proof only, as in `ask`
+    let _ = carrier.log();
+    if has_seat(hosts.seats(), message.flow.source) {
+        return Err(WorldFault::HasProgram);
+    }
+    Err(WorldFault::Carrier(CarrierFault::NoSuch))
+}
+
+/// Lets any of the nine events happen where no host is a stranger.
 pub(crate) fn follow<C: Carrier>(
     carrier: &mut C,
     hosts: &mut Hosts,
@@ -179,6 +204,7 @@ pub(crate) fn follow<C: Carrier>(
             own,
         } => begin_user(carrier, hosts, *host, *peer, *listen, *own),
         Event::Typed { host, line } => { type_line(carrier, hosts, *host, line) }
+        Event::Out(message) => refuse(carrier, hosts, message),
     }
 }
 
@@ -198,6 +224,7 @@ pub(crate) fn is_named(event: &Event)
         | Event::Offer(_)
         | Event::Take(_)
         | Event::Server { .. }
-        | Event::Typed { .. } => {}
+        | Event::Typed { .. }
+        | Event::Out(_) => {}
     }
 }

@@ -51,7 +51,7 @@ pub use book::Book;
 pub use calm::OFFERS;
 pub use event::{Event, WorldFault};
 pub use host_services::{Report, Reported, TypedLine};
-pub use mixed::{MixedEvent, StrangersFault};
+pub use mixed::StrangersFault;
 pub use mixed_world::MixedWorld;
 pub use promise::{Amount, BitLog, Called, Life, Told};
 pub use seat::{Seat, ServiceSeat};

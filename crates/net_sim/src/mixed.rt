@@ -1,17 +1,7 @@
-//! What may happen in a world with strangers, and why it is refused.
+//! Why there is no world with strangers.
 
-use crate::event::Event;
-use interface::{HostAddr, HostMessage};
+use interface::HostAddr;
 use thiserror::Error;
-
-/// What may happen in a world some of whose hosts are strangers, that run no program of these.
-#[derive(Debug, Drop)]
-pub enum MixedEvent {
-    /// What may happen in any world. Nobody notifies a stranger of what it takes.
-    Any(Event),
-    /// A stranger's message goes to the network as it is. Its source is the stranger.
-    Out(HostMessage),
-}
 
 /// Why there is no world with these strangers.
 #[derive(Clone, Copy, Debug, Drop, PartialEq, Eq, Error)]

@@ -11,7 +11,7 @@ ghost use Rattle.net_sim.specs.World.{StepGives};
 ghost use Rattle.promise.specs.Fates.{AreFated};
 
 use crate::book::Book;
-use crate::mixed::{MixedEvent, StrangersFault};
+use crate::mixed::StrangersFault;
 use crate::parts::Hosts;
 use crate::seat::{Seat, ServiceSeat};
 use crate::strangers::{absent_in, programs_of, strangers_of};
@@ -143,7 +143,7 @@ impl<C: Carrier> MixedWorld<C> {
     ///
     /// Errors: those of [`World::step`](crate::World::step), and before them `NoProgram` for what a stranger's user or program would be
     /// asked for, and `HasProgram` where another than a stranger is to send a message that its program doesn't say.
-    pub fn step(&mut self, event: MixedEvent) -> Result<(), WorldFault>
+    pub fn step(&mut self, event: Event) -> Result<(), WorldFault>
         ensures { MixedStepGives (shown C.calls) self.old event result self.new }
     {
         self.core.step_among(&self.strangers, event)
@@ -163,7 +163,7 @@ impl<C: Carrier> MixedWorld<C> {
     }
 
     /// Lets one event happen after the other. It continues after a refusal, and ends when memory runs out.
-    pub fn run(&mut self, events: Vec<MixedEvent>) -> Result<(), WorldFault>
+    pub fn run(&mut self, events: Vec<Event>) -> Result<(), WorldFault>
         ensures { MixedRunGives (shown C.calls) self.old events.items result self.new }
     {
         if self.core.is_stopped() {

@@ -5,18 +5,15 @@ ghost use Rattle.interface.specs.Host.{is_host};
 ghost use Rattle.net_sim.specs.Carriers.{shown};
 ghost use Rattle.net_sim.specs.Inside.Mixed.{mixed_after, mixed_of};
 ghost use Rattle.net_sim.specs.Inside.Parts.{AreLive, world_after, world_of};
-ghost use Rattle.net_sim.specs.Laws.Worlds.{IsNamedMixed};
 ghost use Rattle.net_sim.specs.MixedWorlds as mixed;
-ghost use Rattle.net_sim.specs.World.{Take};
-ghost use Rattle.net_sim.specs.MixedWorlds.{AnyGives, AskedGives, FetchGives, MixedEventGives, OutGives, SaysGives, with_programs};
+ghost use Rattle.net_sim.specs.World.{Out, Take};
+ghost use Rattle.net_sim.specs.MixedWorlds.{AskedGives, FetchGives, MixedEventGives, OutGives, with_programs};
 
-use crate::events::{self, follow, is_named};
+use crate::events::{self, follow, refuse};
 use crate::hosting::likely_place;
-use crate::mixed::MixedEvent;
 use crate::parts::Hosts;
-use crate::seat::Seat;
 use crate::{Event, WorldFault};
-use interface::{Carrier, CarrierFault, HostAddr, HostMessage};
+use interface::{Carrier, HostAddr, HostMessage};
 use std::alloc::{AllocError, Global};
 
 /// Returns whether a host is one of these.
@@ -67,13 +64,6 @@ pub(crate) fn programs_of(
     Ok(found)
 }
 
-/// Returns whether a host has a seat.
-fn has_seat(seats: &[Seat], host: HostAddr) -> bool
-    ensures { result ≡ mixed.has_seat host seats.now }
-{
-    seats.iter().any(|seat| host == seat.host)
-}
-
 /// Returns the host that sends a message.
 fn source_of(message: &HostMessage) -> HostAddr
     ensures { result ≡ message.now.flow.source }
@@ -86,7 +76,7 @@ fn asked_at(event: &Event) -> Option<HostAddr>
     ensures { result ≡ mixed.asked_at event.now }
 {
     match event {
-        Event::Net(_) | Event::Quiet | Event::Take(_) => None,
+        Event::Net(_) | Event::Quiet | Event::Take(_) | Event::Out(_) => None,
         Event::Offer(host)
         | Event::Ask(host, _)
         | Event::Server { host, .. }
@@ -139,18 +129,13 @@ fn say<C: Carrier>(
     strangers: &[HostAddr],
     message: HostMessage,
 ) -> Result<(), WorldFault>
-    ensures { SaysGives (shown C.calls) (mixed_of carrier.old hosts.old strangers.now) message result (mixed_after carrier.new hosts.new strangers.now result) }
+    ensures { MixedEventGives (shown C.calls) (mixed_of carrier.old hosts.old strangers.now) (Out message) result (mixed_after carrier.new hosts.new strangers.now result) }
 {
     let source = source_of(&message);
     if is_among(strangers, source) {
         return go_out(carrier, hosts, message);
     }
-    // for the proof only: the carrier is asked nothing else here, and `log` says what it shows, which stays the same
-    let _ = carrier.log();
-    if has_seat(hosts.seats(), source) {
-        return Err(WorldFault::HasProgram);
-    }
-    Err(WorldFault::Carrier(CarrierFault::NoSuch))
+    refuse(carrier, hosts, &message)
 }
 
 /// Lets a host take what came for it. A stranger's taking is only written down.
@@ -161,7 +146,7 @@ fn take<C: Carrier>(
     host: HostAddr,
 ) -> Result<(), WorldFault>
     requires live { AreLive hosts.old.seats }
-    ensures { AnyGives (shown C.calls) (mixed_of carrier.old hosts.old strangers.now) (Take host) result (mixed_after carrier.new hosts.new strangers.now result) }
+    ensures { MixedEventGives (shown C.calls) (mixed_of carrier.old hosts.old strangers.now) (Take host) result (mixed_after carrier.new hosts.new strangers.now result) }
 {
     if is_among(strangers, host) {
         return fetch(carrier, hosts, host);
@@ -181,58 +166,32 @@ fn ask<C: Carrier>(
     ensures { AskedGives (shown C.calls) (mixed_of carrier.old hosts.old strangers.now) event.now result (mixed_after carrier.new hosts.new strangers.now result) }
 {
     if asks_stranger(strangers, event) {
-        // for the proof only, as in `say`
+        // for the proof only: the carrier is asked nothing here, and `log` says what it shows, which stays the same
         let _ = carrier.log();
         return Err(WorldFault::NoProgram);
     }
     follow(carrier, hosts, event)
 }
 
-/// Lets happen what may happen in any world. A stranger takes what came for it, and is asked for nothing.
-fn happen<C: Carrier>(
+/// Lets any event happen. A stranger takes what came for it and sends what it likes, and is asked for nothing.
+pub(crate) fn follow_mixed<C: Carrier>(
     carrier: &mut C,
     hosts: &mut Hosts,
     strangers: &[HostAddr],
-    event: &Event,
+    event: Event,
 ) -> Result<(), WorldFault>
     requires live { AreLive hosts.old.seats }
-    ensures { AnyGives (shown C.calls) (mixed_of carrier.old hosts.old strangers.now) event.now result (mixed_after carrier.new hosts.new strangers.now result) }
+    ensures { MixedEventGives (shown C.calls) (mixed_of carrier.old hosts.old strangers.now) event result (mixed_after carrier.new hosts.new strangers.now result) }
 {
     match event {
-        Event::Take(host) => take(carrier, hosts, strangers, *host),
+        Event::Out(message) => say(carrier, hosts, strangers, message),
+        Event::Take(host) => take(carrier, hosts, strangers, host),
         Event::Net(_)
         | Event::Quiet
         | Event::Offer(_)
         | Event::Ask(..)
         | Event::Server { .. }
         | Event::User { .. }
-        | Event::Typed { .. } => ask(carrier, hosts, strangers, event),
-    }
-}
-
-/// Lets any event happen.
-pub(crate) fn follow_mixed<C: Carrier>(
-    carrier: &mut C,
-    hosts: &mut Hosts,
-    strangers: &[HostAddr],
-    event: MixedEvent,
-) -> Result<(), WorldFault>
-    requires live { AreLive hosts.old.seats }
-    ensures { MixedEventGives (shown C.calls) (mixed_of carrier.old hosts.old strangers.now) event result (mixed_after carrier.new hosts.new strangers.now result) }
-{
-    match event {
-        MixedEvent::Any(event) => happen(carrier, hosts, strangers, &event),
-        MixedEvent::Out(message) => say(carrier, hosts, strangers, message),
-    }
-}
-
-/// Proves that a user names its peer by an address, with numbers in their ranges, as their types promise.
-///
-/// It is there for the proof only, as `is_named` is.
-pub(crate) fn is_named_mixed(event: &MixedEvent)
-    ensures { IsNamedMixed event.now }
-{
-    if let MixedEvent::Any(event) = event {
-        is_named(event);
+        | Event::Typed { .. } => ask(carrier, hosts, strangers, &event),
     }
 }

@@ -2,14 +2,14 @@
 
 ghost use Rattle.std.specs.Prelude.{◌≡◌, ℕ, [], ◌∷◌, None, Some, Ok, map};
 ghost use Rattle.interface.specs.declared.carrier.CarrierFault.TheVariants as fault;
-ghost use Rattle.net_sim.specs.MixedWorlds.{Any, MixedCalmGives, Out, NoProgram, HasProgram};
+ghost use Rattle.net_sim.specs.MixedWorlds.{MixedCalmGives, NoProgram, HasProgram};
 ghost use Rattle.net_sim.specs.MixedWorlds.{absent_in, opening_mixed};
 ghost use Rattle.net_sim.specs.Rest.{IsAtRest};
 ghost use Rattle.net_sim.specs.Worked.{any_carrier, message};
 ghost use Rattle.net_sim.specs.WorkedMixed.{IsCalmRefused, IsMadeNaming, IsRefusedNaming, IsRefusedThere, IsWritten};
 ghost use Rattle.net_sim.specs.WorkedMixed.{beside_nobody, beside_third, fifth, fourth, spent, three_seen};
 ghost use Rattle.net_sim.specs.WorkedMixed.{waiting_carrier};
-ghost use Rattle.net_sim.specs.World.{Carrier, Ask, Offer, up_in};
+ghost use Rattle.net_sim.specs.World.{Carrier, Ask, Offer, Out, up_in};
 ghost use Rattle.sockets.specs.Worked.{first, second, third};
 ghost use Rattle.sockets.specs.declared.request.Request.TheVariants as request;
 
@@ -28,9 +28,9 @@ pub fn worked_strangers()
     ensures made { IsMadeNaming (third ∷ []) beside_third }
 
     // a stranger's user and program are asked for nothing, and a host that isn't there isn't a stranger
-    ensures asked { IsRefusedThere beside_third (Any (Ask third (request.Echo second 65))) NoProgram }
-    ensures offered { IsRefusedThere beside_third (Any (Offer third)) NoProgram }
-    ensures absent { IsRefusedThere beside_third (Any (Offer fourth)) (Carrier fault.NoSuch) }
+    ensures asked { IsRefusedThere beside_third (Ask third (request.Echo second 65)) NoProgram }
+    ensures offered { IsRefusedThere beside_third (Offer third) NoProgram }
+    ensures absent { IsRefusedThere beside_third (Offer fourth) (Carrier fault.NoSuch) }
 
     // no host speaks for another that runs the program, and none for one that isn't there
     ensures program { IsRefusedThere beside_third (Out (message first second 2)) HasProgram }
@@ -38,7 +38,7 @@ pub fn worked_strangers()
 
     // after memory has run out nothing comes before Stopped
     ensures stopped { IsRefusedThere spent (Out (message first second 2)) (Carrier fault.Stopped) }
-    ensures stopped_asking { IsRefusedThere spent (Any (Offer third)) (Carrier fault.Stopped) }
+    ensures stopped_asking { IsRefusedThere spent (Offer third) (Carrier fault.Stopped) }
 
     ensures written { IsWritten }
 {}

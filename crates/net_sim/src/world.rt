@@ -112,7 +112,8 @@ impl<C: Carrier> World<C> {
     ///
     /// Errors: `Carrier(NoSuch)` for an event at a host that the network doesn't have and `Carrier(IsDown)` at one that is
     /// down, before anything else; what the carrier refuses; what the host's program refuses, as `Program`, and so
-    /// `NotOpen` for a line where no terminal came. What a server or a user asks for is never refused here: that is
+    /// `NotOpen` for a line where no terminal came; `HasProgram` for a message that a stranger would send, whether or not
+    /// the host is up. What a server or a user asks for is never refused here: that is
     /// reported. Memory can run out only in the carrier, at an offer of something, at a taking of something, at an
     /// event by which something crosses, at a request or a line that isn't refused, and where a server or a user
     /// begins.

@@ -16,10 +16,9 @@ ghost use Rattle.net_sim.specs.Inside.Parts.{AreLive, world_after};
 
 use crate::book::Book;
 use crate::events::{follow, is_named, offer, take};
-use crate::mixed::MixedEvent;
 use crate::parts::Hosts;
 use crate::seat::{Seat, ServiceSeat};
-use crate::strangers::{follow_mixed, is_named_mixed};
+use crate::strangers::follow_mixed;
 use crate::{Event, WorldFault};
 use interface::{Carrier, CarrierFault, HostAddr};
 use sockets::NcpFault;
@@ -146,7 +145,7 @@ impl<C: Carrier> WorldCore<C> {
     pub(crate) fn step_among(
         &mut self,
         strangers: &[HostAddr],
-        event: MixedEvent,
+        event: Event,
     ) -> Result<(), WorldFault>
         requires { IsHeldAmong C.calls.seen (mixed_with self.old strangers.now) }
         ensures gives { MixedStepGives (shown C.calls) (mixed_with self.old strangers.now) event result (mixed_with self.new strangers.now) }
@@ -155,7 +154,7 @@ impl<C: Carrier> WorldCore<C> {
         if self.stopped {
             return Err(WorldFault::Carrier(CarrierFault::Stopped));
         }
-        is_named_mixed(&event);
+        is_named(&event);
         let done = follow_mixed(&mut self.carrier, &mut self.hosts, strangers, event);
         // for the proof only, as in `step`
         let _ = self.carrier.log();
@@ -164,7 +163,7 @@ impl<C: Carrier> WorldCore<C> {
     }
 }
 
-/// Lets any of the eight events happen, as [`follow`] does, at a likely place if one is given.
+/// Lets any event happen, as [`follow`] does, at a likely place if one is given.
 fn follow_near<C: Carrier>(
     carrier: &mut C,
     hosts: &mut Hosts,

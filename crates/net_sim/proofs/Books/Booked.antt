@@ -125,7 +125,7 @@ module _ {C : Type 0} (own : Calls C) where
   }
 
   pub step_books : (e : Event) (old : WorldState C) (r : Answered) (new : WorldState C) → IsBooked own.seen old → StepGives calls old e r new → IsBooked own.seen new
-  step_books e old r new b h = step_way (shown own) Logged log_shown Books books_ways e old r new h b
+  step_books e old r new b h = step_way (shown own) Logged log_shown Books books_ways e (λ is w k. k) old r new h b
 
   -- what a stranger sends or takes
   strange_books : (c : C) (x : Crossing) (old : WorldState C) → old.stopped ≡ false → Logged old.carrier c (x ∷ []) → Books old (Ok tt) (changed c (x ∷ []) old)

@@ -9,8 +9,9 @@ use Rattle.interface.specs.declared.event.NetEvent.TheVariants as event
 use Rattle.sockets.specs.Sending.{offered}
 use Rattle.sockets.specs.declared.fault.NcpFault.TheVariants as problem
 use Rattle.sockets.specs.declared.request.Request.TheVariants as request
-use Rattle.net_sim.specs.World.{Event, Take}
-use Rattle.net_sim.specs.World.{Passes, changed, is_of_strangers}
+use Rattle.net_sim.specs.World.{Event, Out, Take}
+use Rattle.net_sim.specs.World.{Passes, changed, has_seat, is_of_strangers, is_sent}
+use Rattle.net_sim.specs.World as world
 
 abbrev pub Answered : Type 0
 Answered = Result (Unit {0}) WorldFault
@@ -49,7 +50,7 @@ HasProgram h s w = (seat : Seat) × (seat_of h w.seats ≡ Some seat) × (seat.p
 
 -- the relation holds of each way in which an event of a world that hasn't stopped can end: nothing is done, memory runs out, the carrier
 -- refuses, nothing crosses, a program's message goes out or something comes in for one, the network's own crossings, and what a user asks
--- for or begins
+-- for or begins. What only a stranger sends is refused too, which isn't among these ways
 pub record Ways {C : Type 0} (calls : Calls C) (Crossed : C → C → List Crossing → Type 0) (R : WorldState C → Answered → WorldState C → Type 0) : Type 0 where
   pub left : (r : Answered) (w : WorldState C) → is_of_strangers r ≡ false → R w r w
   pub halted : (c : C) (cs : List Crossing) (old : WorldState C) (r : Answered) (new : WorldState C) → old.stopped ≡ false
@@ -184,22 +185,28 @@ module _ {C : Type 0} (calls : Calls C) (Crossed : C → C → List Crossing →
       → ((s : NcpState) → HasProgram h s old → Gives s → R old r new) → AtSeat Gives (seat_of h old.seats) old r new → R old r new
   at_host h Gives old r new k t = at_seat h Gives (seat_of h old.seats) old r new refl k t
 
-  pub event_way : (e : Event) (old : WorldState C) (r : Answered) (new : WorldState C) → old.stopped ≡ false → EventGives calls old e r new → R old r new
-  event_way (Net e) old r new running t = net_ends e t.0 t.1 old r new running t.2 t.3
-  event_way Quiet old r new running t = quiet_ends t.0 t.1 old r new running t.2 t.3
-  event_way (Offer h) old r new running t =
+  pub event_way : (e : Event) → (is_sent e ≡ true → (w : WorldState C) → R w (Err world.HasProgram) w)
+      → (old : WorldState C) (r : Answered) (new : WorldState C) → old.stopped ≡ false → EventGives calls old e r new → R old r new
+  event_way (Out m) unsaid_way old r new running t =
+      subst (R old r) (sym t.1) (subst (λ (a : Answered). R old a old) (sym t.0) (by (has_seat m.flow.source old.seats))) where
+    by : (b : Bool) → R old (Err (if b then world.HasProgram else Carrier fault.NoSuch)) old
+    by true = unsaid_way refl old
+    by false = ways.left (Err (Carrier fault.NoSuch)) old refl
+  event_way (Net e) unsaid_way old r new running t = net_ends e t.0 t.1 old r new running t.2 t.3
+  event_way Quiet unsaid_way old r new running t = quiet_ends t.0 t.1 old r new running t.2 t.3
+  event_way (Offer h) unsaid_way old r new running t =
       at_host h (λ s. OfferGives calls h s (next_out s) old r new) old r new (λ s has g. offer_way h s (next_out s) old r new running has refl g) t
-  event_way (Take h) old r new running t =
+  event_way (Take h) unsaid_way old r new running t =
       at_host h (λ s. TakeGives calls h s old r new) old r new (λ s has g. take_ends h s g.0 g.1 old r new running has g.2 g.3) t
-  event_way (Ask h q) old r new running t =
+  event_way (Ask h q) unsaid_way old r new running t =
       at_host h (λ s. AskGives h q s (refusal s q) old r new) old r new (λ s has g. ask_way h q s (refusal s q) old r new running has refl g) t
-  event_way (Server h listen base) old r new running t =
+  event_way (Server h listen base) unsaid_way old r new running t =
       at_host h (λ s. DoesOrHalts (with_server h listen base s old) old r new) old r new
       (λ s has g. does_or_halts (with_server h listen base s old) old r new running (ways.server h listen base s old running has) g) t
-  event_way (User h peer listen own) old r new running t =
+  event_way (User h peer listen own) unsaid_way old r new running t =
       at_host h (λ s. DoesOrHalts (with_user h peer listen own s old) old r new) old r new
       (λ s has g. does_or_halts (with_user h peer listen own s old) old r new running (ways.user h peer listen own s old running has) g) t
-  event_way (Typed h line) old r new running t =
+  event_way (Typed h line) unsaid_way old r new running t =
       at_host h (λ s. TypeGives h line s (services_of h old.services).typing old r new) old r new
       (λ s has g. type_way h line s (services_of h old.services).typing old r new running has g) t
 
@@ -209,5 +216,6 @@ module _ {C : Type 0} (calls : Calls C) (Crossed : C → C → List Crossing →
   if_stopped P old r new false is k h = k is h
 
   -- one event, whether or not the world has stopped
-  pub step_way : (e : Event) (old : WorldState C) (r : Answered) (new : WorldState C) → StepGives calls old e r new → R old r new
-  step_way e old r new h = if_stopped (EventGives calls old e r new) old r new old.stopped refl (λ running g. event_way e old r new running g) h
+  pub step_way : (e : Event) → (is_sent e ≡ true → (w : WorldState C) → R w (Err world.HasProgram) w)
+      → (old : WorldState C) (r : Answered) (new : WorldState C) → StepGives calls old e r new → R old r new
+  step_way e unsaid_way old r new h = if_stopped (EventGives calls old e r new) old r new old.stopped refl (λ running g. event_way e unsaid_way old r new running g) h

@@ -1,13 +1,12 @@
 -- Worlds with strangers, event by event.
-use Rattle.net_sim.proofs.Common.{◌≡◌, ℕ, Bool, true, false, List, [], ◌∷◌, refl, sym, subst, MatchBool, if◌then◌else◌, Calls, Host, is_host, Crossing, HostMessage, shown, HaveAddresses, IsNamed, WorldState, WorldFault, Carrier, Net, Quiet, Offer, Ask, Server, User, Typed, CalmGives, StepGives}
+use Rattle.net_sim.proofs.Common.{◌≡◌, ℕ, Bool, true, false, List, [], ◌∷◌, refl, sym, subst, MatchBool, Calls, Host, is_host, Crossing, HostMessage, shown, HaveAddresses, Each, IsNamed, WorldState, WorldFault, Carrier, Net, Quiet, Offer, Ask, Server, User, Typed, CalmGives, StepGives}
 use Rattle.std.proofs.Common.{Result}
 use Rattle.interface.specs.Mailboxes.{IsRun}
 use Rattle.interface.specs.declared.carrier.CarrierFault.TheVariants as fault
 use Rattle.net_sim.specs.Carriers.{IsBooked}
-use Rattle.net_sim.specs.Laws.Worlds.{AreNamedMixed, IsNamedMixed}
-use Rattle.net_sim.specs.MixedWorlds.{AnyGives, FetchGives, HasProgram, IsLawfulAmong, IsWholeAmong, MixedEvent, MixedEventGives, MixedCalmGives, MixedRunGives, MixedRuns, MixedState, MixedStepGives, NoProgram, OfWorld, OutGives, RefusesMixed, SaysGives, Any, Out, asked_at, has_seat, is_strange, opening_among, strange_in}
+use Rattle.net_sim.specs.MixedWorlds.{FetchGives, IsLawfulAmong, IsWholeAmong, MixedEventGives, MixedCalmGives, MixedRunGives, MixedRuns, MixedState, MixedStepGives, NoProgram, OfWorld, OutGives, RefusesMixed, asked_at, is_strange, opening_among, strange_in}
 use Rattle.net_sim.specs.Reports.{AreReported}
-use Rattle.net_sim.specs.World.{Event, Take, stops}
+use Rattle.net_sim.specs.World.{Event, Out, Take, stops}
 use Rattle.net_sim.proofs.Books.Booked.{among_booked, calm_books, fetch_books, out_books, step_books}
 use Rattle.net_sim.proofs.Books.Reported.{among_reported, calm_reported, fetch_reported, out_reported, step_reported}
 use Rattle.net_sim.proofs.Books.Whole.{calm_among, fetch_among, opening_among_whole, out_among, step_among}
@@ -78,31 +77,30 @@ module _ {C : Type 0} (own : Calls C) (hosts : List Host) where
       (λ on no. refused NoProgram old r new k no)
       (λ off does. of_world (StepGives (shown own) old.world e) old r new (λ answer g. step_keeps (strange_in old) e old.world answer new.world named k g) does) h
 
-  take_keeps : (h : Host) (old : MixedState C) (r : Answer) (new : MixedState C) → old.world.stopped ≡ false → Kept old → AnyGives (shown own) old (Take h) r new → Kept new
+  take_keeps : (h : Host) (old : MixedState C) (r : Answer) (new : MixedState C) → old.world.stopped ≡ false → Kept old → MixedEventGives (shown own) old (Take h) r new → Kept new
   take_keeps h old r new running k gives =
       either (OfWorld (FetchGives (shown own) h old.world) old r new) (OfWorld (StepGives (shown own) old.world (Take h)) old r new) (Kept new) (strange_in old h)
       (λ on does. of_world (FetchGives (shown own) h old.world) old r new (λ answer g. fetch_keeps (strange_in old) h old.world answer new.world running on k g) does)
       (λ off does. of_world (StepGives (shown own) old.world (Take h)) old r new (λ answer g. step_keeps (strange_in old) (Take h) old.world answer new.world tt k g) does) gives
 
-  says_keeps : (m : HostMessage) (old : MixedState C) (r : Answer) (new : MixedState C) → old.world.stopped ≡ false → Kept old → SaysGives (shown own) old m r new → Kept new
+  says_keeps : (m : HostMessage) (old : MixedState C) (r : Answer) (new : MixedState C) → old.world.stopped ≡ false → Kept old → MixedEventGives (shown own) old (Out m) r new → Kept new
   says_keeps m old r new running k gives =
-      let f : WorldFault = if has_seat m.flow.source old.world.seats then HasProgram else Carrier fault.NoSuch in
-      either (OfWorld (OutGives (shown own) m old.world) old r new) (RefusesMixed f old r new) (Kept new) (strange_in old m.flow.source)
+      either (OfWorld (OutGives (shown own) m old.world) old r new) (OfWorld (StepGives (shown own) old.world (Out m)) old r new) (Kept new) (strange_in old m.flow.source)
       (λ on does. of_world (OutGives (shown own) m old.world) old r new (λ answer g. out_keeps (strange_in old) m old.world answer new.world running on k g) does)
-      (λ off no. refused f old r new k no) gives
+      (λ off does. of_world (StepGives (shown own) old.world (Out m)) old r new (λ answer g. step_keeps (strange_in old) (Out m) old.world answer new.world tt k g) does) gives
 
-  event_keeps : (e : MixedEvent) (old : MixedState C) (r : Answer) (new : MixedState C) → old.world.stopped ≡ false → IsNamedMixed e → Kept old → MixedEventGives (shown own) old e r new → Kept new
+  event_keeps : (e : Event) (old : MixedState C) (r : Answer) (new : MixedState C) → old.world.stopped ≡ false → IsNamed e → Kept old → MixedEventGives (shown own) old e r new → Kept new
   event_keeps (Out m) old r new running named k h = says_keeps m old r new running k h
-  event_keeps (Any (Take g)) old r new running named k h = take_keeps g old r new running k h
-  event_keeps (Any (Net e)) old r new running named k h = asked_keeps (Net e) old r new named k h
-  event_keeps (Any Quiet) old r new running named k h = asked_keeps Quiet old r new named k h
-  event_keeps (Any (Offer g)) old r new running named k h = asked_keeps (Offer g) old r new named k h
-  event_keeps (Any (Ask g q)) old r new running named k h = asked_keeps (Ask g q) old r new named k h
-  event_keeps (Any (Server g listen base)) old r new running named k h = asked_keeps (Server g listen base) old r new named k h
-  event_keeps (Any (User g peer listen mine)) old r new running named k h = asked_keeps (User g peer listen mine) old r new named k h
-  event_keeps (Any (Typed g line)) old r new running named k h = asked_keeps (Typed g line) old r new named k h
+  event_keeps (Take g) old r new running named k h = take_keeps g old r new running k h
+  event_keeps (Net e) old r new running named k h = asked_keeps (Net e) old r new named k h
+  event_keeps Quiet old r new running named k h = asked_keeps Quiet old r new named k h
+  event_keeps (Offer g) old r new running named k h = asked_keeps (Offer g) old r new named k h
+  event_keeps (Ask g q) old r new running named k h = asked_keeps (Ask g q) old r new named k h
+  event_keeps (Server g listen base) old r new running named k h = asked_keeps (Server g listen base) old r new named k h
+  event_keeps (User g peer listen mine) old r new running named k h = asked_keeps (User g peer listen mine) old r new named k h
+  event_keeps (Typed g line) old r new running named k h = asked_keeps (Typed g line) old r new named k h
 
-  pub mixed_keeps : (e : MixedEvent) (old : MixedState C) (r : Answer) (new : MixedState C) → IsNamedMixed e → Kept old → MixedStepGives (shown own) old e r new → Kept new
+  pub mixed_keeps : (e : Event) (old : MixedState C) (r : Answer) (new : MixedState C) → IsNamed e → Kept old → MixedStepGives (shown own) old e r new → Kept new
   mixed_keeps e old r new named k h =
       either (RefusesMixed (Carrier fault.Stopped) old r new) (MixedEventGives (shown own) old e r new) (Kept new) old.world.stopped
       (λ on no. refused (Carrier fault.Stopped) old r new k no)
@@ -110,14 +108,14 @@ module _ {C : Type 0} (own : Calls C) (hosts : List Host) where
 
   -- ---- several events
 
-  runs_keep : (events : List MixedEvent) (old : MixedState C) (r : Answer) (new : MixedState C) → AreNamedMixed events → Kept old → MixedRuns (shown own) old events r new → Kept new
+  runs_keep : (events : List Event) (old : MixedState C) (r : Answer) (new : MixedState C) → Each IsNamed events → Kept old → MixedRuns (shown own) old events r new → Kept new
   runs_keep [] old r new named k h = subst Kept (sym h.1) k
   runs_keep (e ∷ events) old r new named k h =
       let m : Kept h.1 = mixed_keeps e old h.0 h.1 named.0 k h.2 in
       either ((r ≡ h.0) × (new ≡ h.1)) (MixedRuns (shown own) h.1 events r new) (Kept new) (stops h.0)
       (λ on is. subst Kept (sym is.1) m) (λ off rest. runs_keep events h.1 r new named.1 m rest) h.3
 
-  run_keeps : (events : List MixedEvent) (old : MixedState C) (r : Answer) (new : MixedState C) → AreNamedMixed events → Kept old → MixedRunGives (shown own) old events r new → Kept new
+  run_keeps : (events : List Event) (old : MixedState C) (r : Answer) (new : MixedState C) → Each IsNamed events → Kept old → MixedRunGives (shown own) old events r new → Kept new
   run_keeps events old r new named k h =
       either (RefusesMixed (Carrier fault.Stopped) old r new) (MixedRuns (shown own) old events r new) (Kept new) old.world.stopped
       (λ on no. refused (Carrier fault.Stopped) old r new k no) (λ off runs. runs_keep events old r new named k runs) h
@@ -159,10 +157,10 @@ module _ {C : Type 0} (own : Calls C) (hosts : List Host) where
     lawful_of : Kept new → Lawful new
     lawful_of k = lawful_by (strange_in new) new.world l.addresses run k
 
-    pub step_mixed : (e : MixedEvent) → IsNamedMixed e → MixedStepGives (shown own) old e r new → Lawful new
+    pub step_mixed : (e : Event) → IsNamed e → MixedStepGives (shown own) old e r new → Lawful new
     step_mixed e named h = lawful_of (mixed_keeps e old r new named (kept_of old l) h)
 
-    pub run_mixed : (events : List MixedEvent) → AreNamedMixed events → MixedRunGives (shown own) old events r new → Lawful new
+    pub run_mixed : (events : List Event) → Each IsNamed events → MixedRunGives (shown own) old events r new → Lawful new
     run_mixed events named h = lawful_of (run_keeps events old r new named (kept_of old l) h)
 
     pub calm_mixed : (times : ℕ) → MixedCalmGives (shown own) times old r new → Lawful new

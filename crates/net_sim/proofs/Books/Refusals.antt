@@ -1,7 +1,8 @@
--- A refusal, and running out of memory, leave what is kept as it was. No world without strangers answers as only one with strangers does.
+-- A refusal, and running out of memory, leave what is kept as it was. No world without strangers answers as only one with strangers does, but
+-- to what only a stranger sends.
 use Rattle.net_sim.proofs.Common.{◌≡◌, ℕ, zero, suc, Bool, true, false, List, [], ◌∷◌, length, nat_lt, Ok, Err, ap, refl, sym, ◌∙◌, MatchBool, Calls, Host, WorldState, WorldFault, Carrier, Program, Quiet, Offer, Refuses, Does, StepGives, stops, wants_memory, Runs, RunGives, Repeats, TurnsOf, up_in, Calms, CalmGives}
 use Rattle.interface.specs.declared.carrier.CarrierFault.TheVariants as fault
-use Rattle.net_sim.specs.World.{Event, HasProgram, NoProgram, Take, is_of_strangers}
+use Rattle.net_sim.specs.World.{Event, HasProgram, NoProgram, Take, is_of_strangers, is_sent}
 use Rattle.net_sim.proofs.Books.EachEvent.{Answered, Ways, step_way, unshown}
 
 module _ {C : Type 0} (calls : Calls C) (f : WorldFault) where
@@ -27,7 +28,7 @@ module _ {C : Type 0} (calls : Calls C) (f : WorldFault) where
   }
 
   pub step_stands : (old : WorldState C) (r : Answered) (new : WorldState C) → r ≡ Err f → (e : Event) → StepGives calls old e r new → new.kept ≡ old.kept
-  step_stands old r new is e h = step_way calls (λ c d cs. Unit {0}) (unshown calls) Stands stands_ways e old r new h is
+  step_stands old r new is e h = step_way calls (λ c d cs. Unit {0}) (unshown calls) Stands stands_ways e (λ sent w is. refl) old r new h is
 
 -- ---- what only a world with strangers answers
 
@@ -40,9 +41,17 @@ memory_own (Program f) is = refl
 memory_own NoProgram is = absurd (let no : false ≡ true = is in cc)
 memory_own HasProgram is = absurd (let no : false ≡ true = is in cc)
 
-either_own : (P Q : Type 0) (r : Answered) → (P → Own r) → (Q → Own r) → (b : Bool) → MatchBool b P Q → Own r
-either_own P Q r k l true h = k h
-either_own P Q r k l false h = l h
+-- nor does an answer that ends a list of events
+stops_own : (r : Answered) → stops r ≡ true → Own r
+stops_own (Ok done) is = refl
+stops_own (Err (Carrier f)) is = refl
+stops_own (Err (Program f)) is = refl
+stops_own (Err NoProgram) is = absurd (let no : false ≡ true = is in cc)
+stops_own (Err HasProgram) is = absurd (let no : false ≡ true = is in cc)
+
+either_own : (P Q : Type 0) (r : Answered) (b : Bool) → (b ≡ true → P → Own r) → (Q → Own r) → MatchBool b P Q → Own r
+either_own P Q r true k l h = k refl h
+either_own P Q r false k l h = l h
 
 module _ {C : Type 0} (calls : Calls C) where
   own_ways : Ways calls (λ c d cs. Unit {0}) (λ old r new. Own r)
@@ -59,22 +68,25 @@ module _ {C : Type 0} (calls : Calls C) where
     user = λ h peer listen own s old running has. refl;
   }
 
-  pub step_own : (e : Event) (old : WorldState C) (r : Answered) (new : WorldState C) → StepGives calls old e r new → Own r
-  step_own e old r new h = step_way calls (λ c d cs. Unit {0}) (unshown calls) (λ old r new. Own r) own_ways e old r new h
+  pub step_own : (e : Event) (old : WorldState C) (r : Answered) (new : WorldState C) → is_sent e ≡ false → StepGives calls old e r new → Own r
+  step_own e old r new other h =
+      step_way calls (λ c d cs. Unit {0}) (unshown calls) (λ old r new. Own r) own_ways e
+      (λ sent w. absurd (let no : false ≡ true = sym other ∙ sent in cc)) old r new h
 
   -- after an answer that may end all of them
-  goes_on : (Rest : Type 0) (answer r : Answered) (mid new : WorldState C) → Own answer → (Rest → Own r)
+  goes_on : (Rest : Type 0) (answer r : Answered) (mid new : WorldState C) → (Rest → Own r)
       → MatchBool (stops answer) ((r ≡ answer) × (new ≡ mid)) Rest → Own r
-  goes_on Rest answer r mid new own k h = either_own ((r ≡ answer) × (new ≡ mid)) Rest r (λ is. ap is_of_strangers is.0 ∙ own) k (stops answer) h
+  goes_on Rest answer r mid new k h =
+      either_own ((r ≡ answer) × (new ≡ mid)) Rest r (stops answer) (λ ends is. ap is_of_strangers is.0 ∙ stops_own answer ends) k h
 
   unless_stopped : (Rest : Type 0) (old : WorldState C) (r : Answered) (new : WorldState C) → (Rest → Own r)
       → MatchBool old.stopped (Refuses (Carrier fault.Stopped) old r new) Rest → Own r
-  unless_stopped Rest old r new k h = either_own (Refuses (Carrier fault.Stopped) old r new) Rest r (λ no. ap is_of_strangers no.0) k old.stopped h
+  unless_stopped Rest old r new k h = either_own (Refuses (Carrier fault.Stopped) old r new) Rest r old.stopped (λ on no. ap is_of_strangers no.0) k h
 
   runs_own : (events : List Event) (old : WorldState C) (r : Answered) (new : WorldState C) → Runs calls old events r new → Own r
   runs_own [] old r new h = ap is_of_strangers h.0
   runs_own (e ∷ events) old r new h =
-      goes_on (Runs calls h.1 events r new) h.0 r h.1 new (step_own e old h.0 h.1 h.2) (λ rest. runs_own events h.1 r new rest) h.3
+      goes_on (Runs calls h.1 events r new) h.0 r h.1 new (λ rest. runs_own events h.1 r new rest) h.3
 
   pub run_own : (events : List Event) (old : WorldState C) (r : Answered) (new : WorldState C) → RunGives calls old events r new → Own r
   run_own events old r new h = unless_stopped (Runs calls old events r new) old r new (λ runs. runs_own events old r new runs) h
@@ -83,24 +95,24 @@ module _ {C : Type 0} (calls : Calls C) where
   repeats_own e zero old r new h = ap is_of_strangers h.0
   repeats_own e (suc times) old r new h =
       let crosses : Bool = nat_lt (length old.kept.book.crossings) (length h.1.kept.book.crossings) in
-      goes_on (MatchBool crosses (Repeats calls e times h.1 r new) (Does h.1 r new)) h.0 r h.1 new (step_own e old h.0 h.1 h.2)
-      (λ g. either_own (Repeats calls e times h.1 r new) (Does h.1 r new) r (λ more. repeats_own e times h.1 r new more) (λ done. ap is_of_strangers done.0) crosses g) h.3
+      goes_on (MatchBool crosses (Repeats calls e times h.1 r new) (Does h.1 r new)) h.0 r h.1 new
+      (λ g. either_own (Repeats calls e times h.1 r new) (Does h.1 r new) r crosses (λ is more. repeats_own e times h.1 r new more) (λ done. ap is_of_strangers done.0) g) h.3
 
   turns_own : (hosts : List Host) (old : WorldState C) (r : Answered) (new : WorldState C) → TurnsOf calls hosts old r new → Own r
   turns_own [] old r new h = ap is_of_strangers h.0
   turns_own (x ∷ hosts) old r new h =
       let Sends : Type 0 = (second : Answered) × (sent : WorldState C) × Repeats calls (Offer x) 32 h.1 second sent
       × MatchBool (stops second) ((r ≡ second) × (new ≡ sent)) (TurnsOf calls hosts sent r new) in
-      goes_on Sends h.0 r h.1 new (repeats_own (Take x) 16 old h.0 h.1 h.2)
-      (λ g. goes_on (TurnsOf calls hosts g.1 r new) g.0 r g.1 new (repeats_own (Offer x) 32 h.1 g.0 g.1 g.2) (λ rest. turns_own hosts g.1 r new rest) g.3) h.3
+      goes_on Sends h.0 r h.1 new
+      (λ g. goes_on (TurnsOf calls hosts g.1 r new) g.0 r g.1 new (λ rest. turns_own hosts g.1 r new rest) g.3) h.3
 
   calms_own : (times : ℕ) (old : WorldState C) (r : Answered) (new : WorldState C) → Calms calls times old r new → Own r
   calms_own zero old r new h = ap is_of_strangers h.0
   calms_own (suc times) old r new h =
       let Turns : Type 0 = (second : Answered) × (turned : WorldState C) × TurnsOf calls (up_in h.1.seats) h.1 second turned
       × MatchBool (stops second) ((r ≡ second) × (new ≡ turned)) (Calms calls times turned r new) in
-      goes_on Turns h.0 r h.1 new (step_own Quiet old h.0 h.1 h.2)
-      (λ g. goes_on (Calms calls times g.1 r new) g.0 r g.1 new (turns_own (up_in h.1.seats) h.1 g.0 g.1 g.2) (λ rest. calms_own times g.1 r new rest) g.3) h.3
+      goes_on Turns h.0 r h.1 new
+      (λ g. goes_on (Calms calls times g.1 r new) g.0 r g.1 new (λ rest. calms_own times g.1 r new rest) g.3) h.3
 
   pub calm_own : (times : ℕ) (old : WorldState C) (r : Answered) (new : WorldState C) → CalmGives calls times old r new → Own r
   calm_own times old r new h = unless_stopped (Calms calls times old r new) old r new (λ calms. calms_own times old r new calms) h

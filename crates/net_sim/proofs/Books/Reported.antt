@@ -176,7 +176,7 @@ module _ {C : Type 0} (calls : Calls C) where
   }
 
   pub step_reported : (e : Event) (old : WorldState C) (r : Answered) (new : WorldState C) → AreReported old → StepGives calls old e r new → AreReported new
-  step_reported e old r new b h = step_way calls (λ c d cs. Unit {0}) (unshown calls) Reports reports_ways e old r new h b
+  step_reported e old r new b h = step_way calls (λ c d cs. Unit {0}) (unshown calls) Reports reports_ways e (λ is w k. k) old r new h b
 
   -- what a stranger sends or takes
   strange_reported : (c : C) (x : Crossing) (old : WorldState C) → old.stopped ≡ false → Unit {0} → Reports old (Ok tt) (changed c (x ∷ []) old)

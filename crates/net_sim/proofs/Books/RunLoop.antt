@@ -1,7 +1,7 @@
 -- A run, event by event.
 use Rattle.net_sim.proofs.Common.{◌≡◌, ℕ, ◌+◌, Bool, true, false, List, ◌∷◌, drop, refl, sym, subst, MatchBool, WorldState, WorldFault, Carrier, Refuses, StepGives, Runs, RunGives, stops, Calls}
 use Rattle.std.proofs.Common.{Result}
-use Rattle.net_sim.specs.MixedWorlds.{MixedEvent, MixedRunGives, MixedRuns, MixedState, MixedStepGives, RefusesMixed}
+use Rattle.net_sim.specs.MixedWorlds.{MixedRunGives, MixedRuns, MixedState, MixedStepGives, RefusesMixed}
 use Rattle.net_sim.specs.World.{Event}
 use Rattle.interface.specs.declared.carrier.CarrierFault.TheVariants as fault
 
@@ -26,7 +26,7 @@ runs_on {C} calls events old r new running runs = subst (λ (b : Bool). MatchBoo
 
 -- ---- with strangers, where each event is taken out of the list
 
-module _ {C : Type 0} (calls : Calls C) (left later : List MixedEvent) (e : MixedEvent) (is : left ≡ e ∷ later)
+module _ {C : Type 0} (calls : Calls C) (left later : List Event) (e : Event) (is : left ≡ e ∷ later)
     (old mid : MixedState C) (answer : Result (Unit {0}) WorldFault) (step : MixedStepGives calls old e answer mid) where
   abbrev Ends : Bool → Result (Unit {0}) WorldFault → MixedState C → Type 0
   Ends b r new = MatchBool b ((r ≡ answer) × (new ≡ mid)) (MixedRuns calls mid later r new)
@@ -35,14 +35,14 @@ module _ {C : Type 0} (calls : Calls C) (left later : List MixedEvent) (e : Mixe
       → MixedRuns calls mid later r new → MixedRuns calls old left r new
   mixed_more on r new rest =
       let now : Ends (stops answer) r new = subst (λ (b : Bool). Ends b r new) (sym on) rest in
-      subst (λ (es : List MixedEvent). MixedRuns calls old es r new) (sym is) (answer, mid, step, now)
+      subst (λ (es : List Event). MixedRuns calls old es r new) (sym is) (answer, mid, step, now)
 
   pub mixed_ends : stops answer ≡ true → MixedRuns calls old left answer mid
   mixed_ends off =
       let now : Ends (stops answer) answer mid = subst (λ (b : Bool). Ends b answer mid) (sym off) (refl, refl) in
-      subst (λ (es : List MixedEvent). MixedRuns calls old es answer mid) (sym is) (answer, mid, step, now)
+      subst (λ (es : List Event). MixedRuns calls old es answer mid) (sym is) (answer, mid, step, now)
 
-pub mixed_on : {C : Type 0} (calls : Calls C) (events : List MixedEvent) (old : MixedState C)
+pub mixed_on : {C : Type 0} (calls : Calls C) (events : List Event) (old : MixedState C)
     (r : Result (Unit {0}) WorldFault) (new : MixedState C) → old.world.stopped ≡ false
     → MixedRuns calls old events r new → MixedRunGives calls old events r new
 mixed_on {C} calls events old r new running runs =

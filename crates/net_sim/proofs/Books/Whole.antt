@@ -15,7 +15,7 @@ use Rattle.net_sim.specs.Story.{program}
 use Rattle.net_sim.specs.Timeline.{IsAsked}
 use Rattle.net_sim.specs.Mixed.{AreMixed, mixed_kept}
 use Rattle.net_sim.specs.MixedWorlds.{FetchEnds, FetchGives, IsWholeAmong, OutEnds, OutGives, opening_among, with_programs}
-use Rattle.net_sim.specs.World.{Event, Take, turn_of, changed, Passes}
+use Rattle.net_sim.specs.World.{Event, Out, Take, turn_of, changed, unsaid, Passes}
 use Rattle.interface.proofs.lemmas.{same_host-true}
 use Rattle.net_sim.proofs.Books.Always.{run_keeps, calm_keeps}
 use Rattle.net_sim.proofs.Hosts.Asks.{after_each, asks_contacts, asks_crossings, asks_each, asks_mixed, asks_of, emptied_served, named_of, opening_served, same_each, still_served}
@@ -288,6 +288,7 @@ module _ {C : Type 0} (own : Calls C) (strange : Host → Bool) (hosts : List Ho
       at_seat (λ s. DoesOrHalts (with_user h peer listen mine s old) old r new) (seat_of h old.seats) h old r new w running refl (λ s u g. user_whole h peer listen mine s old r new named w running u g) t
   event_whole (Typed h line) old r new named w running t =
       at_seat (λ s. TypeGives h line s (services_of h old.services).typing old r new) (seat_of h old.seats) h old r new w running refl (λ s u g. type_whole h line s (services_of h old.services).typing old r new w running u g) t
+  event_whole (Out m) old r new named w running t = refused_whole (unsaid m old.seats) old r new w t
 
   if_stopped : (P : Type 0) (old : WorldState C) (r : Result (Unit {0}) WorldFault) (new : WorldState C) → Whole old → (old.stopped ≡ false → P → Whole new) → (b : Bool) → old.stopped ≡ b
       → MatchBool b (Refuses (Carrier fault.Stopped) old r new) P → Whole new

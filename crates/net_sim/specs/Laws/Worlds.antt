@@ -14,8 +14,7 @@ use Rattle.interface.specs.declared.message.HostMessage.{HostMessage}
 use Rattle.ncp_control.specs.Phases.{is_ready}
 use Rattle.net_sim.specs.Carriers.{IsBooked, shown}
 use Rattle.net_sim.specs.Clean.{HaveAddresses, IsFresh, IsLawful, IsText, IsUnheard, is_through}
-use Rattle.net_sim.specs.MixedWorlds.{Any, IsLawfulAmong, MixedCalmGives, MixedEvent, MixedRunGives}
-use Rattle.net_sim.specs.MixedWorlds.{MixedState, MixedStepGives, Out, opening_among, strange_in}
+use Rattle.net_sim.specs.MixedWorlds.{IsLawfulAmong, MixedCalmGives, MixedRunGives, MixedState, MixedStepGives, opening_among, strange_in}
 use Rattle.net_sim.specs.Projection.{Agrees, IsApart, event_by, event_of, message_on}
 use Rattle.net_sim.specs.Story as story
 use Rattle.net_sim.specs.Story.{Crossed, Moment, places}
@@ -23,7 +22,7 @@ use Rattle.net_sim.specs.Mixed.{Happened}
 use Rattle.net_sim.specs.Timeline.{contacts_of, crossings_of, events_in}
 use Rattle.net_sim.specs.Whole.{Each, IsNamed, IsWhole}
 use Rattle.net_sim.specs.World.{CalmGives, Event, RunGives, StepGives, WorldFault, WorldState}
-use Rattle.net_sim.specs.World.{is_of_strangers, opening_world, seat_of}
+use Rattle.net_sim.specs.World.{is_of_strangers, is_sent, opening_world, seat_of}
 use Rattle.reset_law.specs.Events.{part_of}
 use Rattle.reset_law.specs.Network.{AreOurs, Network}
 use Rattle.reset_law.specs.Pairs.{MaySend, Pair, pair_moved}
@@ -89,11 +88,11 @@ pub record Books {C : Type 0} (calls : Calls C) : Type 0 where
   pub refused :
       (old new : WorldState C) (e : Event) (r : Result (Unit {0}) WorldFault) (f : WorldFault) → r ≡ Err f →
       StepGives (shown calls) old e r new → new.kept ≡ old.kept
-  -- none is refused as `NoProgram` or `HasProgram`, as it may be where there are strangers; nor does a list of events or
-  -- a calm end so
+  -- none but what a stranger would send is refused as `NoProgram` or `HasProgram`, as it may be where there are strangers;
+  -- nor does a list of events or a calm end so
   pub answered :
-      (old new : WorldState C) (e : Event) (r : Result (Unit {0}) WorldFault) → StepGives (shown calls) old e r new →
-      is_of_strangers r ≡ false
+      (old new : WorldState C) (e : Event) (r : Result (Unit {0}) WorldFault) → is_sent e ≡ false →
+      StepGives (shown calls) old e r new → is_of_strangers r ≡ false
   pub run_answered :
       (old new : WorldState C) (events : List Event) (r : Result (Unit {0}) WorldFault) →
       RunGives (shown calls) old events r new → is_of_strangers r ≡ false
@@ -200,15 +199,6 @@ pub record LawfulWorlds {C : Type 0} (calls : Calls C) : Type 0 where
       IsLawful calls.seen hosts old → CalmGives (shown calls) times old r new →
       IsRun hosts (calls.seen new.carrier).log → IsLawful calls.seen hosts new
 
--- a user names hosts by addresses
-abbrev pub IsNamedMixed : MixedEvent → Type 0
-IsNamedMixed (Any e) = IsNamed e
-IsNamedMixed (Out m) = Unit {0}
-
-abbrev pub AreNamedMixed : List MixedEvent → Type 0
-AreNamedMixed [] = Unit {0}
-AreNamedMixed (e ∷ events) = IsNamedMixed e × AreNamedMixed events
-
 -- The same of worlds with strangers: whatever these send and take, all that is kept of the hosts with programs is what
 -- their programs say.
 pub record MixedWorlds {C : Type 0} (calls : Calls C) : Type 0 where
@@ -218,14 +208,14 @@ pub record MixedWorlds {C : Type 0} (calls : Calls C) : Type 0 where
       IsLawfulAmong strange calls.seen (calls.seen c).hosts (opening_among (shown calls) strange c)
   -- by one event, where users name hosts by addresses and the carrier's log is still a run of the mailboxes
   pub step :
-      (hosts : List Host) (old new : MixedState C) (e : MixedEvent) (r : Result (Unit {0}) WorldFault) →
-      IsLawfulAmong (strange_in old) calls.seen hosts old.world → IsNamedMixed e →
+      (hosts : List Host) (old new : MixedState C) (e : Event) (r : Result (Unit {0}) WorldFault) →
+      IsLawfulAmong (strange_in old) calls.seen hosts old.world → IsNamed e →
       MixedStepGives (shown calls) old e r new → IsRun hosts (calls.seen new.world.carrier).log →
       IsLawfulAmong (strange_in new) calls.seen hosts new.world
   -- by a list of events, and by this many quiet rounds, in which strangers take nothing
   pub run :
-      (hosts : List Host) (old new : MixedState C) (events : List MixedEvent) (r : Result (Unit {0}) WorldFault) →
-      IsLawfulAmong (strange_in old) calls.seen hosts old.world → AreNamedMixed events →
+      (hosts : List Host) (old new : MixedState C) (events : List Event) (r : Result (Unit {0}) WorldFault) →
+      IsLawfulAmong (strange_in old) calls.seen hosts old.world → Each IsNamed events →
       MixedRunGives (shown calls) old events r new → IsRun hosts (calls.seen new.world.carrier).log →
       IsLawfulAmong (strange_in new) calls.seen hosts new.world
   pub calm :

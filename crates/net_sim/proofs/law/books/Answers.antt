@@ -9,7 +9,7 @@ returns g c =
     record {
       opening = λ x none. opening_booked calls x none;
       refused = λ old new e r f is h. step_stands (shown calls) f old r new is e h;
-      answered = λ old new e r h. step_own (shown calls) e old r new h;
+      answered = λ old new e r other h. step_own (shown calls) e old r new other h;
       run_answered = λ old new events r h. run_own (shown calls) events old r new h;
       calm_answered = λ old new times r h. calm_own (shown calls) times old r new h;
       step = λ old new e r b h. step_books calls e old r new b h;

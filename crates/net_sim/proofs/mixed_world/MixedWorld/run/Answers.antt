@@ -1,6 +1,6 @@
 use Rattle.net_sim.proofs.Common.{rules, ◌≡◌, ◌∷◌, List, true, false, subst, shown, Calls}
-use Rattle.net_sim.specs.MixedWorlds.{MixedEvent, MixedRuns}
-use Rattle.net_sim.specs.World.{stops}
+use Rattle.net_sim.specs.MixedWorlds.{MixedRuns}
+use Rattle.net_sim.specs.World.{Event, stops}
 use Rattle.net_sim.proofs.Books.RunLoop.{mixed_ends, mixed_more, mixed_on}
 use Rattle.net_sim.proofs.mixed_world.MixedWorld.run.Goals as goal
 
@@ -8,13 +8,13 @@ pub loop-event-init : goal.loop-event-init
 loop-event-init g c =
     let calls : Calls g.row.C.Denot = g.C.Carrier.calls in
     let gives : c.into_iter-event-iterator.result.rest.items ≡ c.args.events.items = search rules in
-    λ r new rest. subst (λ (es : List MixedEvent). MixedRuns (shown calls) c.args.self.now es r new) gives rest
+    λ r new rest. subst (λ (es : List Event). MixedRuns (shown calls) c.args.self.now es r new) gives rest
 
 pub returns-then-stops : goal.returns-then-stops
 returns-then-stops g c =
     let calls : Calls g.row.C.Denot = g.C.Carrier.calls in
-    let left : List MixedEvent = c.loop-event.event-iterator.rest.items in
-    let later : List MixedEvent = c.next.new.self.rest.items in
+    let left : List Event = c.loop-event.event-iterator.rest.items in
+    let later : List Event = c.next.new.self.rest.items in
     let is : left ≡ c.in-Some.event ∷ later = c.in-Some.ensures.steps.0 in
     let off : stops c.step-done.result ≡ true = search rules in
     mixed_on (shown calls) c.args.events.items c.args.self.now c.step-done.result c.step-done.new.self (search rules)
@@ -25,8 +25,8 @@ returns-then-stops g c =
 pub loop-event-preserved : goal.loop-event-preserved
 loop-event-preserved g c =
     let calls : Calls g.row.C.Denot = g.C.Carrier.calls in
-    let left : List MixedEvent = c.loop-event.event-iterator.rest.items in
-    let later : List MixedEvent = c.next.new.self.rest.items in
+    let left : List Event = c.loop-event.event-iterator.rest.items in
+    let later : List Event = c.next.new.self.rest.items in
     let is : left ≡ c.in-Some.event ∷ later = c.in-Some.ensures.steps.0 in
     let on : stops c.step-done.result ≡ false = search rules in
     λ r new rest. c.loop-event.invariant r new

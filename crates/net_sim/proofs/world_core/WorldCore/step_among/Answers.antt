@@ -17,7 +17,7 @@ invariant_of-self g c =
     let new : MixedState g.row.C.Denot = mixed_ended c.follow_mixed-done.new.carrier c.follow_mixed-done.new.hosts.seats c.follow_mixed-done.new.hosts.services c.follow_mixed-done.new.hosts.book c.args.strangers.now c.follow_mixed-done.result in
     let stop : c.runs_out-self-inside.result ≡ runs_out c.follow_mixed-done.result = search rules in
     let gives : MixedEventGives (shown calls) (on_now old) c.args.event c.follow_mixed-done.result new = search rules in
-    rw stop (among_some calls.seen new (followed_mixed calls c.args.event old c.follow_mixed-done.new.carrier c.follow_mixed-done.new.hosts.seats c.follow_mixed-done.new.hosts.services c.follow_mixed-done.new.hosts.book c.follow_mixed-done.result c.requires c.is_named_mixed.ensures (search rules) gives c.log.ensures.run))
+    rw stop (among_some calls.seen new (followed_mixed calls c.args.event old c.follow_mixed-done.new.carrier c.follow_mixed-done.new.hosts.seats c.follow_mixed-done.new.hosts.services c.follow_mixed-done.new.hosts.book c.follow_mixed-done.result c.requires c.is_named.ensures (search rules) gives c.log.ensures.run))
 
 pub returns-clause-held : goal.returns-clause-held
 returns-clause-held g c =
@@ -26,4 +26,4 @@ returns-clause-held g c =
     let new : MixedState g.row.C.Denot = mixed_ended c.follow_mixed-done.new.carrier c.follow_mixed-done.new.hosts.seats c.follow_mixed-done.new.hosts.services c.follow_mixed-done.new.hosts.book c.args.strangers.now c.follow_mixed-done.result in
     let stop : c.runs_out-self-inside.result ≡ runs_out c.follow_mixed-done.result = search rules in
     let gives : MixedEventGives (shown calls) (on_now old) c.args.event c.follow_mixed-done.result new = search rules in
-    rw stop (followed_mixed calls c.args.event old c.follow_mixed-done.new.carrier c.follow_mixed-done.new.hosts.seats c.follow_mixed-done.new.hosts.services c.follow_mixed-done.new.hosts.book c.follow_mixed-done.result c.requires c.is_named_mixed.ensures (search rules) gives c.log.ensures.run)
+    rw stop (followed_mixed calls c.args.event old c.follow_mixed-done.new.carrier c.follow_mixed-done.new.hosts.seats c.follow_mixed-done.new.hosts.services c.follow_mixed-done.new.hosts.book c.follow_mixed-done.result c.requires c.is_named.ensures (search rules) gives c.log.ensures.run)
