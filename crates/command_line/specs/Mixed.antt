@@ -17,7 +17,7 @@ use Rattle.topology.specs.declared.network.CarrierKind.{CarrierKind}
 use Rattle.topology.specs.declared.network.CarrierKind.TheVariants as kind
 use Rattle.world_replay.specs.Kinds.{ReplaysBy, RunsOutBy, mixed_kind}
 use Rattle.world_replay.specs.Output as lines
-use Rattle.world_script.specs.Mixed.{AskForMixed, IsMixedEvent, mixed_spelling}
+use Rattle.world_script.specs.Mixed.{AskForMixed, IsEventAmong, mixed_spelling}
 use Rattle.world_script.specs.declared.event.MixedWorldEvent.{MixedWorldEvent}
 use Rattle.command_line.specs.Carriers.{plain_of, subnet_of}
 use Rattle.command_line.specs.Replayed.{ShowsBook, WritesWorld}
@@ -50,7 +50,7 @@ pub record HasBadMixedLine (octets : List ℕ) (number : ℕ) : Type 0 where
   pub network : MixedFields
   pub parted : IsParted octets document script
   pub described : DescribesMixed document network
-  pub bad : IsFirstBadAs mixed_spelling IsMixedEvent script number
+  pub bad : IsFirstBadAs mixed_spelling IsEventAmong script number
 
 -- what precedes the marker line is not UTF-8, or describes no topology with strangers
 pub record HasNoStrangers (octets : List ℕ) : Type 0 where

@@ -118,14 +118,14 @@ abbrev pub AskedGives : {C : Type 0} → Calls C → MixedState C → Event → 
 AskedGives calls old e r new = MatchBool (is_strange (strange_in old) (asked_at e)) (RefusesMixed NoProgram old r new) (OfWorld (StepGives calls old.world e) old r new)
 
 -- but it takes what came for it, and sends what it likes
-abbrev pub MixedEventGives : {C : Type 0} → Calls C → MixedState C → Event → Result (Unit {0}) WorldFault → MixedState C → Type 0
-MixedEventGives calls old (Take h) r new = MatchBool (strange_in old h) (OfWorld (FetchGives calls h old.world) old r new) (OfWorld (StepGives calls old.world (Take h)) old r new)
-MixedEventGives calls old (Out m) r new = MatchBool (strange_in old m.flow.source) (OfWorld (OutGives calls m old.world) old r new) (OfWorld (StepGives calls old.world (Out m)) old r new)
-MixedEventGives calls old e r new = AskedGives calls old e r new
+abbrev pub AmongGives : {C : Type 0} → Calls C → MixedState C → Event → Result (Unit {0}) WorldFault → MixedState C → Type 0
+AmongGives calls old (Take h) r new = MatchBool (strange_in old h) (OfWorld (FetchGives calls h old.world) old r new) (OfWorld (StepGives calls old.world (Take h)) old r new)
+AmongGives calls old (Out m) r new = MatchBool (strange_in old m.flow.source) (OfWorld (OutGives calls m old.world) old r new) (OfWorld (StepGives calls old.world (Out m)) old r new)
+AmongGives calls old e r new = AskedGives calls old e r new
 
 -- after memory has run out every event is refused as `Stopped`
 abbrev pub MixedStepGives : {C : Type 0} → Calls C → MixedState C → Event → Result (Unit {0}) WorldFault → MixedState C → Type 0
-MixedStepGives calls old e r new = MatchBool old.world.stopped (RefusesMixed (Carrier fault.Stopped) old r new) (MixedEventGives calls old e r new)
+MixedStepGives calls old e r new = MatchBool old.world.stopped (RefusesMixed (Carrier fault.Stopped) old r new) (AmongGives calls old e r new)
 
 -- ---- several events
 

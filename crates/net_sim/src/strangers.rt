@@ -7,7 +7,7 @@ ghost use Rattle.net_sim.specs.Inside.Mixed.{mixed_after, mixed_of};
 ghost use Rattle.net_sim.specs.Inside.Parts.{AreLive, world_after, world_of};
 ghost use Rattle.net_sim.specs.MixedWorlds as mixed;
 ghost use Rattle.net_sim.specs.World.{Out, Take};
-ghost use Rattle.net_sim.specs.MixedWorlds.{AskedGives, FetchGives, MixedEventGives, OutGives, with_programs};
+ghost use Rattle.net_sim.specs.MixedWorlds.{AskedGives, FetchGives, AmongGives, OutGives, with_programs};
 
 use crate::events::{self, follow, refuse};
 use crate::hosting::likely_place;
@@ -129,7 +129,7 @@ fn say<C: Carrier>(
     strangers: &[HostAddr],
     message: HostMessage,
 ) -> Result<(), WorldFault>
-    ensures { MixedEventGives (shown C.calls) (mixed_of carrier.old hosts.old strangers.now) (Out message) result (mixed_after carrier.new hosts.new strangers.now result) }
+    ensures { AmongGives (shown C.calls) (mixed_of carrier.old hosts.old strangers.now) (Out message) result (mixed_after carrier.new hosts.new strangers.now result) }
 {
     let source = source_of(&message);
     if is_among(strangers, source) {
@@ -146,7 +146,7 @@ fn take<C: Carrier>(
     host: HostAddr,
 ) -> Result<(), WorldFault>
     requires live { AreLive hosts.old.seats }
-    ensures { MixedEventGives (shown C.calls) (mixed_of carrier.old hosts.old strangers.now) (Take host) result (mixed_after carrier.new hosts.new strangers.now result) }
+    ensures { AmongGives (shown C.calls) (mixed_of carrier.old hosts.old strangers.now) (Take host) result (mixed_after carrier.new hosts.new strangers.now result) }
 {
     if is_among(strangers, host) {
         return fetch(carrier, hosts, host);
@@ -181,17 +181,11 @@ pub(crate) fn follow_mixed<C: Carrier>(
     event: Event,
 ) -> Result<(), WorldFault>
     requires live { AreLive hosts.old.seats }
-    ensures { MixedEventGives (shown C.calls) (mixed_of carrier.old hosts.old strangers.now) event result (mixed_after carrier.new hosts.new strangers.now result) }
+    ensures { AmongGives (shown C.calls) (mixed_of carrier.old hosts.old strangers.now) event result (mixed_after carrier.new hosts.new strangers.now result) }
 {
     match event {
         Event::Out(message) => say(carrier, hosts, strangers, message),
         Event::Take(host) => take(carrier, hosts, strangers, host),
-        Event::Net(_)
-        | Event::Quiet
-        | Event::Offer(_)
-        | Event::Ask(..)
-        | Event::Server { .. }
-        | Event::User { .. }
-        | Event::Typed { .. } => ask(carrier, hosts, strangers, &event),
+        other => ask(carrier, hosts, strangers, &other),
     }
 }

@@ -1,5 +1,5 @@
 -- An event at one host leaves all others as they are, and one of a calm by which nothing crosses leaves all hosts so.
-use Rattle.world_replay.proofs.Common.{◌≡◌, inl, inr, ℕ, zero, suc, Bool, false, List, [], ◌∷◌, Option, Some, None, Result, Ok, Err, length, refl, ap, sym, subst, ◌∙◌, arith, Notice, ServiceDeskState, ServicesState, opening_desk, line_bits, Calls, crossing_of, Host, Crossing, all_told, asked, crossed, shown, AskGives, AtSeat, Does, DoesOrHalts, OfferEnds, OfferGives, Passes, QuietEnds, StepGives, TakeEnds, TakeGives, TypeGives, WorldState, noticed, seat_of, served_at, services_of, stops, with_carrier, with_server, with_user, world_moved, Event, Ask, Net, Offer, Quiet, Server, Take, Typed, User, WorldFault, Seat, ServiceSeat, accepted, NcpState, refusal, served, served_notices, next_out, offered, NcpFault, Request, IsOfCalm, same_host}
+use Rattle.world_replay.proofs.Common.{◌≡◌, inl, inr, ℕ, zero, suc, Bool, false, List, [], ◌∷◌, Option, Some, None, Result, Ok, Err, length, refl, ap, sym, subst, ◌∙◌, arith, Notice, ServiceDeskState, ServicesState, opening_desk, line_bits, Calls, crossing_of, Host, Crossing, all_told, asked, crossed, shown, AskGives, AtSeat, Does, DoesOrHalts, OfferEnds, OfferGives, Passes, QuietEnds, StepGives, TakeEnds, TakeGives, TypeGives, WorldState, noticed, seat_of, served_at, services_of, stops, with_carrier, with_server, with_user, world_moved, Event, Ask, Net, Offer, Out, Quiet, Server, Take, Typed, User, WorldFault, Seat, ServiceSeat, accepted, NcpState, refusal, served, served_notices, next_out, offered, NcpFault, Request, IsOfCalm, same_host}
 use Rattle.std.proofs.Common.{slice_get}
 use Rattle.std.proofs.lemmas.List.{length-map}
 use Rattle.host_services.specs.Turns as services
@@ -117,6 +117,7 @@ module _ {C : Type 0} (calls : Calls C) where
       subst (λ (x : Host). OthersStay x old new) at (host_others (λ s. DoesOrHalts (with_server h listen base s old) old r new) h old r new (λ s k. begun_others h (services.server_begun listen base (services_of h old.services) (opening_desk h (noticed old) s)) old r new on k) t)
   event_others g (User h peer listen own) old r new at on t =
       subst (λ (x : Host). OthersStay x old new) at (host_others (λ s. DoesOrHalts (with_user h peer listen own s old) old r new) h old r new (λ s k. begun_others h (services.user_begun peer listen own (services_of h old.services) (opening_desk h (noticed old) s)) old r new on k) t)
+  event_others g (Out m) old r new at on t = absurd at
   event_others g (Typed h line) old r new at on t =
       subst (λ (x : Host). OthersStay x old new) at
       (host_others (λ s. TypeGives h line s (services_of h old.services).typing old r new) h old r new (λ s k. type_others h line s (services_of h old.services).typing old r new on k) t)
@@ -180,6 +181,7 @@ module _ {C : Type 0} (calls : Calls C) where
   event_silent (Server h listen base) old r new is on t = absurd is
   event_silent (User h peer listen own) old r new is on t = absurd is
   event_silent (Typed h line) old r new is on t = absurd is
+  event_silent (Out m) old r new is on t = absurd is
 
   pub silent : (e : Event) (old : WorldState C) (r : Answer) (new : WorldState C) → IsOfCalm e → stops r ≡ false → StepGives (shown calls) old e r new → Silent old new
   silent e old r new is on step = event_silent e old r new is on (step_runs calls e old r new on step)

@@ -13,10 +13,9 @@ pub use Rattle.net_sim.specs.MixedWorlds.{FetchEnds, MixedState, OutEnds, Refuse
 pub use Rattle.net_sim.specs.Worked.{any_carrier, fresh, message}
 pub use Rattle.net_sim.specs.World.{AskGives, AtProgram, AtSeat, CalmGives, Calms, Does, DoesOrHalts, Halts, NetEnds, OfferEnds, OfferGives, Passes, QuietEnds, Refuses, Repeats, StepGives, TakeEnds, TakeGives, TurnsOf, TypeGives, WorldState, changed, done_by, noticed, seat_of, served_at, services_of, stops, up_in, with_carrier, with_server, with_user, world_moved}
 pub use Rattle.net_sim.specs.declared.event.Event.{Event}
-pub use Rattle.net_sim.specs.declared.event.Event.TheVariants.{Ask, Net, Offer, Quiet, Server, Take, Typed, User}
+pub use Rattle.net_sim.specs.declared.event.Event.TheVariants.{Ask, Net, Offer, Out, Quiet, Server, Take, Typed, User}
 pub use Rattle.net_sim.specs.declared.event.WorldFault.{WorldFault}
 pub use Rattle.net_sim.specs.declared.event.WorldFault.TheVariants.{Carrier, HasProgram, NoProgram}
-pub use Rattle.net_sim.specs.declared.mixed.MixedEvent.TheVariants.{Any, Out}
 pub use Rattle.net_sim.specs.declared.seat.Seat.{Seat}
 pub use Rattle.net_sim.specs.declared.seat.ServiceSeat.{ServiceSeat}
 pub use Rattle.promise.specs.declared.book.Told.{Told}

@@ -1,5 +1,5 @@
 -- Each event of a world drives its carrier by the call that it makes.
-use Rattle.world_replay.proofs.Common.{◌≡◌, ◌⊎◌, inr, ℕ, Bool, true, false, List, [], ◌∷◌, ◌++◌, length, Option, Some, None, Result, Ok, Err, reverse, refl, ap, sym, subst, ◌∙◌, false≢true, append-nil, reverse-reverse, All-cons, All-nil, MatchBool, All, Notice, ServiceDeskState, opening_desk, line_bits, Calls, Seen, crossing_of, is_memory, step_crossings, Host, Crossing, Kept, all_asked, all_crossed, all_told, asked, book_told, crossed, shown, AskGives, AtProgram, AtSeat, DoesOrHalts, NetEnds, OfferEnds, OfferGives, Passes, QuietEnds, Refuses, StepGives, TakeEnds, TakeGives, TypeGives, WorldState, changed, done_by, noticed, seat_of, served_at, services_of, stops, with_carrier, with_server, with_user, world_moved, Event, Ask, Net, Offer, Quiet, Server, Take, Typed, User, WorldFault, Carrier, Seat, Happening, InTurn, GoesOn, grown_more, accepted, NcpState, refusal, served, served_notices, next_out, offered, NcpFault, Request, Brings, Drive, Drives, Goes, IsCall, IsDriven, IsDrivenIn, IsShown, Raw, Round, HappensInCalm, Replays, WorldEvent, if◌then◌else◌}
+use Rattle.world_replay.proofs.Common.{◌≡◌, ◌⊎◌, inr, ℕ, Bool, true, false, List, [], ◌∷◌, ◌++◌, length, Option, Some, None, Result, Ok, Err, reverse, refl, ap, sym, subst, ◌∙◌, false≢true, append-nil, reverse-reverse, All-cons, All-nil, MatchBool, All, Notice, ServiceDeskState, opening_desk, line_bits, Calls, Seen, crossing_of, is_memory, step_crossings, Host, Crossing, Kept, all_asked, all_crossed, all_told, asked, book_told, crossed, shown, AskGives, AtProgram, AtSeat, DoesOrHalts, NetEnds, OfferEnds, OfferGives, Passes, QuietEnds, Refuses, StepGives, TakeEnds, TakeGives, TypeGives, WorldState, changed, done_by, noticed, seat_of, served_at, services_of, stops, with_carrier, with_server, with_user, world_moved, Event, Ask, Net, Offer, Out, Quiet, Server, Take, Typed, User, WorldFault, Carrier, Seat, Happening, InTurn, GoesOn, grown_more, accepted, NcpState, refusal, served, served_notices, next_out, offered, NcpFault, Request, Brings, Drive, Drives, Goes, IsCall, IsDriven, IsDrivenIn, IsShown, Raw, Round, HappensInCalm, Replays, WorldEvent, if◌then◌else◌}
 use Rattle.std.proofs.Common.{inl}
 use Rattle.std.proofs.lemmas.List.{append_assoc}
 use Rattle.std.proofs.lemmas.List.Elements.{All-append}
@@ -254,6 +254,7 @@ module _ {C : Type 0} (calls : Calls C) where
       (λ s g. begun_driven (User h peer listen own) (with_user h peer listen own s old) old r new refl on refl (asked_log h (services.user_begun peer listen own (services_of h old.services) (opening_desk h (noticed old) s)).1.asked old.kept) g) t
   event_driven (Typed h line) old r new on t =
       at_host (Typed h line) (λ s. TypeGives h line s (services_of h old.services).typing old r new) h old r new refl (λ s g. type_driven h line s (services_of h old.services).typing old r new on g) t
+  event_driven (Out m) old r new on t = unchanged old new (Out m) refl t.1
 
   -- a world in which an event goes well has not run out of memory
   pub step_runs : (e : Event) (old : WorldState C) (r : Answer) (new : WorldState C) → stops r ≡ false → StepGives (shown calls) old e r new → EventGives (shown calls) old e r new
@@ -298,6 +299,7 @@ module _ {C : Type 0} (calls : Calls C) where
   only_calls seats (Server h listen base) = All-nil IsCall
   only_calls seats (User h peer listen own) = All-nil IsCall
   only_calls seats (Typed h line) = All-nil IsCall
+  only_calls seats (Out m) = All-nil IsCall
 
   drives_none : (old new : WorldState C) → new ≡ old → Drives calls old new []
   drives_none old new same = record {

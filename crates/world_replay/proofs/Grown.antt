@@ -1,5 +1,5 @@
 -- What a book gains, event by event.
-use Rattle.world_replay.proofs.Common.{◌≡◌, inr, ℕ, suc, ◌+◌, ◌≤◌, Bool, true, false, List, [], ◌∷◌, ◌++◌, length, Option, Some, None, Result, Ok, Err, reverse, refl, ap, sym, subst, ◌∙◌, arith, append-nil, length-append, reverse-append, false≢true, MatchBool, Calls, crossing_of, step_crossings, Host, Crossing, ServiceDeskState, ServicesState, opening_desk, NcpState, refusal, served, served_notices, next_out, offered, accepted, NcpFault, Notice, Request, Kept, crossed, all_crossed, book_told, all_told, asked, all_asked, WorldFault, Carrier, Event, Net, Quiet, Offer, Take, Ask, Server, User, Typed, Seat, WorldState, seat_of, services_of, noticed, done_by, with_carrier, world_moved, changed, served_at, with_server, with_user, TypeGives, DoesOrHalts, Refuses, Does, Halts, Passes, OfferEnds, OfferGives, TakeEnds, TakeGives, NetEnds, QuietEnds, AskGives, AtProgram, AtSeat, StepGives, stops, line_bits, Gains}
+use Rattle.world_replay.proofs.Common.{◌≡◌, inr, ℕ, suc, ◌+◌, ◌≤◌, Bool, true, false, List, [], ◌∷◌, ◌++◌, length, Option, Some, None, Result, Ok, Err, reverse, refl, ap, sym, subst, ◌∙◌, arith, append-nil, length-append, reverse-append, false≢true, MatchBool, Calls, crossing_of, step_crossings, Host, Crossing, ServiceDeskState, ServicesState, opening_desk, NcpState, refusal, served, served_notices, next_out, offered, accepted, NcpFault, Notice, Request, Kept, crossed, all_crossed, book_told, all_told, asked, all_asked, WorldFault, Carrier, Event, Net, Quiet, Offer, Out, Take, Ask, Server, User, Typed, Seat, WorldState, seat_of, services_of, noticed, done_by, with_carrier, world_moved, changed, served_at, with_server, with_user, TypeGives, DoesOrHalts, Refuses, Does, Halts, Passes, OfferEnds, OfferGives, TakeEnds, TakeGives, NetEnds, QuietEnds, AskGives, AtProgram, AtSeat, StepGives, stops, line_bits, Gains}
 use Rattle.std.proofs.Common.{inl}
 use Rattle.std.proofs.lemmas.List.{append_assoc}
 use Rattle.interface.specs.declared.carrier.CarrierFault.{CarrierFault}
@@ -277,6 +277,7 @@ module _ {C : Type 0} (calls : Calls C) where
   event_grows (User h peer listen own) old r new other t = absurd (false≢true (sym other))
   event_grows (Typed h line) old r new other t =
       at_host (λ s. TypeGives h line s (services_of h old.services).typing old r new) h old r new (λ s g. type_grows h line s (services_of h old.services).typing old r new g) t
+  event_grows (Out m) old r new other t = grew_same old.kept new.kept (ap (λ (w : WorldState C). w.kept) t.1)
 
   event_gains : (e : Event) (old : WorldState C) (r : Result (Unit {0}) WorldFault) (new : WorldState C) → EventGives calls old e r new → Gains old.kept new.kept
   event_gains (Server h listen base) old r new t =

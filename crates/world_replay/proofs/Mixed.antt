@@ -1,17 +1,15 @@
 -- What a book gains where strangers speak and take.
-use Rattle.world_replay.proofs.Common.{inl, inr, [], ◌∷◌, Option, None, Some, Result, Ok, Err, ap, Calls, crossing_of, CalmGives, StepGives, WorldState, changed, with_carrier, Event, Take, WorldFault, Gains, FetchEnds, MixedState, OutEnds, RefusesMixed, Any, Out, HasProgram, NoProgram, Carrier, if◌then◌else◌, MixedWorldEvent}
+use Rattle.world_replay.proofs.Common.{inl, inr, [], ◌∷◌, Option, None, Some, Result, Ok, Err, ap, Calls, crossing_of, CalmGives, StepGives, WorldState, changed, with_carrier, Event, Take, WorldFault, Gains, FetchEnds, MixedState, OutEnds, RefusesMixed, Out, NoProgram, Carrier, MixedWorldEvent}
 use Rattle.interface.specs.declared.carrier.CarrierFault.{CarrierFault}
 use Rattle.interface.specs.declared.carrier.CarrierFault.TheVariants as fault
 use Rattle.interface.specs.declared.crossing.Crossing.TheVariants as crossing
 use Rattle.interface.specs.declared.crossing.Inbound.{Inbound}
 use Rattle.interface.specs.declared.message.HostMessage.{HostMessage}
-use Rattle.net_sim.specs.MixedWorlds.{AnyGives, AskedGives, FetchGives, MixedStepGives, OfWorld, OutGives, SaysGives, asked_at, has_seat, is_strange, strange_in}
-use Rattle.net_sim.specs.declared.mixed.MixedEvent.{MixedEvent}
-use Rattle.net_sim.specs.MixedWorlds as mixed
+use Rattle.net_sim.specs.MixedWorlds.{AmongGives, AskedGives, FetchGives, MixedStepGives, OfWorld, OutGives, asked_at, is_strange, strange_in}
 use Rattle.world_replay.proofs.Grown.{Grew, does_grow, gains_same, grew_all_crossed, grew_none, halts_grow, passes_grow, step_gains}
 use Rattle.world_replay.proofs.Replays.{calm_grows}
 use Rattle.world_replay.proofs.Steady.{on_either}
-use Rattle.world_replay.specs.Kinds.{MixedEventGives}
+use Rattle.world_replay.specs.Kinds.{EventGivesAmong}
 use Rattle.world_script.specs.declared.event.MixedWorldEvent.TheVariants as script
 
 module _ {C : Type 0} (calls : Calls C) where
@@ -50,26 +48,17 @@ module _ {C : Type 0} (calls : Calls C) where
       → AskedGives calls old e r new → Gains old.world.kept new.world.kept
   asked_gains e old r new h = on_either (is_strange (strange_in old) (asked_at e)) (λ s g. refused NoProgram old r new g) (λ s g. as_any e old r new g) h
 
-  any_gains : (e : Event) (old : MixedState C) (r : Result (Unit {0}) WorldFault) (new : MixedState C)
-      → AnyGives calls old e r new → Gains old.world.kept new.world.kept
-  any_gains (Take h) old r new g =
+  mixed_gains : (e : Event) (old : MixedState C) (r : Result (Unit {0}) WorldFault) (new : MixedState C)
+      → AmongGives calls old e r new → Gains old.world.kept new.world.kept
+  mixed_gains (Take h) old r new g =
       on_either (strange_in old h) (λ s f. of_world (FetchGives calls h old.world) old r new (λ q w t. (fetch_end t.0 t.1 old.world q w t.3).gains) f) (λ s f. as_any (Take h) old r new f) g
-  any_gains e old r new g = asked_gains e old r new g
-
-  says_gains : (m : HostMessage) (old : MixedState C) (r : Result (Unit {0}) WorldFault) (new : MixedState C)
-      → SaysGives calls old m r new → Gains old.world.kept new.world.kept
-  says_gains m old r new h =
-      on_either (strange_in old m.flow.source) (λ s g. of_world (OutGives calls m old.world) old r new (λ q w t. (out_end m t.0 t.1 old.world q w t.3).gains) g)
-      (λ s g. refused (if has_seat m.flow.source old.world.seats then HasProgram else Carrier fault.NoSuch) old r new g) h
-
-  mixed_gains : (e : MixedEvent) (old : MixedState C) (r : Result (Unit {0}) WorldFault) (new : MixedState C)
-      → mixed.MixedEventGives calls old e r new → Gains old.world.kept new.world.kept
-  mixed_gains (Any e) old r new h = any_gains e old r new h
-  mixed_gains (Out m) old r new h = says_gains m old r new h
+  mixed_gains (Out m) old r new g =
+      on_either (strange_in old m.flow.source) (λ s f. of_world (OutGives calls m old.world) old r new (λ q w t. (out_end m t.0 t.1 old.world q w t.3).gains) f) (λ s f. as_any (Out m) old r new f) g
+  mixed_gains e old r new g = asked_gains e old r new g
 
   -- of a script
   pub mixed_event_gains : (e : MixedWorldEvent) (old : MixedState C) (r : Result (Unit {0}) WorldFault)
       (new : MixedState C)
-      → MixedEventGives calls old e r new → Gains old.world.kept new.world.kept
+      → EventGivesAmong calls old e r new → Gains old.world.kept new.world.kept
   mixed_event_gains (script.Happen e) old r new h = on_either old.world.stopped (λ s g. refused (Carrier fault.Stopped) old r new g) (λ s g. mixed_gains e old r new g) h
   mixed_event_gains (script.Calm rounds) old r new h = of_world (CalmGives calls rounds old.world) old r new (λ q w t. (calm_grows calls rounds old.world q w t).gains) h

@@ -2,22 +2,19 @@
 use Rattle.world_replay.proofs.Common.{◌≡◌, inl, inr, Bool, true, false, List, ◌++◌, Option, Some, None, Result, Ok, Err}
 use Rattle.world_replay.proofs.Common.{ap, ap₂, sym, ◌∙◌, refl, MatchBool, Calls, Host, Kept, WorldState, stops}
 use Rattle.world_replay.proofs.Common.{StepGives, CalmGives, Event, Take, WorldFault, Carrier, AreSettled, shown}
-use Rattle.world_replay.proofs.Common.{FetchEnds, MixedState, OutEnds, RefusesMixed, Any, Out}
-use Rattle.world_replay.proofs.Common.{HasProgram, NoProgram, if◌then◌else◌, MixedWorldEvent}
+use Rattle.world_replay.proofs.Common.{FetchEnds, MixedState, OutEnds, RefusesMixed, Out, NoProgram, MixedWorldEvent}
 use Rattle.world_replay.proofs.Common.{HappensBy, StopsBy, mixed_kind, shown_refusal, Gains, gained, HappensOnce}
 use Rattle.world_replay.proofs.Common.{ShowsFront, in_turn_once}
 use Rattle.interface.specs.declared.carrier.CarrierFault.{CarrierFault}
 use Rattle.interface.specs.declared.carrier.CarrierFault.TheVariants as fault
 use Rattle.interface.specs.declared.crossing.Inbound.{Inbound}
 use Rattle.interface.specs.declared.message.HostMessage.{HostMessage}
-use Rattle.net_sim.specs.MixedWorlds as mixed
-use Rattle.net_sim.specs.MixedWorlds.{AnyGives, AskedGives, FetchGives, MixedStepGives, OfWorld, OutGives, SaysGives}
-use Rattle.net_sim.specs.MixedWorlds.{asked_at, has_seat, is_strange, strange_in}
-use Rattle.net_sim.specs.declared.mixed.MixedEvent.{MixedEvent}
+use Rattle.net_sim.specs.MixedWorlds.{AmongGives, AskedGives, FetchGives, MixedStepGives, OfWorld, OutGives}
+use Rattle.net_sim.specs.MixedWorlds.{asked_at, is_strange, strange_in}
 use Rattle.replay.proofs.lemmas.{ends_front}
 use Rattle.std.proofs.lemmas.List.{append_assoc}
 use Rattle.world_script.specs.declared.event.MixedWorldEvent.TheVariants as script
-use Rattle.world_replay.specs.Kinds.{MixedEventGives, ReplaysBy, RunsOutBy}
+use Rattle.world_replay.specs.Kinds.{EventGivesAmong, ReplaysBy, RunsOutBy}
 use Rattle.world_replay.specs.Output.{Shown}
 use Rattle.world_replay.proofs.Grown.{Grew, gains_none, grew_more, step_kept}
 use Rattle.world_replay.proofs.Replays.{SameGains, gained_more, gains_once, same_news, shown_settled}
@@ -120,34 +117,27 @@ module _ {C : Type 0} (calls : Calls C) (settled : AreSettled calls) where
       (RefusesMixed NoProgram old) (OfWorld (StepGives calls old.world e) old) (refused NoProgram old)
       (of_world old (StepGives calls old.world e) (step_settles e old.world))
 
-  any : (e : Event) (old : MixedState C) → Among old (AnyGives calls old e)
-  any (Take g) old =
+  one_of : (e : Event) (old : MixedState C) → Among old (AmongGives calls old e)
+  one_of (Take g) old =
       settles_either (λ (s : MixedState C). s.world.kept) old (strange_in old g)
       (OfWorld (FetchGives calls g old.world) old) (OfWorld (StepGives calls old.world (Take g)) old)
       (of_world old (FetchGives calls g old.world) (fetch_settles g old.world))
       (of_world old (StepGives calls old.world (Take g)) (step_settles (Take g) old.world))
-  any e old = asked e old
-
-  says : (m : HostMessage) (old : MixedState C) → Among old (SaysGives calls old m)
-  says m old =
-      let f : WorldFault =
-      if has_seat m.flow.source old.world.seats then HasProgram else Carrier fault.NoSuch in
+  one_of (Out m) old =
       settles_either (λ (s : MixedState C). s.world.kept) old (strange_in old m.flow.source)
-      (OfWorld (OutGives calls m old.world) old) (RefusesMixed f old)
-      (of_world old (OutGives calls m old.world) (out_settles m old.world)) (refused f old)
+      (OfWorld (OutGives calls m old.world) old) (OfWorld (StepGives calls old.world (Out m)) old)
+      (of_world old (OutGives calls m old.world) (out_settles m old.world))
+      (of_world old (StepGives calls old.world (Out m)) (step_settles (Out m) old.world))
+  one_of e old = asked e old
 
-  one_of : (e : MixedEvent) (old : MixedState C) → Among old (mixed.MixedEventGives calls old e)
-  one_of (Any e) old = any e old
-  one_of (Out m) old = says m old
-
-  single : (e : MixedEvent) (old : MixedState C) → Among old (MixedStepGives calls old e)
+  single : (e : Event) (old : MixedState C) → Among old (MixedStepGives calls old e)
   single e old =
       settles_either (λ (s : MixedState C). s.world.kept) old old.world.stopped
-      (RefusesMixed (Carrier fault.Stopped) old) (mixed.MixedEventGives calls old e)
+      (RefusesMixed (Carrier fault.Stopped) old) (AmongGives calls old e)
       (refused (Carrier fault.Stopped) old) (one_of e old)
 
   event_once : (e : MixedWorldEvent) (old : MixedState C) (r q : Answer) (new other : MixedState C)
-      → MixedEventGives calls old e r new → stops r ≡ false → MixedEventGives calls old e q other
+      → EventGivesAmong calls old e r new → stops r ≡ false → EventGivesAmong calls old e q other
       → stops q ≡ false → (r ≡ q) × (new ≡ other)
   event_once (script.Happen e) old r q new other h hg k kg = (single e old).once r q new other h hg k kg
   event_once (script.Calm rounds) old r q new other h hg k kg =

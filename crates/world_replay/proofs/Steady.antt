@@ -1,5 +1,5 @@
 -- A settled carrier leaves a world no choice.
-use Rattle.world_replay.proofs.Common.{FetchEnds, OutEnds, ◌≡◌, inl, inr, ℕ, zero, suc, Bool, true, false, List, [], ◌∷◌, length, nat_lt, Option, Some, None, Result, Ok, Err, refl, sym, ap, subst, ◌∙◌, false≢true, MatchBool, Calls, crossing_of, step_crossings, is_memory, Host, Kept, WorldState, seat_of, services_of, up_in, with_carrier, world_moved, changed, with_server, with_user, TypeGives, DoesOrHalts, stops, Refuses, Does, Halts, Passes, OfferEnds, OfferGives, TakeEnds, TakeGives, NetEnds, QuietEnds, AskGives, AtProgram, AtSeat, StepGives, Repeats, TurnsOf, Calms, CalmGives, Event, Net, Quiet, Offer, Take, Ask, Server, User, Typed, WorldFault, Carrier, Seat, GoesOn, AreSettled, accepted, NcpState, refusal, next_out, offered, NcpFault, Request, line_bits}
+use Rattle.world_replay.proofs.Common.{FetchEnds, OutEnds, ◌≡◌, inl, inr, ℕ, zero, suc, Bool, true, false, List, [], ◌∷◌, length, nat_lt, Option, Some, None, Result, Ok, Err, refl, sym, ap, subst, ◌∙◌, false≢true, MatchBool, Calls, crossing_of, step_crossings, is_memory, Host, Kept, WorldState, seat_of, services_of, up_in, with_carrier, world_moved, changed, with_server, with_user, TypeGives, DoesOrHalts, stops, Refuses, Does, Halts, Passes, OfferEnds, OfferGives, TakeEnds, TakeGives, NetEnds, QuietEnds, AskGives, AtProgram, AtSeat, StepGives, Repeats, TurnsOf, Calms, CalmGives, Event, Net, Quiet, Offer, Out, Take, Ask, Server, User, Typed, WorldFault, Carrier, Seat, GoesOn, AreSettled, accepted, NcpState, refusal, next_out, offered, NcpFault, Request, line_bits}
 use Rattle.replay.specs.Replay.{outcome_of}
 use Rattle.std.proofs.Common.{◌||◌}
 use Rattle.interface.specs.Calls.{is_halt}
@@ -302,6 +302,7 @@ module _ {C : Type 0} (calls : Calls C) (settled : AreSettled calls) where
   event_once (Typed h line) old r q new other g hg k kg =
       at_seat (λ s. TypeGives h line s (services_of h old.services).typing old r new) (λ s. TypeGives h line s (services_of h old.services).typing old q other) (seat_of h old.seats) old r q new other
       (λ s a b. type_once h line s (services_of h old.services).typing old r q new other a hg b kg) g k
+  event_once (Out m) old r q new other g hg k kg = (g.0 ∙ sym k.0, g.1 ∙ sym k.1)
 
   stopped_once : (f : WorldFault) (old : WorldState C) (r q : Result (Unit {0}) WorldFault) (new other : WorldState C) (b : Bool) (P Q : Type 0) → (P → Q → (r ≡ q) × (new ≡ other))
       → MatchBool b (Refuses f old r new) P → MatchBool b (Refuses f old q other) Q → (r ≡ q) × (new ≡ other)

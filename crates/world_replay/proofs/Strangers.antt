@@ -1,5 +1,5 @@
 -- What is shown of a stranger in a small world.
-use Rattle.world_replay.proofs.Common.{◌≡◌, inl, inr, ℕ, Bool, true, false, List, [], ◌∷◌, ◌++◌, Option, None, Some, Result, Ok, Err, refl, ap, sym, subst, ◌∙◌, append-nil, Calls, Seen, crossing_of, Host, Crossing, StepGives, WorldState, AtProgram, AtSeat, OfferGives, QuietEnds, TakeEnds, TakeGives, changed, stops, seat_of, world_moved, Event, Ask, Net, Offer, Quiet, Server, Take, Typed, User, WorldFault, Kept, crossed, Gains, NcpState, first, second, message, Seat, IsOfCalm, if◌then◌else◌, same_host, calm_keeps, FetchEnds, MixedState, OutEnds, RefusesMixed, Any, Out, any_carrier, Told, opening_state, third, gained, HappensBy, mixed_kind, Noticed, shown_refusal, MixedWorldEvent}
+use Rattle.world_replay.proofs.Common.{◌≡◌, inl, inr, ℕ, Bool, true, false, List, [], ◌∷◌, ◌++◌, Option, None, Some, Result, Ok, Err, refl, ap, sym, subst, ◌∙◌, append-nil, Calls, Seen, crossing_of, Host, Crossing, StepGives, WorldState, AtProgram, AtSeat, OfferGives, QuietEnds, TakeEnds, TakeGives, changed, stops, seat_of, world_moved, Event, Ask, Net, Offer, Quiet, Server, Take, Typed, User, WorldFault, Kept, crossed, Gains, NcpState, first, second, message, Seat, IsOfCalm, if◌then◌else◌, same_host, calm_keeps, FetchEnds, MixedState, OutEnds, Refuses, Out, any_carrier, Told, opening_state, third, gained, HappensBy, mixed_kind, Noticed, shown_refusal, MixedWorldEvent}
 use Rattle.bit_messages.specs.Octets.{octets_of}
 use Rattle.host_pairs.specs.Control.{orders_of}
 use Rattle.host_pairs.specs.declared.notice.Notice.TheVariants as notice
@@ -44,9 +44,9 @@ world = beside_third.world
 
 pub refused_only : (calls : Calls Seen) (e : MixedWorldEvent) (f : WorldFault) (new : MixedState Seen)
     (shown : List Shown) (h : HappensBy (mixed_kind calls) beside_third e new shown)
-    → RefusesMixed f beside_third h.outcome new → shown ≡ Refused f ∷ []
+    → Refuses f world h.outcome new.world → shown ≡ Refused f ∷ []
 refused_only calls e f new shown h refuses =
-    h.lines ∙ ap (λ (xs : List Shown). xs ++ shown_refusal h.outcome) (unmoved beside_third.world.kept new.world.kept h.gains (ap (λ (s : MixedState Seen). s.world.kept) refuses.1))
+    h.lines ∙ ap (λ (xs : List Shown). xs ++ shown_refusal h.outcome) (unmoved beside_third.world.kept new.world.kept h.gains (ap (λ (w : WorldState Seen). w.kept) refuses.1))
     ∙ ap shown_refusal refuses.0
 
 -- ---- what it says and takes
@@ -84,12 +84,12 @@ says_only new shown h =
     (said (message third first 2) a c h.outcome new.world call.0 ends h.goes_on)
 
 pub takes_only : (new : MixedState Seen) (shown : List Shown)
-    → HappensBy (mixed_kind waiting_carrier) beside_third (script.Happen (Any (Take third))) new shown
+    → HappensBy (mixed_kind waiting_carrier) beside_third (script.Happen (Take third)) new shown
     → (i : Inbound) × (shown ≡ Crossed (crossing_of i) ∷ [])
 takes_only new shown h =
     let ((a, c, ((i, given), seen), ends), same) = h.gives in
     let (j, kept, well) = took i a c h.outcome new.world given ends h.goes_on in
-    (j, went_well (crossing_of j) (script.Happen (Any (Take third))) waiting_carrier new shown h (kept, well))
+    (j, went_well (crossing_of j) (script.Happen (Take third)) waiting_carrier new shown h (kept, well))
 
 -- ---- a calm
 
@@ -164,6 +164,7 @@ event_stays (Ask h q) old r new n p t = absurd n
 event_stays (Server h listen base) old r new n p t = absurd n
 event_stays (User h peer listen own) old r new n p t = absurd n
 event_stays (Typed h line) old r new n p t = absurd n
+event_stays (Out m) old r new n p t = absurd n
 
 step_stays : (e : Event) (old : WorldState Seen) (r : Result (Unit {0}) WorldFault) (new : WorldState Seen)
     → IsOfCalm e → Stays old → StepGives waiting_carrier old e r new → Stays new
@@ -203,7 +204,7 @@ goes_out = record {
 abbrev told : Told
 told = record { host = first; place = 2; notice = notice.Ready third }
 
-comes_in : HappensBy (mixed_kind there) sent (script.Happen (Any (Take first))) heard (Crossed (crossing.In hail) ∷ Noticed told ∷ [])
+comes_in : HappensBy (mixed_kind there) sent (script.Happen (Take first)) heard (Crossed (crossing.In hail) ∷ Noticed told ∷ [])
 unfolding accepted services.services_told octets_of packed_count command_of read_of orders_of
 comes_in = record {
   outcome = Ok tt;
@@ -213,7 +214,7 @@ comes_in = record {
   lines = refl;
 }
 
-is_answered : HappensBy (mixed_kind there) heard (script.Happen (Any (Take third))) answered (Crossed (crossing.Answer answer.Rfnm hail.flow) ∷ [])
+is_answered : HappensBy (mixed_kind there) heard (script.Happen (Take third)) answered (Crossed (crossing.Answer answer.Rfnm hail.flow) ∷ [])
 is_answered = record {
   outcome = Ok tt;
   gives = ((Ok (Some (inbound.Answer answer.Rfnm hail.flow)), grown heard.world.carrier (crossing.Answer answer.Rfnm hail.flow ∷ []), (record { running = refl; shown = refl }, refl), inl (refl, refl)), refl);
@@ -222,7 +223,7 @@ is_answered = record {
   lines = refl;
 }
 
-pub is_hailed : MayShow there (script.Happen (Out hail) ∷ script.Happen (Any (Take first)) ∷ script.Happen (Any (Take third)) ∷ []) hailed
+pub is_hailed : MayShow there (script.Happen (Out hail) ∷ script.Happen (Take first) ∷ script.Happen (Take third) ∷ []) hailed
 is_hailed = (
   answered,
   (

@@ -80,10 +80,10 @@ BreaksOffBy kind old events new shown = EndsBy kind (MayDoBy kind) old events ne
 
 -- ---- worlds with strangers
 
-abbrev pub MixedEventGives : {C : Type 0} → Calls C → MixedState C → MixedWorldEvent → Result (Unit {0}) WorldFault
+abbrev pub EventGivesAmong : {C : Type 0} → Calls C → MixedState C → MixedWorldEvent → Result (Unit {0}) WorldFault
     → MixedState C → Type 0
-MixedEventGives calls old (mixed.Happen e) r new = MixedStepGives calls old e r new
-MixedEventGives calls old (mixed.Calm rounds) r new = MixedCalmGives calls rounds old r new
+EventGivesAmong calls old (mixed.Happen e) r new = MixedStepGives calls old e r new
+EventGivesAmong calls old (mixed.Calm rounds) r new = MixedCalmGives calls rounds old r new
 
 abbrev pub mixed_rounds : MixedWorldEvent → Option ℕ
 mixed_rounds (mixed.Happen e) = None
@@ -92,7 +92,7 @@ mixed_rounds (mixed.Calm rounds) = Some rounds
 abbrev pub mixed_kind : {C : Type 0} → Calls C → Kind (MixedState C) MixedWorldEvent
 mixed_kind {C} calls = record {
   kept = λ (s : MixedState C). s.world.kept;
-  gives = MixedEventGives calls;
+  gives = EventGivesAmong calls;
   calm = mixed.Calm;
   rounds = mixed_rounds;
   rests = λ (s : MixedState C). IsAtRest calls s.world;

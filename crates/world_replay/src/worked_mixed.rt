@@ -4,10 +4,9 @@
 ghost use Rattle.std.specs.Prelude.{◌≡◌, ℕ, [], ◌∷◌, codes};
 ghost use Rattle.interface.specs.declared.carrier.CarrierFault.TheVariants as fault;
 ghost use Rattle.interface.specs.declared.crossing.Crossing.TheVariants as crossing;
-ghost use Rattle.net_sim.specs.declared.mixed.MixedEvent.TheVariants.{Any, Out};
 ghost use Rattle.net_sim.specs.Worked.{accepting_carrier, any_carrier, message};
 ghost use Rattle.net_sim.specs.WorkedMixed.{fourth, waiting_carrier};
-ghost use Rattle.net_sim.specs.declared.event.Event.TheVariants.{Ask, Offer, Take};
+ghost use Rattle.net_sim.specs.declared.event.Event.TheVariants.{Ask, Offer, Out, Take};
 ghost use Rattle.net_sim.specs.declared.event.WorldFault.TheVariants.{Carrier, HasProgram, NoProgram};
 ghost use Rattle.sockets.specs.Worked.{first, second, third};
 ghost use Rattle.sockets.specs.declared.request.Request.TheVariants as request;
@@ -27,15 +26,15 @@ pub fn worked_refusals()
 /// What is shown of a stranger.
 pub fn worked_strangers()
     // what it says is taken by a program, of which its user is notified, and answered
-    ensures hailed { MayShow any_carrier (Happen (Out hail) ∷ Happen (Any (Take first)) ∷ Happen (Any (Take third)) ∷ []) hailed }
+    ensures hailed { MayShow any_carrier (Happen (Out hail) ∷ Happen (Take first) ∷ Happen (Take third) ∷ []) hailed }
 
     // its message crosses, and so does what it takes, of which nobody is notified
     ensures says { ShowsOnly accepting_carrier (Happen (Out (message third first 2))) (Crossed (crossing.Out (message third first 2)) ∷ []) }
-    ensures takes { ShowsOneTaken waiting_carrier (Happen (Any (Take third))) }
+    ensures takes { ShowsOneTaken waiting_carrier (Happen (Take third)) }
 
     // it is asked for nothing, and no other host is to say what its program doesn't say
-    ensures offered { ShowsOnly any_carrier (Happen (Any (Offer third))) (Refused NoProgram ∷ []) }
-    ensures asked { ShowsOnly any_carrier (Happen (Any (Ask third (request.Echo second 65)))) (Refused NoProgram ∷ []) }
+    ensures offered { ShowsOnly any_carrier (Happen (Offer third)) (Refused NoProgram ∷ []) }
+    ensures asked { ShowsOnly any_carrier (Happen (Ask third (request.Echo second 65))) (Refused NoProgram ∷ []) }
     ensures program { ShowsOnly any_carrier (Happen (Out (message first second 2))) (Refused HasProgram ∷ []) }
     ensures nobody { ShowsOnly any_carrier (Happen (Out (message fourth second 2))) (Refused (Carrier fault.NoSuch) ∷ []) }
 

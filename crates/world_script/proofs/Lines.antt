@@ -35,6 +35,7 @@ first (world.Happen (event.Ask h r)) = verb_text (verb_of r)
 first (world.Happen (event.Server h l s)) = codes "server"
 first (world.Happen (event.User h p l u)) = codes "user"
 first (world.Happen (event.Typed h text)) = codes "type"
+first (world.Happen (event.Out m)) = []
 first (world.Calm n) = codes "calm"
 
 abbrev pub behind : WorldEvent → List ℕ
@@ -46,11 +47,13 @@ behind (world.Happen (event.Ask h r)) = host_text h ++ 32 ∷ arguments r
 behind (world.Happen (event.Server h l s)) = host_text h ++ 32 ∷ two_text (l, s)
 behind (world.Happen (event.User h p l u)) = host_text h ++ 32 ∷ (host_text p ++ 32 ∷ two_text (l, u))
 behind (world.Happen (event.Typed h text)) = host_text h ++ 32 ∷ text
+behind (world.Happen (event.Out m)) = []
 behind (world.Calm n) = decimal n
 
 pub spelled_event : (x : WorldEvent) → IsWorldEvent x → world_spelling x ≡ first x ++ 32 ∷ behind x
 spelled_event (world.Happen (event.Net e)) meant = spelled (raw.Net e)
 spelled_event (world.Happen event.Quiet) meant = absurd meant
+spelled_event (world.Happen (event.Out m)) meant = absurd meant
 spelled_event (world.Happen (event.Ask h r)) meant = spelled_request h r
 spelled_event (world.Happen c) meant = refl
 spelled_event (world.Calm n) meant = refl
@@ -58,6 +61,7 @@ spelled_event (world.Calm n) meant = refl
 pub first_unmarked : (x : WorldEvent) → IsWorldEvent x → Lacks 32 (first x)
 first_unmarked (world.Happen (event.Net e)) meant = unmarked_where 32 (keyword (raw.Net e)) (plain (raw.Net e))
 first_unmarked (world.Happen event.Quiet) meant = absurd meant
+first_unmarked (world.Happen (event.Out m)) meant = absurd meant
 first_unmarked (world.Happen (event.Offer h)) meant = unmarked_where 32 (codes "offer") refl
 first_unmarked (world.Happen (event.Take h)) meant = unmarked_where 32 (codes "take") refl
 first_unmarked (world.Happen (event.Ask h r)) meant = verb_unmarked (verb_of r)
@@ -108,6 +112,7 @@ head_of word =
 abbrev pub head : WorldEvent → Head
 head (world.Happen (event.Net e)) = Nets
 head (world.Happen event.Quiet) = Nets
+head (world.Happen (event.Out m)) = Nets
 head (world.Happen (event.Offer h)) = Offers
 head (world.Happen (event.Take h)) = Takes
 head (world.Happen (event.Ask h r)) = Asks (verb_of r)
@@ -127,6 +132,7 @@ head_net e = refl
 pub head_again : (x : WorldEvent) → IsWorldEvent x → head_of (first x) ≡ head x
 head_again (world.Happen (event.Net e)) meant = head_net e
 head_again (world.Happen event.Quiet) meant = absurd meant
+head_again (world.Happen (event.Out m)) meant = absurd meant
 head_again (world.Happen (event.Ask h r)) meant = head_verb (verb_of r)
 head_again (world.Happen c) meant = refl
 head_again (world.Calm n) meant = refl
@@ -156,6 +162,7 @@ event_at Nets e = world.Happen (event.Net e)
 abbrev pub operand_at : (x : WorldEvent) → IsWorldEvent x → OperandAt (head x)
 operand_at (world.Happen (event.Net e)) meant = e
 operand_at (world.Happen event.Quiet) meant = absurd meant
+operand_at (world.Happen (event.Out m)) meant = absurd meant
 operand_at (world.Happen (event.Offer h)) meant = h
 operand_at (world.Happen (event.Take h)) meant = h
 operand_at (world.Happen (event.Ask h r)) meant = (h, requests.operand r)
@@ -166,6 +173,7 @@ operand_at (world.Calm n) meant = n
 
 pub event_again : (x : WorldEvent) (meant : IsWorldEvent x) → event_at (head x) (operand_at x meant) ≡ x
 event_again (world.Happen event.Quiet) meant = absurd meant
+event_again (world.Happen (event.Out m)) meant = absurd meant
 event_again (world.Happen (event.Ask h r)) meant = ap (λ s. world.Happen (event.Ask h s)) (request_again r)
 event_again (world.Happen c) meant = refl
 event_again (world.Calm n) meant = refl
@@ -239,6 +247,7 @@ no_plain word rest h asked typed offer take server user calm none x meant e = by
   by : (x : WorldEvent) → IsWorldEvent x → word ++ 32 ∷ rest ≡ world_spelling x → word ≡ first x → ⊥
   by (world.Happen (event.Net e)) meant is same = none e meant is
   by (world.Happen event.Quiet) meant is same = absurd meant
+  by (world.Happen (event.Out m)) meant is same = absurd meant
   by (world.Happen (event.Offer h)) meant is same = offer same
   by (world.Happen (event.Take h)) meant is same = take same
   by (world.Happen (event.Ask h r)) meant is same = asked (verb_of r) tt same

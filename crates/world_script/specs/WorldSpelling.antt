@@ -5,7 +5,7 @@ use Rattle.std.specs.List.{list_all}
 use Rattle.interface.specs.Host.{Host}
 use Rattle.interface.specs.Printed.{host_text}
 use Rattle.net_sim.specs.declared.event.Event.TheVariants as event
-use Rattle.script.specs.Spelling.{IsHex, IsHost, IsIndex, IsNetEvent, net_spelling, octets_text}
+use Rattle.script.specs.Spelling.{IsHex, IsHost, IsIndex, IsNetEvent, message_text, net_spelling, octets_text}
 use Rattle.sockets.specs.declared.request.Request.{Request}
 use Rattle.sockets.specs.declared.request.Request.TheVariants as request
 use Rattle.terminal.specs.Lines.{is_printable}
@@ -36,6 +36,7 @@ world_spelling (world.Happen (event.Ask h r)) = request_spelling h r
 world_spelling (world.Happen (event.Server h listen base)) = codes "server " ++ (host_text h ++ (codes " " ++ (decimal listen ++ (codes " " ++ decimal base))))
 world_spelling (world.Happen (event.User h peer listen own)) = codes "user " ++ (host_text h ++ (codes " " ++ (host_text peer ++ (codes " " ++ (decimal listen ++ (codes " " ++ decimal own))))))
 world_spelling (world.Happen (event.Typed h text)) = codes "type " ++ (host_text h ++ (codes " " ++ text))
+world_spelling (world.Happen (event.Out m)) = codes "out " ++ message_text m
 world_spelling (world.Calm rounds) = codes "calm " ++ decimal rounds
 
 -- a valid socket has 32 bits
@@ -65,7 +66,7 @@ abbrev pub IsText : List ℕ → Type 0
 IsText text = list_all is_printable text ≡ true
 
 -- the events that a world's script may ask for. Whether the sockets of a server or a user are even or odd, and whether
--- there is a terminal, is seen when the event is run
+-- there is a terminal, is seen when the event is run. What a stranger sends is asked for only where there are strangers
 abbrev pub IsWorldEvent : WorldEvent → Type 0
 IsWorldEvent (world.Happen (event.Net e)) = IsNetEvent e
 IsWorldEvent (world.Happen event.Quiet) = ⊥
@@ -75,6 +76,7 @@ IsWorldEvent (world.Happen (event.Ask h r)) = IsHost h × IsRequest r
 IsWorldEvent (world.Happen (event.Server h listen base)) = IsHost h × IsSocket listen × IsSocket base
 IsWorldEvent (world.Happen (event.User h peer listen own)) = IsHost h × IsHost peer × IsSocket listen × IsSocket own
 IsWorldEvent (world.Happen (event.Typed h text)) = IsHost h × IsText text
+IsWorldEvent (world.Happen (event.Out m)) = ⊥
 IsWorldEvent (world.Calm rounds) = IsIndex rounds
 
 -- ---- memory

@@ -14,7 +14,7 @@ pub enum WorldEvent {
 #[derive(Debug, Drop)]
 pub enum MixedWorldEvent {
     /// This happens in the world.
-    Happen(net_sim::MixedEvent),
+    Happen(net_sim::Event),
     /// This many rounds pass. In each the network has a quiet round, and then each host that has a program and is up takes
     /// what came for it and offers what it has to send.
     Calm(u32),

@@ -2,7 +2,7 @@
 //! the law.
 
 ghost use Rattle.std.specs.Prelude.{◌≡◌, ℕ, List};
-ghost use Rattle.world_script.specs.Mixed.{AskForMixed, IsMixedEvent, mixed_spelling};
+ghost use Rattle.world_script.specs.Mixed.{AskForMixed, IsEventAmong, mixed_spelling};
 ghost use Rattle.world_script.specs.WorldScript.{AskFor};
 ghost use Rattle.world_script.specs.WorldSpelling.{IsWorldEvent, world_spelling};
 ghost use Rattle.world_script.specs.declared.event.MixedWorldEvent.{MixedWorldEvent};
@@ -16,6 +16,6 @@ pub fn one_reading()
 
 /// And so it is where some hosts are strangers.
 pub fn one_mixed_reading()
-    ensures event { (event other : MixedWorldEvent) → IsMixedEvent event → IsMixedEvent other → mixed_spelling event ≡ mixed_spelling other → event ≡ other }
+    ensures event { (event other : MixedWorldEvent) → IsEventAmong event → IsEventAmong other → mixed_spelling event ≡ mixed_spelling other → event ≡ other }
     ensures events { (lines : List (List ℕ)) (events others : List MixedWorldEvent) → AskForMixed events lines → AskForMixed others lines → events ≡ others }
 {}

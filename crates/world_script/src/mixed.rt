@@ -5,11 +5,11 @@ ghost use Rattle.std.proofs.Common.{inr};
 ghost use Rattle.script.specs.Script.{lines_of};
 ghost use Rattle.script.specs.Spelling.{ReadsAs};
 ghost use Rattle.script.specs.Steps.{Lacks};
-ghost use Rattle.world_script.specs.Mixed.{AskForMixed, IsMixedEvent, IsMixedFault, WantsMixed, among, mixed_spelling};
+ghost use Rattle.world_script.specs.Mixed.{AskForMixed, IsEventAmong, IsMixedFault, WantsMixed, among, mixed_spelling};
 
 use crate::event::{MixedWorldEvent, WorldEvent};
 use crate::events::read_words;
-use net_sim::MixedEvent;
+use net_sim::Event;
 use script::reading::{ScriptEvent, cut, is_word, read_events, read_message};
 use script::{LineFault, MAX_INPUT};
 use std::alloc::{AllocError, Global};
@@ -30,7 +30,7 @@ pub fn read_mixed_script(alloc: Global, text: &[u8]) -> Result<Vec<MixedWorldEve
 impl ScriptEvent for MixedWorldEvent {
     ghost spelled = { mixed_spelling };
 
-    ghost is_meant = { IsMixedEvent };
+    ghost is_meant = { IsEventAmong };
 
     ghost wants = { WantsMixed };
 
@@ -45,7 +45,7 @@ impl ScriptEvent for MixedWorldEvent {
 ///
 /// Errors: `AllocError`, only for a message, for octets to send and for a line that is typed.
 fn read_mixed(alloc: Global, line: &[u8]) -> Result<Option<MixedWorldEvent>, AllocError>
-    ensures read { IfOk result (ReadsAs mixed_spelling IsMixedEvent line.now) }
+    ensures read { IfOk result (ReadsAs mixed_spelling IsEventAmong line.now) }
     ensures memory { IfErr result (λ _. WantsMixed line.now) }
 {
     let Some((word, rest)) = cut(line, b' ') else {
@@ -61,13 +61,13 @@ fn read_mixed(alloc: Global, line: &[u8]) -> Result<Option<MixedWorldEvent>, All
 ///
 /// Errors: `AllocError`, only for a message.
 fn read_out(alloc: Global, words: &[u8]) -> Result<Option<MixedWorldEvent>, AllocError>
-    ensures read { IfOk result (ReadsAs mixed_spelling IsMixedEvent (codes "out " ++ words.now)) }
+    ensures read { IfOk result (ReadsAs mixed_spelling IsEventAmong (codes "out " ++ words.now)) }
     ensures memory { IfErr result (λ _. WantsMixed (codes "out " ++ words.now)) }
 {
     let Some(message) = read_message(alloc, words)? else {
         return Ok(None);
     };
-    Ok(Some(MixedWorldEvent::Happen(MixedEvent::Out(message))))
+    Ok(Some(MixedWorldEvent::Happen(Event::Out(message))))
 }
 
 /// Returns the event of a line of any world, from its first word and what follows it.
@@ -80,7 +80,7 @@ fn read_among(
 ) -> Result<Option<MixedWorldEvent>, AllocError>
     requires word { Lacks 32 word.now }
     requires not_out { word.now ≢ codes "out" }
-    ensures read { IfOk result (ReadsAs mixed_spelling IsMixedEvent (word.now ++ 32 ∷ rest.now)) }
+    ensures read { IfOk result (ReadsAs mixed_spelling IsEventAmong (word.now ++ 32 ∷ rest.now)) }
     ensures memory { IfErr result (λ _. WantsMixed (word.now ++ 32 ∷ rest.now)) }
 {
     let Some(event) = read_words(alloc, word, rest)? else {
@@ -94,7 +94,7 @@ fn among(event: WorldEvent) -> MixedWorldEvent
     ensures { result ≡ among event }
 {
     match event {
-        WorldEvent::Happen(event) => MixedWorldEvent::Happen(MixedEvent::Any(event)),
+        WorldEvent::Happen(event) => MixedWorldEvent::Happen(event),
         WorldEvent::Calm(rounds) => MixedWorldEvent::Calm(rounds),
     }
 }

@@ -3,21 +3,21 @@ use Rattle.world_trace.proofs.Common.{◌≡◌, List, [], ◌∷◌, ℕ, ap, a
 use Rattle.interface.specs.Calls.{Seen}
 use Rattle.net_sim.specs.MixedWorlds.{MixedState}
 use Rattle.net_sim.specs.WorkedMixed.{beside_third}
-use Rattle.net_sim.specs.declared.mixed.MixedEvent.{MixedEvent}
+use Rattle.net_sim.specs.declared.event.Event.{Event}
 use Rattle.replay.specs.declared.print.Detail.TheVariants.{Sizes}
 use Rattle.world_replay.proofs.lemmas.Gained.{HaveGains, replays_show}
 use Rattle.world_replay.specs.Kinds.{HappensBy, mixed_kind}
 use Rattle.world_replay.specs.Output.{Shown, crossings_of, output}
 use Rattle.world_replay.specs.WorkedMixed.{ShowsOnly}
 use Rattle.world_script.specs.declared.event.MixedWorldEvent.TheVariants as mixed
-use Rattle.world_trace.specs.MixedTraces.{mixed_text}
-use Rattle.world_trace.specs.Texts.{line_of}
+use Rattle.world_script.specs.declared.event.WorldEvent.TheVariants as world
+use Rattle.world_trace.specs.Texts.{event_text, line_of}
 use Rattle.world_trace.specs.Traces.{change_of}
 use Rattle.world_trace.specs.Worked.{TracesOnly}
 use Rattle.world_trace.proofs.Telling.{crossings_gained}
 
 -- what crossed is what the lines say that crossed
-crossed_shown : (calls : Calls Seen) (e : MixedEvent) (new : MixedState Seen) (lines : List Shown)
+crossed_shown : (calls : Calls Seen) (e : Event) (new : MixedState Seen) (lines : List Shown)
     (h : HappensBy (mixed_kind calls) beside_third (mixed.Happen e) new lines)
     → h.gains.crossings ≡ crossings_of lines
 crossed_shown calls e new lines h =
@@ -27,9 +27,9 @@ crossed_shown calls e new lines h =
     sym (crossings_gained [] new.world.kept.book.crossings h.gains.crossings h.gains.crossed)
     ∙ crossings_gained [] new.world.kept.book.crossings (crossings_of lines) said.crossed
 
-pub traces_only : (calls : Calls Seen) (e : MixedEvent) (shows : List Shown) → ShowsOnly calls (mixed.Happen e) shows
+pub traces_only : (calls : Calls Seen) (e : Event) (shows : List Shown) → ShowsOnly calls (mixed.Happen e) shows
     → TracesOnly calls e (crossings_of shows) (output Sizes shows)
 traces_only calls e shows only members spot new lines (shown, happens, is) =
     let same : shown ≡ shows = only new shown happens in
-    is ∙ ap₂ (λ (cs : List Crossing) (p : List ℕ). line_of spot 0 (mixed_text e) cs p (change_of members beside_third.world new.world) ∷ [])
+    is ∙ ap₂ (λ (cs : List Crossing) (p : List ℕ). line_of spot 0 (event_text (world.Happen e)) cs p (change_of members beside_third.world new.world) ∷ [])
     (crossed_shown calls e new shown happens ∙ ap crossings_of same) (ap (output Sizes) same)

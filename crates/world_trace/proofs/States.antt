@@ -41,6 +41,7 @@ fit_script (event.Ask h r) valid = tt
 fit_script (event.Server h listen base) valid = tt
 fit_script (event.User h peer listen own) valid = tt
 fit_script (event.Typed h line) valid = tt
+fit_script (event.Out m) valid = tt
 
 fit_calm : (e : Event) → IsOfCalm e → IsFit e
 fit_calm (event.Net e) calm = absurd calm
@@ -51,6 +52,7 @@ fit_calm (event.Ask h r) calm = tt
 fit_calm (event.Server h listen base) calm = tt
 fit_calm (event.User h peer listen own) calm = tt
 fit_calm (event.Typed h line) calm = tt
+fit_calm (event.Out m) calm = tt
 
 all_fit : (events : List Event) → All IsOfCalm events → All IsFit events
 all_fit [] calm = All-nil IsFit
@@ -126,6 +128,7 @@ module _ {C : Type 0} (calls : Calls C) (Holds : C → Type 0) (keeps : Keeps ca
   made_holds (event.Server h listen base) seats old new drives lines fit said makes goes holds = still_holds old new drives lines makes goes holds
   made_holds (event.User h peer listen own) seats old new drives lines fit said makes goes holds = still_holds old new drives lines makes goes holds
   made_holds (event.Typed h line) seats old new drives lines fit said makes goes holds = still_holds old new drives lines makes goes holds
+  made_holds (event.Out m) seats old new drives lines fit said makes goes holds = still_holds old new drives lines makes goes holds
 
   -- ---- events in turn
 

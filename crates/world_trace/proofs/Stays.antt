@@ -216,6 +216,7 @@ module _ {C : Type 0} (own : Calls C) where
   event_others (Typed h line) old new r not on step =
       seat_others h (λ s. TypeGives h line s (services_of h old.services).typing old r new) old new r
       (λ s k. type_others h line s (services_of h old.services).typing old new r on k) (step_runs own (Typed h line) old r new on step)
+  event_others (Out m) old new r not on step = same_others None old new (step_runs own (Out m) old r new on step).1
 
   pub others_by : (e : CalmEvent) (old new : WorldState C) (lines : List Shown) → HappensInCalm (shown own) old (event_of e) new lines → AtOthers (host_of e) old new
   others_by calm.Quiet old new lines k = event_others Quiet old new k.outcome refl k.goes_on k.gives

@@ -9,25 +9,23 @@ use Rattle.interface.specs.declared.carrier.CarrierFault.{CarrierFault}
 use Rattle.interface.specs.declared.crossing.Inbound.{Inbound}
 use Rattle.interface.specs.declared.crossing.Inbound.TheVariants as inbound
 use Rattle.interface.specs.declared.message.HostMessage.{HostMessage}
-use Rattle.net_sim.specs.MixedWorlds.{AnyGives, AskedGives, FetchEnds, FetchGives, MixedState, MixedStepGives, OfWorld}
-use Rattle.net_sim.specs.MixedWorlds.{OutEnds, OutGives, RefusesMixed, SaysGives, asked_at, is_strange, strange_in}
-use Rattle.net_sim.specs.MixedWorlds as mixed_world
-use Rattle.net_sim.specs.declared.mixed.MixedEvent.{MixedEvent}
-use Rattle.net_sim.specs.declared.mixed.MixedEvent.TheVariants.{Any, Out}
+use Rattle.net_sim.specs.MixedWorlds.{AmongGives, AskedGives, FetchEnds, FetchGives, MixedState, MixedStepGives, OfWorld}
+use Rattle.net_sim.specs.MixedWorlds.{OutEnds, OutGives, RefusesMixed, asked_at, is_strange, strange_in}
+use Rattle.net_sim.specs.declared.event.Event.TheVariants.{Out}
 use Rattle.net_sim.specs.World.{StepGives}
 use Rattle.replay.specs.declared.events.ReplayFault.TheVariants as fault
 use Rattle.replay.specs.declared.print.Detail.TheVariants.{Sizes}
-use Rattle.world_replay.specs.Kinds.{BreaksOffBy, HappensBy, MayDoBy, MixedEventGives, ReplaysBy, RunsOutBy, StopsBy}
+use Rattle.world_replay.specs.Kinds.{BreaksOffBy, EventGivesAmong, HappensBy, MayDoBy, ReplaysBy, RunsOutBy, StopsBy}
 use Rattle.world_replay.specs.Kinds.{mixed_kind}
 use Rattle.world_replay.specs.Output.{Shown, Writes, output}
 use Rattle.world_replay.proofs.lemmas.{on_either}
 use Rattle.world_script.specs.declared.event.MixedWorldEvent.{MixedWorldEvent}
 use Rattle.world_script.specs.declared.event.MixedWorldEvent.TheVariants as mixed
 use Rattle.world_script.specs.declared.event.WorldEvent.TheVariants as world
-use Rattle.world_trace.specs.MixedSteps.{HasPassedMixed, MixedEnds, MixedEventEnds, ShowsMixed, mixed_reach}
-use Rattle.world_trace.specs.MixedTraces.{StopsMixed, TellsMixed, mixed_text}
+use Rattle.world_trace.specs.MixedSteps.{HasPassedMixed, MixedEnds, EventEndsAmong, ShowsMixed, mixed_reach}
+use Rattle.world_trace.specs.MixedTraces.{StopsMixed, TellsMixed}
 use Rattle.world_trace.specs.Steps.{at_one, passed_line}
-use Rattle.world_trace.specs.Texts.{line_of}
+use Rattle.world_trace.specs.Texts.{event_text, line_of}
 use Rattle.world_trace.specs.Traces.{change_of}
 use Rattle.world_trace.specs.declared.line.Passed.{Passed}
 use Rattle.world_trace.specs.declared.mixed.Reach.{Reach}
@@ -38,7 +36,7 @@ use Rattle.world_trace.proofs.Telling.{failed_by, last_one, line_by, one_line, o
 -- ---- what a replay says of one event
 
 -- whichever fault ended it
-pub ended_mixed : {C : Type 0} (calls : Calls C) (old new : MixedState C) (e : MixedEvent) (f : ReplayFault)
+pub ended_mixed : {C : Type 0} (calls : Calls C) (old new : MixedState C) (e : Event) (f : ReplayFault)
     → (failed_by f ≡ Err fault.OutOfMemory → (lines : List Shown)
     × RunsOutBy (mixed_kind calls) old (mixed.Happen e ∷ []) new lines)
     → (failed_by f ≡ Err fault.CannotWrite → (lines : List Shown)
@@ -57,7 +55,7 @@ ended_mixed calls old new e fault.CannotWrite memory failed =
       refl,
       (
         may.outcome,
-        subst (λ (x : MixedWorldEvent). MixedEventGives calls old x may.outcome new) may.begins
+        subst (λ (x : MixedWorldEvent). EventGivesAmong calls old x may.outcome new) may.begins
             may.gives,
       ),
     )
@@ -65,16 +63,16 @@ ended_mixed calls old new e fault.CannotWrite memory failed =
 -- ---- its line
 
 pub tells_mixed : {C : Type 0} (calls : Calls C) (members : C → AllParts) (spot : Spot) (old new : MixedState C)
-    (e : MixedEvent) (p : Passed) (a b : Option (List ℕ))
+    (e : Event) (p : Passed) (a b : Option (List ℕ))
     → HasPassedMixed calls members old e new p → Appends a b (ended_line (passed_line spot 0 new.world p))
     → MixedEnds calls members spot old e (Ok tt) new a b
 tells_mixed calls members spot old new e p a b h written =
     let (lines, happens, says) = h.shows in
-    one_line (line_of spot 0 (mixed_text e) happens.gains.crossings (output Sizes lines)
+    one_line (line_of spot 0 (event_text (world.Happen e)) happens.gains.crossings (output Sizes lines)
     (change_of members old.world new.world))
     (TellsMixed calls members spot old e new) a b (lines, happens, refl)
     (subst (λ (line : List ℕ). Appends a b (ended_line line))
-    (line_by members spot 0 old.world new.world (mixed_text e) p.event.items p.printed.items p.changes.parts.items
+    (line_by members spot 0 old.world new.world (event_text (world.Happen e)) p.event.items p.printed.items p.changes.parts.items
     p.changes.programs.items p.changes.services.items p.crossed lines happens.gains h.event says h.crossed h.changes)
     written)
 
@@ -83,16 +81,16 @@ tells_mixed calls members spot old new e p a b h written =
 pub calm_ends : {C : Type 0} (calls : Calls C) (members : C → AllParts) (spot : Spot) (rounds : ℕ)
     (old new : MixedState C) (r : Result (Unit {0}) ReplayFault) (a b : Option (List ℕ))
     → EventEnds calls members spot old.world (world.Calm rounds) r new.world a b → new.strangers ≡ old.strangers
-    → MixedEventEnds calls members spot old (mixed.Calm rounds) r new a b
+    → EventEndsAmong calls members spot old (mixed.Calm rounds) r new a b
 calm_ends calls members spot rounds old new (Ok done) a b h same =
     record { shown = h.shown; is_shown = (h.is_shown, same); written = h.written }
 calm_ends calls members spot rounds old new (Err fault.OutOfMemory) a b h same =
     record { shown = h.shown; is_shown = (h.is_shown, same); written = h.written }
 calm_ends calls members spot rounds old new (Err fault.CannotWrite) a b (lines, h) same = (lines, (h, same))
 
-pub mixed_ends : {C : Type 0} (calls : Calls C) (members : C → AllParts) (spot : Spot) (e : MixedEvent)
+pub mixed_ends : {C : Type 0} (calls : Calls C) (members : C → AllParts) (spot : Spot) (e : Event)
     (old new : MixedState C) (r : Result (Unit {0}) ReplayFault) (a b : Option (List ℕ))
-    → MixedEnds calls members spot old e r new a b → MixedEventEnds calls members spot old (mixed.Happen e) r new a b
+    → MixedEnds calls members spot old e r new a b → EventEndsAmong calls members spot old (mixed.Happen e) r new a b
 mixed_ends calls members spot e old new (Ok done) a b h = h
 mixed_ends calls members spot e old new (Err fault.OutOfMemory) a b h = h
 mixed_ends calls members spot e old new (Err fault.CannotWrite) a b h = h
@@ -146,26 +144,23 @@ module _ {C : Type 0} (own : Calls C) where
       (λ s t. stepped e old r new not on t) g
 
   any_others : (e : Event) (old : MixedState C) (r : Result (Unit {0}) WorldFault) (new : MixedState C)
-      → is_of_network e ≡ false → stops r ≡ false → AnyGives (shown own) old e r new
+      → is_of_network e ≡ false → stops r ≡ false → AmongGives (shown own) old e r new
       → AtOthers own (at_one e) old.world new.world
   any_others (Take h) old r new not on g =
       on_either (strange_in old h)
       (λ s f. fetched (Some h) f.0.0 f.0.1 old.world r new.world on f.0.3)
       (λ s t. stepped (Take h) old r new not on t) g
-  any_others e old r new not on g = asked e old r new not on g
-
-  says_others : (m : HostMessage) (old : MixedState C) (r : Result (Unit {0}) WorldFault) (new : MixedState C)
-      → stops r ≡ false → SaysGives (shown own) old m r new → AtOthers own None old.world new.world
-  says_others m old r new on g =
+  any_others (Out m) old r new not on g =
       on_either (strange_in old m.flow.source)
       (λ s f. said None m f.0.0 f.0.1 old.world r new.world on f.0.3)
-      (λ s n. unmoved None _ old r new n) g
+      (λ s t. stepped (Out m) old r new not on t) g
+  any_others e old r new not on g = asked e old r new not on g
 
-  reaches : (e : MixedEvent) (o : Option Host) (old : MixedState C) (r : Result (Unit {0}) WorldFault)
+  reaches : (e : Event) (o : Option Host) (old : MixedState C) (r : Result (Unit {0}) WorldFault)
       (new : MixedState C)
-      → mixed_reach e ≡ reach.At o → stops r ≡ false → mixed_world.MixedEventGives (shown own) old e r new
+      → mixed_reach e ≡ reach.At o → stops r ≡ false → AmongGives (shown own) old e r new
       → AtOthers own o old.world new.world
-  reaches (Any e) o old r new at on g = by (is_of_network e) refl where
+  reaches e o old r new at on g = by (is_of_network e) refl where
     by : (b : Bool) → is_of_network e ≡ b → AtOthers own o old.world new.world
     by true is =
         absurd (let no : reach.All ≡ reach.At o =
@@ -175,12 +170,9 @@ module _ {C : Type 0} (own : Calls C) where
         sym (ap (λ (b : Bool). if b then reach.All else reach.At (at_one e)) is) ∙ at in
         let same : at_one e ≡ o = cc in
         subst (λ (x : Option Host). AtOthers own x old.world new.world) same (any_others e old r new is on g)
-  reaches (Out m) o old r new at on g =
-      let same : None ≡ o = cc in
-      subst (λ (x : Option Host). AtOthers own x old.world new.world) same (says_others m old r new on g)
 
   -- an event leaves what it doesn't reach
-  pub mixed_others : (e : MixedEvent) (o : Option Host) (old : MixedState C) (r : Result (Unit {0}) WorldFault)
+  pub mixed_others : (e : Event) (o : Option Host) (old : MixedState C) (r : Result (Unit {0}) WorldFault)
       (new : MixedState C)
       → mixed_reach e ≡ reach.At o → stops r ≡ false → MixedStepGives (shown own) old e r new
       → AtOthers own o old.world new.world

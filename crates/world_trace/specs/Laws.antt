@@ -15,7 +15,6 @@ use Rattle.net_sim.specs.World.{WorldState, opening_world}
 use Rattle.net_sim.specs.WorkedMixed.{beside_third}
 use Rattle.net_sim.specs.declared.event.Event.{Event}
 use Rattle.net_sim.specs.declared.event.WorldFault.{WorldFault}
-use Rattle.net_sim.specs.declared.mixed.MixedEvent.{MixedEvent}
 use Rattle.sockets.specs.Pairs.{NcpState, opening_state}
 use Rattle.sockets.specs.Worked.{first, second}
 use Rattle.terminal.specs.Machines.{opening_echo}
@@ -157,10 +156,10 @@ pub record WorkedAmong {C : Type 0} (calls : Calls C) : Type 0 where
       TellsMixedAt calls members spot old (mixed.Calm rounds) new lines → new.strangers ≡ old.strangers
   -- where memory ran out or a write failed the event has no line, and the world is as before it or as it went
   pub memory :
-      (old new : MixedState C) (e : MixedEvent) (lines : List (List ℕ)) → StopsMixed calls old e new lines →
+      (old new : MixedState C) (e : Event) (lines : List (List ℕ)) → StopsMixed calls old e new lines →
       (lines ≡ []) × ((new ≡ old) ⊎ ((r : Result (Unit {0}) WorldFault) × MixedStepGives calls old e r new))
   pub failed :
-      (old new : MixedState C) (e : MixedEvent) (lines : List (List ℕ)) → MayTellMixed calls old e new lines →
+      (old new : MixedState C) (e : Event) (lines : List (List ℕ)) → MayTellMixed calls old e new lines →
       (lines ≡ []) × ((r : Result (Unit {0}) WorldFault) × MixedStepGives calls old e r new)
   -- and no write fails for the line of no event
   pub nothing : (members : C → AllParts) (old new : MixedState C) → MixedTraceFails calls members old [] new → ⊥

@@ -1,10 +1,9 @@
 -- What the contracts of private functions say of worlds with strangers. No public clause cites this file.
-use Rattle.std.specs.Prelude.{◌≡◌, ℕ, ◌≤◌, true, false, if◌then◌else◌, List, [], ◌∷◌, ◌++◌, Option, None, Result, codes}
+use Rattle.std.specs.Prelude.{◌≡◌, ℕ, ◌≤◌, true, false, if◌then◌else◌, List, [], ◌∷◌, ◌++◌, Option, Result, codes}
 use Rattle.std.specs.Prelude.{length, map}
 use Rattle.interface.specs.Calls.{Calls}
 use Rattle.net_sim.specs.MixedWorlds.{MixedState}
-use Rattle.net_sim.specs.declared.mixed.MixedEvent.{MixedEvent}
-use Rattle.net_sim.specs.declared.mixed.MixedEvent.TheVariants.{Any, Out}
+use Rattle.net_sim.specs.declared.event.Event.{Event}
 use Rattle.replay.specs.declared.events.ReplayFault.{ReplayFault}
 use Rattle.replay.specs.declared.print.Detail.TheVariants.{Sizes}
 use Rattle.trace.specs.Changes.{members_of}
@@ -15,10 +14,11 @@ use Rattle.world_replay.specs.Kinds.{HappensBy, mixed_kind}
 use Rattle.world_replay.specs.Output.{Shown, output}
 use Rattle.world_script.specs.declared.event.MixedWorldEvent.{MixedWorldEvent}
 use Rattle.world_script.specs.declared.event.MixedWorldEvent.TheVariants as mixed
-use Rattle.world_trace.specs.MixedTraces.{MayTellMixed, MixedEndsAt, StopsMixed, TellsMixed, TellsMixedAt, mixed_text}
+use Rattle.world_trace.specs.MixedTraces.{MayTellMixed, MixedEndsAt, StopsMixed, TellsMixed, TellsMixedAt}
 use Rattle.world_trace.specs.MixedTraces.{stranger_text}
 use Rattle.world_trace.specs.Steps.{AreChanges, EndsAs, at_one, is_of_network}
-use Rattle.world_trace.specs.Texts.{seat_member, services_member}
+use Rattle.world_script.specs.declared.event.WorldEvent.TheVariants as world
+use Rattle.world_trace.specs.Texts.{event_text, seat_member, services_member}
 use Rattle.world_trace.specs.Traces.{MayTell, StopsOne}
 use Rattle.world_trace.specs.declared.line.Passed.{Passed}
 use Rattle.world_trace.specs.declared.mixed.Reach.{Reach}
@@ -46,19 +46,18 @@ mixed_end members s = object (members_of (members s.world.carrier)) ++ mixed_hos
 -- ---- an event that is no calm
 
 -- what it may change beside parts of the carrier
-abbrev pub mixed_reach : MixedEvent → Reach
-mixed_reach (Any e) = if is_of_network e then reach.All else reach.At (at_one e)
-mixed_reach (Out m) = reach.At None
+abbrev pub mixed_reach : Event → Reach
+mixed_reach e = if is_of_network e then reach.All else reach.At (at_one e)
 
 -- it happened, and a replay prints this text for it
-abbrev pub ShowsMixed : {C : Type 0} → Calls C → MixedState C → MixedEvent → MixedState C → List ℕ → Type 0
+abbrev pub ShowsMixed : {C : Type 0} → Calls C → MixedState C → Event → MixedState C → List ℕ → Type 0
 ShowsMixed calls old e new text = (lines : List Shown) × HappensBy (mixed_kind calls) old (mixed.Happen e) new lines
     × (text ≡ output Sizes lines)
 
 -- and these are the texts of its line, with this many crossings in the book before it
-pub record HasPassedMixed {C : Type 0} (calls : Calls C) (members : C → AllParts) (old : MixedState C) (e : MixedEvent)
+pub record HasPassedMixed {C : Type 0} (calls : Calls C) (members : C → AllParts) (old : MixedState C) (e : Event)
     (new : MixedState C) (p : Passed) : Type 0 where
-  pub event : p.event.items ≡ mixed_text e
+  pub event : p.event.items ≡ event_text (world.Happen e)
   pub shows : ShowsMixed calls old e new p.printed.items
   pub crossed : p.crossed ≡ length old.world.kept.book.crossings
   pub few : p.crossed ≤ length new.world.kept.book.crossings
@@ -67,14 +66,14 @@ pub record HasPassedMixed {C : Type 0} (calls : Calls C) (members : C → AllPar
 
 -- ---- endings
 
-abbrev pub MixedEnds : {C : Type 0} → Calls C → (C → AllParts) → Spot → MixedState C → MixedEvent
+abbrev pub MixedEnds : {C : Type 0} → Calls C → (C → AllParts) → Spot → MixedState C → Event
     → Result (Unit {0}) ReplayFault → MixedState C → Option (List ℕ) → Option (List ℕ) → Type 0
 MixedEnds calls members spot old e r new before after = EndsAs (TellsMixed calls members spot) (StopsMixed calls)
     (MayTellMixed calls) old e r new before after
 
 -- any event
-abbrev pub MixedEventEnds : {C : Type 0} → Calls C → (C → AllParts) → Spot → MixedState C → MixedWorldEvent
+abbrev pub EventEndsAmong : {C : Type 0} → Calls C → (C → AllParts) → Spot → MixedState C → MixedWorldEvent
     → Result (Unit {0}) ReplayFault → MixedState C → Option (List ℕ) → Option (List ℕ) → Type 0
-MixedEventEnds calls members spot old e r new before after =
+EventEndsAmong calls members spot old e r new before after =
     EndsAs (TellsMixedAt calls members spot) (MixedEndsAt calls members (StopsOne calls) (StopsMixed calls) spot)
     (MixedEndsAt calls members (MayTell calls) (MayTellMixed calls) spot) old e r new before after

@@ -8,8 +8,6 @@ use Rattle.net_sim.specs.MixedWorlds.{MixedState, MixedStepGives}
 use Rattle.net_sim.specs.World.{WorldState}
 use Rattle.net_sim.specs.declared.event.Event.{Event}
 use Rattle.net_sim.specs.declared.event.WorldFault.{WorldFault}
-use Rattle.net_sim.specs.declared.mixed.MixedEvent.{MixedEvent}
-use Rattle.net_sim.specs.declared.mixed.MixedEvent.TheVariants.{Any, Out}
 use Rattle.replay.specs.InTurn.{EndsInTurn, Happening, InTurn}
 use Rattle.replay.specs.declared.print.Detail.TheVariants.{Sizes}
 use Rattle.topology.specs.Topology.{TopologyFields}
@@ -19,7 +17,6 @@ use Rattle.trace.specs.declared.all_parts.AllParts.{AllParts}
 use Rattle.trace.specs.declared.element.Spot.{Spot}
 use Rattle.world_replay.specs.Kinds.{HappensBy, mixed_kind}
 use Rattle.world_replay.specs.Output.{Shown, output}
-use Rattle.world_script.specs.Mixed.{mixed_spelling}
 use Rattle.world_script.specs.declared.event.MixedWorldEvent.{MixedWorldEvent}
 use Rattle.world_script.specs.declared.event.MixedWorldEvent.TheVariants as mixed
 use Rattle.world_script.specs.declared.event.WorldEvent.TheVariants as world
@@ -27,11 +24,6 @@ use Rattle.world_trace.specs.Texts.{event_text, line_of, opening_text}
 use Rattle.world_trace.specs.Traces.{EndsAt, MayTell, StopsOne, TellsAt, change_of, state_of}
 
 -- ---- texts
-
--- an event that is no calm, as a line of a script within a string
-abbrev pub mixed_text : MixedEvent → List ℕ
-mixed_text (Any e) = event_text (world.Happen e)
-mixed_text (Out m) = mixed_spelling (mixed.Happen (Out m))
 
 -- the strangers, as a member of the first line
 abbrev pub stranger_text : Host → List ℕ
@@ -47,19 +39,19 @@ mixed_opening members t s = opening_text t (state_of members s.world ++ foreign_
 -- ---- events
 
 -- an event that is no calm happens as in a replay and has one line, with what of the state is other than before
-abbrev pub TellsMixed : {C : Type 0} → Calls C → (C → AllParts) → Spot → Happening (MixedState C) MixedEvent (List ℕ)
+abbrev pub TellsMixed : {C : Type 0} → Calls C → (C → AllParts) → Spot → Happening (MixedState C) Event (List ℕ)
 TellsMixed calls members spot old e new lines =
     (shown : List Shown) × (h : HappensBy (mixed_kind calls) old (mixed.Happen e) new shown)
-    × (lines ≡ line_of spot 0 (mixed_text e) h.gains.crossings (output Sizes shown)
+    × (lines ≡ line_of spot 0 (event_text (world.Happen e)) h.gains.crossings (output Sizes shown)
     (change_of members old.world new.world) ∷ [])
 
 -- it is processed, whatever comes of it, and has no line
-abbrev pub MayTellMixed : {C : Type 0} → Calls C → Happening (MixedState C) MixedEvent (List ℕ)
+abbrev pub MayTellMixed : {C : Type 0} → Calls C → Happening (MixedState C) Event (List ℕ)
 MayTellMixed calls old e new lines =
     (lines ≡ []) × ((outcome : Result (Unit {0}) WorldFault) × MixedStepGives calls old e outcome new)
 
 -- memory ran out before it happened, in it, or for its line
-abbrev pub StopsMixed : {C : Type 0} → Calls C → Happening (MixedState C) MixedEvent (List ℕ)
+abbrev pub StopsMixed : {C : Type 0} → Calls C → Happening (MixedState C) Event (List ℕ)
 StopsMixed calls old e new lines = ((lines ≡ []) × (new ≡ old)) ⊎ MayTellMixed calls old e new lines
 
 -- a calm is that of the hosts with programs: strangers have no turn, and stay strangers
@@ -71,7 +63,7 @@ TellsMixedAt calls members spot old (mixed.Calm rounds) new lines =
 
 -- the events of a calm before one had their lines, and that one went as is said. So did an event that is no calm
 abbrev pub MixedEndsAt : {C : Type 0} → Calls C → (C → AllParts) → Happening (WorldState C) Event (List ℕ)
-    → Happening (MixedState C) MixedEvent (List ℕ) → Spot → Happening (MixedState C) MixedWorldEvent (List ℕ)
+    → Happening (MixedState C) Event (List ℕ) → Spot → Happening (MixedState C) MixedWorldEvent (List ℕ)
 MixedEndsAt calls members Goes GoesMixed spot old (mixed.Happen e) new lines = GoesMixed old e new lines
 MixedEndsAt calls members Goes GoesMixed spot old (mixed.Calm rounds) new lines =
     EndsAt calls members Goes spot old.world (world.Calm rounds) new.world lines × (new.strangers ≡ old.strangers)
@@ -97,7 +89,7 @@ abbrev pub TracesMixed : {C : Type 0} → Calls C → (C → AllParts) → Mixed
 TracesMixed calls members old events new lines = AllTell (TellsMixedAt calls members) old events new lines
 
 abbrev pub MixedTraceEnds : {C : Type 0} → Calls C → (C → AllParts) → Happening (WorldState C) Event (List ℕ)
-    → Happening (MixedState C) MixedEvent (List ℕ) → MixedState C → List (ℕ × MixedWorldEvent) → MixedState C
+    → Happening (MixedState C) Event (List ℕ) → MixedState C → List (ℕ × MixedWorldEvent) → MixedState C
     → List (List ℕ) → Type 0
 MixedTraceEnds calls members Goes GoesMixed old events new lines =
     AllEnd (TellsMixedAt calls members) (MixedEndsAt calls members Goes GoesMixed) old events new lines

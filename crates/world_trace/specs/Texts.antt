@@ -195,6 +195,7 @@ event_text (world.Happen (event.Take h)) = world_spelling (world.Happen (event.T
 event_text (world.Happen (event.Ask h r)) = world_spelling (world.Happen (event.Ask h r))
 event_text (world.Happen (event.Server h listen base)) = world_spelling (world.Happen (event.Server h listen base))
 event_text (world.Happen (event.User h peer listen own)) = world_spelling (world.Happen (event.User h peer listen own))
+event_text (world.Happen (event.Out m)) = world_spelling (world.Happen (event.Out m))
 event_text (world.Calm rounds) = world_spelling (world.Calm rounds)
 
 -- three objects: of parts of the carrier, of programs, and of services

@@ -8,7 +8,7 @@ use Rattle.interface.specs.declared.crossing.Crossing.{Crossing}
 use Rattle.interface.specs.declared.message.HostMessage.{HostMessage}
 use Rattle.net_sim.specs.MixedWorlds.{MixedState}
 use Rattle.net_sim.specs.WorkedMixed.{beside_third}
-use Rattle.net_sim.specs.declared.mixed.MixedEvent.{MixedEvent}
+use Rattle.net_sim.specs.declared.event.Event.{Event}
 use Rattle.net_sim.specs.declared.seat.Seat.{Seat}
 use Rattle.net_sim.specs.declared.seat.ServiceSeat.{ServiceSeat}
 use Rattle.replay.specs.InTurn.{Happening}
@@ -19,7 +19,7 @@ use Rattle.terminal.specs.Machines.{opening_echo}
 use Rattle.trace.specs.declared.all_parts.AllParts.{AllParts}
 use Rattle.trace.specs.declared.element.Spot.{Spot}
 use Rattle.world_replay.specs.Worked.{went}
-use Rattle.world_trace.specs.MixedTraces.{TellsMixed, mixed_text}
+use Rattle.world_trace.specs.MixedTraces.{TellsMixed}
 use Rattle.world_trace.specs.Texts.{line_of}
 use Rattle.world_trace.specs.Traces.{change_of}
 
@@ -59,11 +59,11 @@ abbrev pub short_message : HostMessage
 short_message = record { flow = record { source = third; destination = first; link = record { 0 = 5 } }; text = true ∷ [] }
 
 -- an event beside the third host has one line: these messages cross, and this is printed
-abbrev pub TracesOnly : Calls Seen → MixedEvent → List Crossing → List ℕ → Type 0
+abbrev pub TracesOnly : Calls Seen → Event → List Crossing → List ℕ → Type 0
 TracesOnly calls e crossings printed =
     (members : Seen → AllParts) (spot : Spot) (new : MixedState Seen) (lines : List (List ℕ))
     → TellsMixed calls members spot beside_third e new lines
-    → lines ≡ line_of spot 0 (mixed_text e) crossings printed (change_of members beside_third.world new.world) ∷ []
+    → lines ≡ line_of spot 0 (event_text (world.Happen e)) crossings printed (change_of members beside_third.world new.world) ∷ []
 
 -- an event shows where it is, whatever it is
 abbrev pub PrintsSpot : Spot → Happening ℕ ℕ (List ℕ)

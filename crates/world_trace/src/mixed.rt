@@ -7,19 +7,19 @@ ghost use Rattle.replay.specs.Failing.{TellsCannotWrite, TellsFailure};
 ghost use Rattle.replay.specs.declared.events.ReplayFault.TheVariants as fault;
 ghost use Rattle.script.specs.Input.{ended_line};
 ghost use Rattle.world_replay.specs.Kinds.{mixed_rounds};
-ghost use Rattle.world_trace.specs.MixedSteps.{HasPassedMixed, MixedEnds, MixedEventEnds, ShowsMixed, mixed_end, mixed_hosts, mixed_reach};
-ghost use Rattle.world_trace.specs.MixedTraces.{MixedTraceFails, StopsMixed, WritesMixed, WritesMixedPart, mixed_opening, mixed_text};
+ghost use Rattle.world_trace.specs.MixedSteps.{HasPassedMixed, MixedEnds, EventEndsAmong, ShowsMixed, mixed_end, mixed_hosts, mixed_reach};
+ghost use Rattle.world_trace.specs.MixedTraces.{MixedTraceFails, StopsMixed, WritesMixed, WritesMixedPart, mixed_opening};
 ghost use Rattle.world_trace.specs.Seen.{CalmHandsOn, MixedIsSeen};
 ghost use Rattle.world_trace.specs.Steps.{AreTextsOf};
 
 use crate::calm::trace_calm;
 use crate::line::{Passed, print_line};
-use crate::spelling::{spelled, spelled_out};
+use crate::spelling::spelled;
 use crate::texts::{Texts, change_all, change_one, known_texts};
 use crate::traced::{host_at, is_of_network, trace_all};
 use crate::values::{Array, Object};
 use interface::HostAddr;
-use net_sim::{MixedEvent, MixedWorld};
+use net_sim::{Event, MixedWorld};
 use replay::{Detail, Output, Printer, ReplayFault, WriteFailed};
 use std::alloc::{AllocError, Global};
 use topology::Topology;
@@ -118,7 +118,7 @@ pub(crate) fn trace_mixed_event<C: Inspect, W: Output>(
 ) -> Result<(), ReplayFault>
     requires whole { W.failed writer.old ≡ false }
     requires known { IfSome known.old (AreTextsOf C.inside.members world.old.world) }
-    ensures ends { MixedEventEnds (shown C.calls) C.inside.members spot world.old event result world.new (W.contents writer.old) (W.contents writer.new) }
+    ensures ends { EventEndsAmong (shown C.calls) C.inside.members spot world.old event result world.new (W.contents writer.old) (W.contents writer.new) }
     ensures seen { OnOk result (CalmHandsOn (shown C.calls) C.inside.members W.contents W.flushed spot (mixed_rounds event) (world.old.world, writer.old) (world.new.world, writer.new)) }
     ensures known { OnOk result (IfSome known.new (AreTextsOf C.inside.members world.new.world)) }
     ensures failed { TellsCannotWrite result (W.failed writer.new) }
@@ -138,7 +138,7 @@ fn trace_mixed<C: Inspect, W: Output>(
     alloc: Global,
     world: &mut MixedWorld<C>,
     spot: Spot,
-    event: MixedEvent,
+    event: Event,
     known: &mut Option<Texts>,
     notes: &mut C::Notes,
     writer: &mut W,
@@ -166,23 +166,13 @@ pub(crate) enum Reach {
 }
 
 /// Returns what an event may change. A message of a stranger changes parts of the carrier only.
-fn reach_of(event: &MixedEvent) -> Reach
+fn reach_of(event: &Event) -> Reach
     ensures { result ≡ mixed_reach event.now }
 {
-    match event {
-        MixedEvent::Any(event) if is_of_network(event) => Reach::All,
-        MixedEvent::Any(event) => Reach::At(host_at(event)),
-        MixedEvent::Out(_) => Reach::At(None),
-    }
-}
-
-/// Returns an event as a line of a script, within a string.
-fn spelled_mixed(alloc: Global, event: &MixedEvent) -> Result<Vec<u8>, AllocError>
-    ensures { IfOk result (λ text. text.items ≡ mixed_text event.now) }
-{
-    match event {
-        MixedEvent::Any(event) => spelled(alloc, event),
-        MixedEvent::Out(message) => spelled_out(alloc, message),
+    if is_of_network(event) {
+        Reach::All
+    } else {
+        Reach::At(host_at(event))
     }
 }
 
@@ -190,7 +180,7 @@ fn spelled_mixed(alloc: Global, event: &MixedEvent) -> Result<Vec<u8>, AllocErro
 fn pass<C: Inspect>(
     alloc: Global,
     world: &mut MixedWorld<C>,
-    event: MixedEvent,
+    event: Event,
     texts: &mut Texts,
     notes: &mut C::Notes,
 ) -> Result<Passed, AllocError>
@@ -199,7 +189,7 @@ fn pass<C: Inspect>(
     ensures texts { OnOk result (AreTextsOf C.inside.members world.new.world texts.new) }
     ensures memory { IfErr result (λ _. StopsMixed (shown C.calls) world.old event world.new []) }
 {
-    let text = spelled_mixed(alloc, &event)?;
+    let text = spelled(alloc, &event)?;
     let crossed = world.book().crossings().len();
     let reach = reach_of(&event);
     let printed = happen(alloc, world, event)?;
@@ -219,7 +209,7 @@ fn pass<C: Inspect>(
 fn happen<C: Inspect>(
     alloc: Global,
     world: &mut MixedWorld<C>,
-    event: MixedEvent,
+    event: Event,
 ) -> Result<Vec<u8>, AllocError>
     ensures shown { IfOk result (λ text. ShowsMixed (shown C.calls) world.old event world.new text.items) }
     ensures memory { IfErr result (λ _. StopsMixed (shown C.calls) world.old event world.new []) }

@@ -132,6 +132,18 @@ fn print_typed<W: Output>(host: &HostAddr, text: &[u8], writer: &mut W) -> Resul
     print_escaped(text, writer)
 }
 
+/// Prints a message that a stranger sends.
+fn print_out<W: Output>(message: &HostMessage, writer: &mut W) -> Result<(), WriteFailed>
+    requires { W.failed writer.old ≡ false }
+    ensures written { OnOk result (Appends (W.contents writer.old) (W.contents writer.new) (codes "out " ++ message_text message.now)) }
+    ensures failed { TellsFailure result (W.failed writer.new) }
+{
+    let flow = &message.flow;
+    let bits = message.text.bits().len();
+    write!(writer, "out {flow} {bits} ")?;
+    print_text(&message.text, writer)
+}
+
 /// Prints something that may happen in a world. A quiet round is an event of a calm, for which no script asks by
 /// itself.
 fn print_happening<W: Output>(event: &Event, writer: &mut W) -> Result<(), WriteFailed>
@@ -153,6 +165,7 @@ fn print_happening<W: Output>(event: &Event, writer: &mut W) -> Result<(), Write
             own,
         } => write!(writer, "user {host} {peer} {listen} {own}"),
         Event::Typed { host, line } => print_typed(host, line.text(), writer),
+        Event::Out(message) => print_out(message, writer),
     }
 }
 
@@ -162,29 +175,6 @@ pub(crate) fn spelled(alloc: Global, event: &Event) -> Result<Vec<u8>, AllocErro
 {
     let mut printer = Printer::new(Vec::new(alloc));
     match print_happening(event, &mut printer) {
-        Ok(()) => Ok(printer.into_inner()),
-        Err(_) => Err(AllocError),
-    }
-}
-
-/// Prints a message that a stranger sends.
-fn print_out<W: Output>(message: &HostMessage, writer: &mut W) -> Result<(), WriteFailed>
-    requires { W.failed writer.old ≡ false }
-    ensures written { OnOk result (Appends (W.contents writer.old) (W.contents writer.new) (codes "out " ++ message_text message.now)) }
-    ensures failed { TellsFailure result (W.failed writer.new) }
-{
-    let flow = &message.flow;
-    let bits = message.text.bits().len();
-    write!(writer, "out {flow} {bits} ")?;
-    print_text(&message.text, writer)
-}
-
-/// Returns a stranger's message as a line of a script, within a string.
-pub(crate) fn spelled_out(alloc: Global, message: &HostMessage) -> Result<Vec<u8>, AllocError>
-    ensures { IfOk result (λ text. text.items ≡ codes "out " ++ message_text message.now) }
-{
-    let mut printer = Printer::new(Vec::new(alloc));
-    match print_out(message, &mut printer) {
         Ok(()) => Ok(printer.into_inner()),
         Err(_) => Err(AllocError),
     }

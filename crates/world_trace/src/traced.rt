@@ -150,7 +150,7 @@ pub(crate) fn host_at(event: &Event) -> Option<HostAddr>
     ensures { result ≡ at_one event.now }
 {
     match event {
-        Event::Net(_) | Event::Quiet => None,
+        Event::Net(_) | Event::Quiet | Event::Out(_) => None,
         Event::Offer(host) | Event::Take(host) | Event::Ask(host, _) => Some(*host),
         Event::Server { host, .. } | Event::User { host, .. } | Event::Typed { host, .. } => {
             Some(*host)

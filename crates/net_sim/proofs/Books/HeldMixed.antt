@@ -6,7 +6,7 @@ use Rattle.std.specs.List.{filter}
 use Rattle.interface.specs.Mailboxes.{IsRun}
 use Rattle.interface.specs.declared.carrier.CarrierFault.TheVariants as fault
 use Rattle.net_sim.specs.Inside.Mixed.{IsHeldAmong}
-use Rattle.net_sim.specs.MixedWorlds.{IsLawfulAmong, MixedCalmGives, MixedEventGives, MixedState, MixedStepGives, RefusesMixed, opening_mixed, strange_in}
+use Rattle.net_sim.specs.MixedWorlds.{IsLawfulAmong, MixedCalmGives, AmongGives, MixedState, MixedStepGives, RefusesMixed, opening_mixed, strange_in}
 use Rattle.net_sim.proofs.Books.Held.{have_addresses, still_running}
 use Rattle.net_sim.proofs.Books.Mixed as mixed
 use Rattle.net_sim.proofs.Books.Whole.{some_hosts}
@@ -61,13 +61,13 @@ abbrev pub mixed_ended : {C : Type 0} → C → List Seat → List ServiceSeat �
 mixed_ended c seats services k strangers r = record { world = record { carrier = c; seats = seats; services = services; kept = k; stopped = runs_out r }; strangers = strangers }
 
 event_steps : {C : Type 0} (calls : Calls C) (e : Event) (old : MixedState C) (r : Result (Unit {0}) WorldFault) (new : MixedState C) → old.world.stopped ≡ false
-    → MixedEventGives calls (on_now old) e r new → MixedStepGives calls old e r new
+    → AmongGives calls (on_now old) e r new → MixedStepGives calls old e r new
 event_steps {C} calls e old r new run gives =
-    let mine : MixedEventGives calls old e r new = subst (λ (w : WorldState C). MixedEventGives calls (record { world = w; strangers = old.strangers }) e r new) (still_running old.world run) gives in
-    subst (λ (b : Bool). MatchBool b (RefusesMixed (Carrier fault.Stopped) old r new) (MixedEventGives calls old e r new)) (sym run) mine
+    let mine : AmongGives calls old e r new = subst (λ (w : WorldState C). AmongGives calls (record { world = w; strangers = old.strangers }) e r new) (still_running old.world run) gives in
+    subst (λ (b : Bool). MatchBool b (RefusesMixed (Carrier fault.Stopped) old r new) (AmongGives calls old e r new)) (sym run) mine
 
 pub followed_mixed : {C : Type 0} (own : Calls C) (e : Event) (old : MixedState C) (c : C) (seats : List Seat) (services : List ServiceSeat) (k : Kept) (r : Result (Unit {0}) WorldFault) → IsHeldAmong own.seen old
-    → IsNamed e → old.world.stopped ≡ false → MixedEventGives (shown own) (on_now old) e r (mixed_ended c seats services k old.strangers r) → IsRun (own.seen c).hosts (own.seen c).log
+    → IsNamed e → old.world.stopped ≡ false → AmongGives (shown own) (on_now old) e r (mixed_ended c seats services k old.strangers r) → IsRun (own.seen c).hosts (own.seen c).log
     → IsHeldAmong own.seen (mixed_ended c seats services k old.strangers r)
 followed_mixed {C} own e old c seats services k r held named run gives is =
     let new : MixedState C = mixed_ended c seats services k old.strangers r in

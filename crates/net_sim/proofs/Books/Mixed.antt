@@ -4,7 +4,7 @@ use Rattle.std.proofs.Common.{Result}
 use Rattle.interface.specs.Mailboxes.{IsRun}
 use Rattle.interface.specs.declared.carrier.CarrierFault.TheVariants as fault
 use Rattle.net_sim.specs.Carriers.{IsBooked}
-use Rattle.net_sim.specs.MixedWorlds.{FetchGives, IsLawfulAmong, IsWholeAmong, MixedEventGives, MixedCalmGives, MixedRunGives, MixedRuns, MixedState, MixedStepGives, NoProgram, OfWorld, OutGives, RefusesMixed, asked_at, is_strange, opening_among, strange_in}
+use Rattle.net_sim.specs.MixedWorlds.{FetchGives, IsLawfulAmong, IsWholeAmong, AmongGives, MixedCalmGives, MixedRunGives, MixedRuns, MixedState, MixedStepGives, NoProgram, OfWorld, OutGives, RefusesMixed, asked_at, is_strange, opening_among, strange_in}
 use Rattle.net_sim.specs.Reports.{AreReported}
 use Rattle.net_sim.specs.World.{Event, Out, Take, stops}
 use Rattle.net_sim.proofs.Books.Booked.{among_booked, calm_books, fetch_books, out_books, step_books}
@@ -77,19 +77,19 @@ module _ {C : Type 0} (own : Calls C) (hosts : List Host) where
       (λ on no. refused NoProgram old r new k no)
       (λ off does. of_world (StepGives (shown own) old.world e) old r new (λ answer g. step_keeps (strange_in old) e old.world answer new.world named k g) does) h
 
-  take_keeps : (h : Host) (old : MixedState C) (r : Answer) (new : MixedState C) → old.world.stopped ≡ false → Kept old → MixedEventGives (shown own) old (Take h) r new → Kept new
+  take_keeps : (h : Host) (old : MixedState C) (r : Answer) (new : MixedState C) → old.world.stopped ≡ false → Kept old → AmongGives (shown own) old (Take h) r new → Kept new
   take_keeps h old r new running k gives =
       either (OfWorld (FetchGives (shown own) h old.world) old r new) (OfWorld (StepGives (shown own) old.world (Take h)) old r new) (Kept new) (strange_in old h)
       (λ on does. of_world (FetchGives (shown own) h old.world) old r new (λ answer g. fetch_keeps (strange_in old) h old.world answer new.world running on k g) does)
       (λ off does. of_world (StepGives (shown own) old.world (Take h)) old r new (λ answer g. step_keeps (strange_in old) (Take h) old.world answer new.world tt k g) does) gives
 
-  says_keeps : (m : HostMessage) (old : MixedState C) (r : Answer) (new : MixedState C) → old.world.stopped ≡ false → Kept old → MixedEventGives (shown own) old (Out m) r new → Kept new
+  says_keeps : (m : HostMessage) (old : MixedState C) (r : Answer) (new : MixedState C) → old.world.stopped ≡ false → Kept old → AmongGives (shown own) old (Out m) r new → Kept new
   says_keeps m old r new running k gives =
       either (OfWorld (OutGives (shown own) m old.world) old r new) (OfWorld (StepGives (shown own) old.world (Out m)) old r new) (Kept new) (strange_in old m.flow.source)
       (λ on does. of_world (OutGives (shown own) m old.world) old r new (λ answer g. out_keeps (strange_in old) m old.world answer new.world running on k g) does)
       (λ off does. of_world (StepGives (shown own) old.world (Out m)) old r new (λ answer g. step_keeps (strange_in old) (Out m) old.world answer new.world tt k g) does) gives
 
-  event_keeps : (e : Event) (old : MixedState C) (r : Answer) (new : MixedState C) → old.world.stopped ≡ false → IsNamed e → Kept old → MixedEventGives (shown own) old e r new → Kept new
+  event_keeps : (e : Event) (old : MixedState C) (r : Answer) (new : MixedState C) → old.world.stopped ≡ false → IsNamed e → Kept old → AmongGives (shown own) old e r new → Kept new
   event_keeps (Out m) old r new running named k h = says_keeps m old r new running k h
   event_keeps (Take g) old r new running named k h = take_keeps g old r new running k h
   event_keeps (Net e) old r new running named k h = asked_keeps (Net e) old r new named k h
@@ -102,7 +102,7 @@ module _ {C : Type 0} (own : Calls C) (hosts : List Host) where
 
   pub mixed_keeps : (e : Event) (old : MixedState C) (r : Answer) (new : MixedState C) → IsNamed e → Kept old → MixedStepGives (shown own) old e r new → Kept new
   mixed_keeps e old r new named k h =
-      either (RefusesMixed (Carrier fault.Stopped) old r new) (MixedEventGives (shown own) old e r new) (Kept new) old.world.stopped
+      either (RefusesMixed (Carrier fault.Stopped) old r new) (AmongGives (shown own) old e r new) (Kept new) old.world.stopped
       (λ on no. refused (Carrier fault.Stopped) old r new k no)
       (λ running does. event_keeps e old r new running named k does) h
 

@@ -3,7 +3,7 @@ use Rattle.net_sim.proofs.Common.{◌≡◌, Bool, true, false, List, refl, Matc
 use Rattle.std.proofs.Common.{Result}
 use Rattle.net_sim.specs.Inside.Mixed.{mixed_after, mixed_of}
 use Rattle.net_sim.specs.Inside.Parts.{HostsState, world_after, world_of}
-use Rattle.net_sim.specs.MixedWorlds.{AskedGives, FetchGives, MixedEventGives, MixedState, NoProgram, OfWorld, OutGives, RefusesMixed, asked_at, is_strange}
+use Rattle.net_sim.specs.MixedWorlds.{AskedGives, FetchGives, AmongGives, MixedState, NoProgram, OfWorld, OutGives, RefusesMixed, asked_at, is_strange}
 use Rattle.net_sim.specs.World.{Event, Out, Take, unsaid}
 
 abbrev Answer : Type 0
@@ -27,11 +27,11 @@ module _ {C : Type 0} (calls : Calls C) (xs : List Host) (c0 c1 : C) (h0 h1 : Ho
   of_world : (Gives : Answer → WorldState C → Type 0) → Gives r (world_after c1 h1 r) → OfWorld Gives old r new
   of_world Gives g = (g, refl)
 
-  pub take_strange : (h : Host) → is_host xs h ≡ true → FetchGives calls h (world_of c0 h0) r (world_after c1 h1 r) → MixedEventGives calls old (Take h) r new
+  pub take_strange : (h : Host) → is_host xs h ≡ true → FetchGives calls h (world_of c0 h0) r (world_after c1 h1 r) → AmongGives calls old (Take h) r new
   take_strange h is_one g =
       on (OfWorld (FetchGives calls h (world_of c0 h0)) old r new) (OfWorld (StepGives calls (world_of c0 h0) (Take h)) old r new) (is_host xs h) is_one (of_world (FetchGives calls h (world_of c0 h0)) g)
 
-  pub take_plain : (h : Host) → is_host xs h ≡ false → StepGives calls (world_of c0 h0) (Take h) r (world_after c1 h1 r) → MixedEventGives calls old (Take h) r new
+  pub take_plain : (h : Host) → is_host xs h ≡ false → StepGives calls (world_of c0 h0) (Take h) r (world_after c1 h1 r) → AmongGives calls old (Take h) r new
   take_plain h is_none g =
       off (OfWorld (FetchGives calls h (world_of c0 h0)) old r new) (OfWorld (StepGives calls (world_of c0 h0) (Take h)) old r new) (is_host xs h) is_none (of_world (StepGives calls (world_of c0 h0) (Take h)) g)
 
@@ -39,10 +39,16 @@ module _ {C : Type 0} (calls : Calls C) (xs : List Host) (c0 c1 : C) (h0 h1 : Ho
   ask_plain e is_none g =
       off (RefusesMixed NoProgram old r new) (OfWorld (StepGives calls (world_of c0 h0) e) old r new) (is_strange (λ h. is_host xs h) (asked_at e)) is_none (of_world (StepGives calls (world_of c0 h0) e) g)
 
-  pub says_strange : (m : HostMessage) → is_host xs m.flow.source ≡ true → OutGives calls m (world_of c0 h0) r (world_after c1 h1 r) → MixedEventGives calls old (Out m) r new
+  -- all else
+  pub asks : (e : Event) → ((m : HostMessage) → e ≡ Out m → ⊥) → ((h : Host) → e ≡ Take h → ⊥) → AskedGives calls old e r new → AmongGives calls old e r new
+  asks (Out m) no_out no_take g = absurd (no_out m refl)
+  asks (Take h) no_out no_take g = absurd (no_take h refl)
+  asks e no_out no_take g = g
+
+  pub says_strange : (m : HostMessage) → is_host xs m.flow.source ≡ true → OutGives calls m (world_of c0 h0) r (world_after c1 h1 r) → AmongGives calls old (Out m) r new
   says_strange m is_one g =
       on (OfWorld (OutGives calls m (world_of c0 h0)) old r new) (OfWorld (StepGives calls (world_of c0 h0) (Out m)) old r new) (is_host xs m.flow.source) is_one (of_world (OutGives calls m (world_of c0 h0)) g)
 
-  pub says_plain : (m : HostMessage) → is_host xs m.flow.source ≡ false → Refuses (unsaid m h0.seats) (world_of c0 h0) r (world_after c1 h1 r) → MixedEventGives calls old (Out m) r new
+  pub says_plain : (m : HostMessage) → is_host xs m.flow.source ≡ false → Refuses (unsaid m h0.seats) (world_of c0 h0) r (world_after c1 h1 r) → AmongGives calls old (Out m) r new
   says_plain m is_none g =
       off (OfWorld (OutGives calls m (world_of c0 h0)) old r new) (OfWorld (StepGives calls (world_of c0 h0) (Out m)) old r new) (is_host xs m.flow.source) is_none (of_world (StepGives calls (world_of c0 h0) (Out m)) g)

@@ -1,6 +1,6 @@
 -- What `--trace` writes among strangers, and of an input of either kind.
 use Rattle.simulator.proofs.Common.{◌≡◌, ◌⊎◌, inl, inr, ℕ, List, Option, Result, OnOk, ap, subst, sym, ◌∙◌, Calls, Keeps, text_of, asking_from, parted_once, CarrierKind, IsScriptOf, IsScripted, ScriptFault, TopologyFields, TracesOn, on_ok, length, MixedState, opening_mixed, MixedFields, event_lines, AllParts, MixedWorldEvent, Asked, IsMixedScripted, MixedTraceEndsFrom, MixedTraceEndsOn, MixedTraceEndsOver, MixedTraceStops, MixedTracesFrom, MixedTracesInput, MixedTracesOn, MixedTracesOver, TraceStopsEither, TracedEither, TracesEither, EndsOn, stays}
-use Rattle.world_script.specs.Mixed.{IsMixedEvent, mixed_spelling}
+use Rattle.world_script.specs.Mixed.{IsEventAmong, mixed_spelling}
 use Rattle.world_trace.specs.MixedTraces.{WritesMixed, WritesMixedPart}
 use Rattle.command_line.specs.Mixed.{IsMixedInput}
 use Rattle.simulator.specs.MixedTraced.{TracedEitherInPart}
@@ -33,7 +33,7 @@ pub mixed_fit : (octets script : List ℕ) (network : MixedFields) (events : Lis
     → IsMixedInput octets network events → IsScriptOf octets script → length (event_lines script) ≡ length events
 mixed_fit octets script network events input parted =
     let same = parted_once octets parted.document script input.document input.script parted.parted input.parted in
-    ap (λ ls. length (asking_from 1 ls)) same.scripts ∙ as_many mixed_spelling IsMixedEvent events _ input.asked
+    ap (λ ls. length (asking_from 1 ls)) same.scripts ∙ as_many mixed_spelling IsEventAmong events _ input.asked
 
 pub mixed_traced : (octets lines : List ℕ) (network : MixedFields) (events : List MixedWorldEvent)
     (r : Result (Unit {0}) ScriptFault) (a b : Option (List ℕ)) → IsMixedScripted octets network lines events

@@ -5,7 +5,7 @@ use Rattle.std.specs.Fmt.{digits}
 use Rattle.interface.specs.Calls.{Seen}
 use Rattle.net_sim.specs.MixedWorlds.{MixedState, MixedStepGives}
 use Rattle.net_sim.specs.WorkedMixed.{beside_third}
-use Rattle.net_sim.specs.declared.mixed.MixedEvent.{MixedEvent}
+use Rattle.net_sim.specs.declared.event.Event.{Event}
 use Rattle.net_sim.specs.declared.event.WorldFault.{WorldFault}
 use Rattle.topology.specs.Topology.{TopologyFields}
 use Rattle.world_script.specs.declared.event.MixedWorldEvent.{MixedWorldEvent}
@@ -38,12 +38,12 @@ module _ {C : Type 0} (calls : Calls C) where
       → TellsMixedAt calls members spot old (mixed.Calm rounds) new lines → new.strangers ≡ old.strangers
   row_calm members spot old new rounds lines h = h.1
 
-  pub row_memory : (old new : MixedState C) (e : MixedEvent) (lines : List (List ℕ)) → StopsMixed calls old e new lines
+  pub row_memory : (old new : MixedState C) (e : Event) (lines : List (List ℕ)) → StopsMixed calls old e new lines
       → (lines ≡ []) × ((new ≡ old) ⊎ ((r : Result (Unit {0}) WorldFault) × MixedStepGives calls old e r new))
   row_memory old new e lines (inl h) = (h.0, inl h.1)
   row_memory old new e lines (inr h) = (h.0, inr h.1)
 
-  pub row_failed : (old new : MixedState C) (e : MixedEvent) (lines : List (List ℕ)) → MayTellMixed calls old e new lines
+  pub row_failed : (old new : MixedState C) (e : Event) (lines : List (List ℕ)) → MayTellMixed calls old e new lines
       → (lines ≡ []) × ((r : Result (Unit {0}) WorldFault) × MixedStepGives calls old e r new)
   row_failed old new e lines h = h
 

@@ -232,6 +232,7 @@ module _ {C : Type 0} (calls : Calls C) where
       (λ s is g. done_or_halted (with_user h peer listen own s old) old r new g (record { on = w.on; last = user_world h peer listen own s old is w.last })) t w
   event_went (Typed h line) old r new w t =
       at_host h (λ s. TypeGives h line s (services_of h old.services).typing old r new) old r new (λ s is g. type_went h line s (services_of h old.services).typing old r new is g w) t w
+  event_went (Out m) old r new w t = unchanged old r new t.1 w
 
   -- ---- any event
 

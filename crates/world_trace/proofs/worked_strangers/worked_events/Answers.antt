@@ -2,9 +2,8 @@ use Rattle.world_trace.proofs.Common.{[], ◌∷◌, codes, refl, first, second}
 use Rattle.std.specs.Fmt.{digits}
 use Rattle.interface.specs.declared.crossing.Crossing.TheVariants as crossing
 use Rattle.net_sim.specs.Worked.{accepting_carrier, any_carrier, message}
-use Rattle.net_sim.specs.declared.event.Event.TheVariants.{Offer}
+use Rattle.net_sim.specs.declared.event.Event.TheVariants.{Offer, Out}
 use Rattle.net_sim.specs.declared.event.WorldFault.TheVariants.{HasProgram, NoProgram}
-use Rattle.net_sim.specs.declared.mixed.MixedEvent.TheVariants.{Any, Out}
 use Rattle.sockets.specs.Worked.{third}
 use Rattle.world_replay.specs.Output.{Crossed, Refused}
 use Rattle.world_trace.proofs.Beside.{traces_only}
@@ -15,7 +14,7 @@ unfolding digits
 returns-clause-said c = traces_only accepting_carrier (Out (message third first 2)) (Crossed (crossing.Out (message third first 2)) ∷ []) c.worked_strangers.ensures.says
 
 pub returns-clause-asked : goal.returns-clause-asked
-returns-clause-asked c = traces_only any_carrier (Any (Offer third)) (Refused NoProgram ∷ []) c.worked_strangers.ensures.offered
+returns-clause-asked c = traces_only any_carrier (Offer third) (Refused NoProgram ∷ []) c.worked_strangers.ensures.offered
 
 pub returns-clause-program : goal.returns-clause-program
 returns-clause-program c = traces_only any_carrier (Out (message first second 2)) (Refused HasProgram ∷ []) c.worked_strangers.ensures.program
