@@ -18,17 +18,14 @@ use Rattle.sockets.specs.Sending.{offered}
 use Rattle.sockets.specs.declared.request.Request.{Request}
 use Rattle.net_sim.proofs.lemmas.{Answered, Ways, calm_keeps, step_way, unshown}
 use Rattle.net_sim.specs.Book.{Kept, all_asked, all_crossed, all_reported, all_told, asked, crossed}
-use Rattle.net_sim.specs.MixedWorlds.{AnyGives, AskedGives, FetchEnds, FetchGives, MixedState, OfWorld}
+use Rattle.net_sim.specs.MixedWorlds.{AmongGives, AskedGives, FetchEnds, FetchGives, MixedState, OfWorld}
 use Rattle.net_sim.specs.MixedWorlds.{OutEnds, OutGives, RefusesMixed, asked_at, is_strange, opening_mixed, strange_in}
-use Rattle.net_sim.specs.MixedWorlds as worlds
 use Rattle.net_sim.specs.World.{CalmGives, StepGives, done_by, noticed, services_of, turn_of, world_moved}
-use Rattle.net_sim.specs.declared.event.Event.TheVariants.{Ask, Net, Offer, Quiet, Server, Take, Typed, User}
+use Rattle.net_sim.specs.declared.event.Event.TheVariants.{Out, Take}
 use Rattle.net_sim.specs.declared.event.WorldFault.{WorldFault}
 use Rattle.net_sim.specs.declared.event.WorldFault.TheVariants.{NoProgram}
-use Rattle.net_sim.specs.declared.mixed.MixedEvent.{MixedEvent}
-use Rattle.net_sim.specs.declared.mixed.MixedEvent.TheVariants.{Any, Out}
 use Rattle.world_replay.proofs.lemmas.{on_either}
-use Rattle.world_replay.specs.Kinds.{MixedEventGives, ReplaysBy, RunsOutBy, mixed_kind}
+use Rattle.world_replay.specs.Kinds.{EventGivesAmong, ReplaysBy, RunsOutBy, mixed_kind}
 use Rattle.world_replay.specs.Output.{Shown}
 use Rattle.world_script.specs.declared.event.MixedWorldEvent.TheVariants as mixed
 use Rattle.command_line.specs.Lived.{AreLived}
@@ -88,7 +85,7 @@ module _ {C : Type 0} (calls : Calls C) where
 
   step : (e : Event) (old : WorldState C) (r : Answered) (new : WorldState C) → StepGives calls old e r new
       → Lived old.kept → Lived new.kept
-  step e old r new h l = step_way calls (λ c d cs. Unit {0}) (unshown calls) Keeps ways e old r new h l
+  step e old r new h l = step_way calls (λ c d cs. Unit {0}) (unshown calls) Keeps ways e (λ is w k. k) old r new h l
 
   calm : (rounds : ℕ) (old : WorldState C) (r : Answered) (new : WorldState C) → CalmGives calls rounds old r new
       → Lived old.kept → Lived new.kept
@@ -128,27 +125,17 @@ module _ {C : Type 0} (calls : Calls C) where
   ask e old r new h = on_either (is_strange (strange_in old) (asked_at e)) (λ s g. refused NoProgram old r new g)
       (λ s g. of_world (StepGives calls old.world e) old r new (λ q w t. step e old.world q w t) g) h
 
-  any : (e : Event) (old : MixedState C) (r : Answered) (new : MixedState C) → AnyGives calls old e r new
+  event : (e : Event) (old : MixedState C) (r : Answered) (new : MixedState C) → AmongGives calls old e r new
       → Lived old.world.kept → Lived new.world.kept
-  any (Take h) old r new g = on_either (strange_in old h)
+  event (Take h) old r new g = on_either (strange_in old h)
       (λ s f. of_world (FetchGives calls h old.world) old r new (λ q w t. fetch t.0 t.1 old.world q w t.3) f)
       (λ s f. of_world (StepGives calls old.world (Take h)) old r new (λ q w t. step (Take h) old.world q w t) f) g
-  any (Net e) old r new g = ask (Net e) old r new g
-  any Quiet old r new g = ask Quiet old r new g
-  any (Offer h) old r new g = ask (Offer h) old r new g
-  any (Ask h q) old r new g = ask (Ask h q) old r new g
-  any (Server h listen base) old r new g = ask (Server h listen base) old r new g
-  any (User h peer listen own) old r new g = ask (User h peer listen own) old r new g
-  any (Typed h line) old r new g = ask (Typed h line) old r new g
+  event (Out m) old r new g = on_either (strange_in old m.flow.source)
+      (λ s f. of_world (OutGives calls m old.world) old r new (λ q w t. out m t.0 t.1 old.world q w t.3) f)
+      (λ s f. of_world (StepGives calls old.world (Out m)) old r new (λ q w t. step (Out m) old.world q w t) f) g
+  event e old r new g = ask e old r new g
 
-  event : (e : MixedEvent) (old : MixedState C) (r : Answered) (new : MixedState C)
-      → worlds.MixedEventGives calls old e r new → Lived old.world.kept → Lived new.world.kept
-  event (Any e) old r new h = any e old r new h
-  event (Out m) old r new h = on_either (strange_in old m.flow.source)
-      (λ s g. of_world (OutGives calls m old.world) old r new (λ q w t. out m t.0 t.1 old.world q w t.3) g)
-      (λ s g. refused _ old r new g) h
-
-  one : (e : MixedWorldEvent) (old : MixedState C) (r : Answered) (new : MixedState C) → MixedEventGives calls old e r new
+  one : (e : MixedWorldEvent) (old : MixedState C) (r : Answered) (new : MixedState C) → EventGivesAmong calls old e r new
       → Lived old.world.kept → Lived new.world.kept
   one (mixed.Happen e) old r new h = on_either old.world.stopped (λ s g. refused _ old r new g)
       (λ s g. event e old r new g) h

@@ -1,6 +1,6 @@
 -- One walk over the events of a world: each ends in one of few ways, and a relation between the worlds before and after that each way
 -- keeps holds of every event.
-use Rattle.net_sim.proofs.Common.{◌≡◌, inl, inr, ℕ, Bool, true, false, List, [], ◌∷◌, ◌++◌, length, map, Option, Some, None, Ok, Err, refl, ap, sym, subst, ◌∙◌, MatchBool, reverse_onto, Calls, Seen, crossing_of, is_memory, step_crossings, up_at, Host, CarrierFault, Crossing, Inbound, NetEvent, HostMessage, accepted, NcpState, refusal, next_out, NcpFault, Request, line_bits, AreOfOneEvent, AreStops, WorldState, WorldFault, Carrier, Program, Net, Quiet, Offer, Ask, Server, User, Typed, Seat, seat_of, served_at, services_of, with_carrier, with_server, with_user, world_moved, AskGives, AtProgram, AtSeat, Does, DoesOrHalts, EventGives, Halts, NetEnds, OfferEnds, OfferGives, QuietEnds, Refuses, StepGives, TakeEnds, TakeGives, TypeGives}
+use Rattle.net_sim.proofs.Common.{◌≡◌, inl, inr, if◌then◌else◌, ℕ, Bool, true, false, List, [], ◌∷◌, ◌++◌, length, map, Option, Some, None, Ok, Err, refl, ap, sym, subst, ◌∙◌, MatchBool, reverse_onto, Calls, Seen, crossing_of, is_memory, step_crossings, up_at, Host, CarrierFault, Crossing, Inbound, NetEvent, HostMessage, accepted, NcpState, refusal, next_out, NcpFault, Request, line_bits, AreOfOneEvent, AreStops, WorldState, WorldFault, Carrier, Program, Net, Quiet, Offer, Ask, Server, User, Typed, Seat, seat_of, served_at, services_of, with_carrier, with_server, with_user, world_moved, AskGives, AtProgram, AtSeat, Does, DoesOrHalts, EventGives, Halts, NetEnds, OfferEnds, OfferGives, QuietEnds, Refuses, StepGives, TakeEnds, TakeGives, TypeGives}
 use Rattle.std.proofs.Common.{Result}
 use Rattle.std.specs.Prelude.{reverse}
 use Rattle.interface.specs.declared.carrier.CarrierFault.TheVariants as fault

@@ -1,7 +1,7 @@
 -- An input of either kind leaves its trace no choice.
 use Rattle.simulator.proofs.Common.{◌≡◌, inl, inr, ℕ, List, [], ◌∷◌, ◌++◌, Some, sym, ap, ap₂, subst, ◌∙◌, HappensOnce, ShowsFront, text_of, Calls, AreSettled, ends_front, in_turn_once, parted_once, CarrierKind, shown, SameGains, gains_once, shown_settled, StopsOne, change_of, Spot, asking_from, numbered_from, AllParts, plain_inside, plain_calls, subnet_calls, subnet_inside, plain_of, subnet_of, subnet_settled, plain_settled, MixedFields, MixedWorldEvent, Sizes, Crossing, MixedState, opening_mixed, Shown, IsMixedScripted, MixedTraceEndsFrom, MixedTraceEndsOn, MixedTraceEndsOver, MixedTraceStops, MixedTracesFrom, MixedTracesInput, MixedTracesOn, MixedTracesOver, TraceStopsEither, TracesEither}
 use Rattle.std.proofs.Common.{zip}
-use Rattle.net_sim.specs.declared.mixed.MixedEvent.{MixedEvent}
+use Rattle.net_sim.specs.declared.event.Event.{Event}
 use Rattle.topology.specs.declared.network.CarrierKind.TheVariants as kind
 use Rattle.world_replay.proofs.lemmas as replays
 use Rattle.world_replay.proofs.lemmas.{same_state}
@@ -9,8 +9,7 @@ use Rattle.world_replay.specs.Output.{output}
 use Rattle.world_script.specs.declared.event.MixedWorldEvent.TheVariants as mixed
 use Rattle.world_script.specs.declared.event.WorldEvent.TheVariants as worlds
 use Rattle.world_trace.specs.MixedTraces.{AtSpot, MixedEndsAt, StopsMixed, TellsMixed, TellsMixedAt, mixed_opening}
-use Rattle.world_trace.specs.MixedTraces.{mixed_text}
-use Rattle.world_trace.specs.Texts.{line_of}
+use Rattle.world_trace.specs.Texts.{event_text, line_of}
 use Rattle.simulator.proofs.Traces.OneTrace.{at_front, at_once, first_of_trace, one_trace, text_front}
 use Rattle.command_line.proofs.lemmas.{OneMixed, mixed_once, not_both}
 
@@ -26,7 +25,7 @@ module _ {C : Type 0} (calls : Calls C) (members : C → AllParts) (settled : Ar
       gains_once old.world.kept new.world.kept other.world.kept h.gains k.gains
       (ap (λ (s : MixedState C). s.world.kept) one.0) in
       let line : List Crossing → List Shown → MixedState C → List (List ℕ) = λ cs ss s.
-      line_of spot 0 (mixed_text e) cs (output Sizes ss) (change_of members old.world s.world) ∷ [] in (
+      line_of spot 0 (event_text (worlds.Happen e)) cs (output Sizes ss) (change_of members old.world s.world) ∷ [] in (
         one.0,
         is ∙ ap (λ (cs : List Crossing). line cs shows new) gains.crossings
             ∙ ap₂ (λ (ss : List Shown) (s : MixedState C). line k.gains.crossings ss s) one.1 one.0 ∙ sym are,
@@ -40,7 +39,7 @@ module _ {C : Type 0} (calls : Calls C) (members : C → AllParts) (settled : Ar
       (same_state calls settled new other one.0 (same ∙ sym alike), one.1)
 
   -- the event in which memory ran out has no line, and of a calm those before it have theirs
-  no_line : (old : MixedState C) (e : MixedEvent) (new : MixedState C) (part whole : List (List ℕ))
+  no_line : (old : MixedState C) (e : Event) (new : MixedState C) (part whole : List (List ℕ))
       → StopsMixed calls old e new part → (rest : List (List ℕ)) × (whole ≡ part ++ rest)
   no_line old e new part whole (inl h) = (whole, sym (ap (λ (ls : List (List ℕ)). ls ++ whole) h.0))
   no_line old e new part whole (inr h) = (whole, sym (ap (λ (ls : List (List ℕ)). ls ++ whole) h.0))

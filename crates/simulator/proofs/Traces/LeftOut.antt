@@ -124,6 +124,7 @@ world_is (world.Happen (event.Take h)) rest is = absurd (other_first refl is)
 world_is (world.Happen (event.Server h listen base)) rest is = absurd (other_first refl is)
 world_is (world.Happen (event.User h peer listen own)) rest is = absurd (other_first refl is)
 world_is (world.Happen (event.Typed h text)) rest is = absurd (other_first refl is)
+world_is (world.Happen (event.Out m)) rest is = absurd (other_first refl is)
 world_is (world.Calm rounds) rest is = absurd (other_first refl is)
 
 -- ---- a line with nothing printed is another one

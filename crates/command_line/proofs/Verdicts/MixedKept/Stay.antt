@@ -7,16 +7,13 @@ use Rattle.std.proofs.lemmas.Map.Views.{any-filter_same}
 use Rattle.std.specs.Bool.{MatchBool}
 use Rattle.interface.proofs.lemmas.{and_true, both_ways, same_host-true}
 use Rattle.interface.specs.Host.{is_host, same_host}
-use Rattle.net_sim.specs.MixedWorlds.{AnyGives, AskedGives, FetchGives, MixedState, MixedStepGives, OfWorld, OutGives}
+use Rattle.net_sim.specs.MixedWorlds.{AmongGives, AskedGives, FetchGives, MixedState, MixedStepGives, OfWorld, OutGives}
 use Rattle.net_sim.specs.MixedWorlds.{RefusesMixed, absent_in, asked_at, is_strange, opening_mixed, strange_in}
-use Rattle.net_sim.specs.MixedWorlds as worlds
 use Rattle.net_sim.specs.World.{CalmGives, StepGives}
-use Rattle.net_sim.specs.declared.event.Event.TheVariants.{Ask, Net, Offer, Quiet, Server, Take, Typed, User}
+use Rattle.net_sim.specs.declared.event.Event.TheVariants.{Out, Take}
 use Rattle.net_sim.specs.declared.event.WorldFault.{WorldFault}
 use Rattle.net_sim.specs.declared.event.WorldFault.TheVariants.{NoProgram}
-use Rattle.net_sim.specs.declared.mixed.MixedEvent.{MixedEvent}
-use Rattle.net_sim.specs.declared.mixed.MixedEvent.TheVariants.{Any, Out}
-use Rattle.world_replay.specs.Kinds.{MixedEventGives, ReplaysBy, RunsOutBy, mixed_kind}
+use Rattle.world_replay.specs.Kinds.{EventGivesAmong, ReplaysBy, RunsOutBy, mixed_kind}
 use Rattle.world_replay.specs.Output.{Shown}
 use Rattle.world_script.specs.declared.event.MixedWorldEvent.TheVariants as mixed
 
@@ -43,29 +40,20 @@ module _ {C : Type 0} (calls : Calls C) where
   asked e old r new h = either (is_strange (strange_in old) (asked_at e)) (λ x. refused NoProgram old r new x)
       (λ x. of_world (StepGives calls old.world e) old r new x) h
 
-  any : (e : Event) (old : MixedState C) (r : Answer) (new : MixedState C) → AnyGives calls old e r new
+  event : (e : Event) (old : MixedState C) (r : Answer) (new : MixedState C) → AmongGives calls old e r new
       → new.strangers ≡ old.strangers
-  any (Take h) old r new g = either (strange_in old h) (λ x. of_world (FetchGives calls h old.world) old r new x)
+  event (Take h) old r new g = either (strange_in old h) (λ x. of_world (FetchGives calls h old.world) old r new x)
       (λ x. of_world (StepGives calls old.world (Take h)) old r new x) g
-  any (Net e) old r new g = asked (Net e) old r new g
-  any Quiet old r new g = asked Quiet old r new g
-  any (Offer h) old r new g = asked (Offer h) old r new g
-  any (Ask h q) old r new g = asked (Ask h q) old r new g
-  any (Server h listen base) old r new g = asked (Server h listen base) old r new g
-  any (User h peer listen own) old r new g = asked (User h peer listen own) old r new g
-  any (Typed h line) old r new g = asked (Typed h line) old r new g
+  event (Out m) old r new g = either (strange_in old m.flow.source)
+      (λ x. of_world (OutGives calls m old.world) old r new x)
+      (λ x. of_world (StepGives calls old.world (Out m)) old r new x) g
+  event e old r new g = asked e old r new g
 
-  event : (e : MixedEvent) (old : MixedState C) (r : Answer) (new : MixedState C)
-      → worlds.MixedEventGives calls old e r new → new.strangers ≡ old.strangers
-  event (Any e) old r new h = any e old r new h
-  event (Out m) old r new h = either (strange_in old m.flow.source)
-      (λ x. of_world (OutGives calls m old.world) old r new x) (λ x. refused _ old r new x) h
-
-  step : (e : MixedEvent) (old : MixedState C) (r : Answer) (new : MixedState C) → MixedStepGives calls old e r new
+  step : (e : Event) (old : MixedState C) (r : Answer) (new : MixedState C) → MixedStepGives calls old e r new
       → new.strangers ≡ old.strangers
   step e old r new h = either old.world.stopped (λ x. refused _ old r new x) (λ x. event e old r new x) h
 
-  one : (e : MixedWorldEvent) (old : MixedState C) (r : Answer) (new : MixedState C) → MixedEventGives calls old e r new
+  one : (e : MixedWorldEvent) (old : MixedState C) (r : Answer) (new : MixedState C) → EventGivesAmong calls old e r new
       → new.strangers ≡ old.strangers
   one (mixed.Happen e) old r new h = step e old r new h
   one (mixed.Calm rounds) old r new h = of_world (CalmGives calls rounds old.world) old r new h
