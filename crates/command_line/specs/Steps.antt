@@ -47,14 +47,14 @@ IsEventsFault raw text fault.CannotRead = ⊥
 IsEventsFault raw text fault.CannotWrite = ⊥
 
 -- and of a script where there are strangers
-abbrev pub IsMixedEventsFault : List ℕ → ScriptFault → Type 0
-IsMixedEventsFault text (fault.BadLine number) = IsFirstBadAs mixed_spelling IsEventAmong text number
-IsMixedEventsFault text fault.OutOfMemory = Unit {0}
-IsMixedEventsFault text fault.BadTopology = ⊥
-IsMixedEventsFault text fault.TooLong = ⊥
-IsMixedEventsFault text fault.BadOptions = ⊥
-IsMixedEventsFault text fault.CannotRead = ⊥
-IsMixedEventsFault text fault.CannotWrite = ⊥
+abbrev pub IsEventsFaultAmong : List ℕ → ScriptFault → Type 0
+IsEventsFaultAmong text (fault.BadLine number) = IsFirstBadAs mixed_spelling IsEventAmong text number
+IsEventsFaultAmong text fault.OutOfMemory = Unit {0}
+IsEventsFaultAmong text fault.BadTopology = ⊥
+IsEventsFaultAmong text fault.TooLong = ⊥
+IsEventsFaultAmong text fault.BadOptions = ⊥
+IsEventsFaultAmong text fault.CannotRead = ⊥
+IsEventsFaultAmong text fault.CannotWrite = ⊥
 
 -- the faults of following an input that was read
 abbrev pub IsFollowFault : ScriptFault → Type 0

@@ -7,7 +7,7 @@ ghost use Rattle.topology.specs.Mixed.{MixedFields};
 ghost use Rattle.world_script.specs.Mixed.{AskForMixed};
 ghost use Rattle.command_line.specs.Mixed.{DescribesMixed, IsMixedFault, IsMixedInput, MixedEndsOn, MixedReplaysOn, MixedShowsFrom, MixedWritesPart};
 ghost use Rattle.command_line.specs.Replayed.{WritesWorld};
-ghost use Rattle.command_line.specs.Steps.{IsMixedEventsFault, IsNetworkFault, IsReplayFault};
+ghost use Rattle.command_line.specs.Steps.{IsEventsFaultAmong, IsNetworkFault, IsReplayFault};
 ghost use Rattle.command_line.specs.Stopping.{NothingOr};
 
 use crate::carriers::{subnet_of, write_lives};
@@ -62,7 +62,7 @@ pub fn read_mixed_input(alloc: Global, octets: &[u8]) -> Result<MixedInput, Scri
 /// Errors: `BadLine` for the first line that is no event, `OutOfMemory`.
 fn read_mixed_events(alloc: Global, script: &[u8]) -> Result<Vec<MixedWorldEvent>, ScriptFault>
     requires { length script.now ≤ MAX_INPUT }
-    ensures { MatchResult result (λ events. AskForMixed events.items (lines_of script.now)) (IsMixedEventsFault script.now) }
+    ensures { MatchResult result (λ events. AskForMixed events.items (lines_of script.now)) (IsEventsFaultAmong script.now) }
 {
     match read_mixed_script(alloc, script) {
         Ok(events) => Ok(events),

@@ -23,7 +23,7 @@ pub use Rattle.net_sim.specs.World.{opening_services, opening_world, seat_of, se
 pub use Rattle.net_sim.specs.World.{tended, up_in, with_program, with_server, with_services, with_user}
 pub use Rattle.net_sim.specs.World.{world_heard, world_moved}
 pub use Rattle.net_sim.specs.declared.event.Event.{Event}
-pub use Rattle.net_sim.specs.declared.event.Event.TheVariants.{Ask, Offer, Quiet, Server, Take, Typed, User}
+pub use Rattle.net_sim.specs.declared.event.Event.TheVariants.{Ask, Offer, Out, Quiet, Server, Take, Typed, User}
 pub use Rattle.net_sim.specs.declared.event.WorldFault.{WorldFault}
 pub use Rattle.net_sim.specs.declared.seat.Seat.{Seat}
 pub use Rattle.net_sim.specs.declared.seat.ServiceSeat.{ServiceSeat}

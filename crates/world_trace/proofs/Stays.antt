@@ -7,7 +7,7 @@ use Rattle.world_trace.proofs.Common.{crossed, shown, AskGives, AtSeat, DoesOrHa
 use Rattle.world_trace.proofs.Common.{QuietEnds, StepGives, TakeEnds, TakeGives, TypeGives, WorldState, noticed}
 use Rattle.world_trace.proofs.Common.{seat_of, seated, serviced, services_of, stops, tended, with_program}
 use Rattle.world_trace.proofs.Common.{with_server, with_services, with_user, world_heard, world_moved, Event, Ask}
-use Rattle.world_trace.proofs.Common.{Offer, Quiet, Server, Take, Typed, User, WorldFault, Seat}
+use Rattle.world_trace.proofs.Common.{Offer, Out, Quiet, Server, Take, Typed, User, WorldFault, Seat}
 use Rattle.world_trace.proofs.Common.{ServiceSeat, accepted, NcpState, refusal, served, served_notices, next_out}
 use Rattle.world_trace.proofs.Common.{offered, NcpFault, Request, HappensInCalm, AreOthers, IsAsBefore, IsStill}
 use Rattle.world_trace.proofs.Common.{at_host, event_of, is_of_network, seat_place, service_place, seat_member}

@@ -11,7 +11,7 @@ use Rattle.interface.specs.declared.crossing.Inbound.TheVariants as inbound
 use Rattle.interface.specs.declared.message.HostMessage.{HostMessage}
 use Rattle.net_sim.specs.MixedWorlds.{AmongGives, AskedGives, FetchEnds, FetchGives, MixedState, MixedStepGives, OfWorld}
 use Rattle.net_sim.specs.MixedWorlds.{OutEnds, OutGives, RefusesMixed, asked_at, is_strange, strange_in}
-use Rattle.net_sim.specs.declared.event.Event.TheVariants.{Out}
+use Rattle.world_trace.proofs.Common.{Out}
 use Rattle.net_sim.specs.World.{StepGives}
 use Rattle.replay.specs.declared.events.ReplayFault.TheVariants as fault
 use Rattle.replay.specs.declared.print.Detail.TheVariants.{Sizes}

@@ -189,9 +189,9 @@ module _ {C : Type 0} (calls : Calls C) (Crossed : C → C → List Crossing →
       → (old : WorldState C) (r : Answered) (new : WorldState C) → old.stopped ≡ false → EventGives calls old e r new → R old r new
   event_way (Out m) unsaid_way old r new running t =
       subst (R old r) (sym t.1) (subst (λ (a : Answered). R old a old) (sym t.0) (by (has_seat m.flow.source old.seats))) where
-    by : (b : Bool) → R old (Err (if b then world.HasProgram else Carrier fault.NoSuch)) old
-    by true = unsaid_way refl old
-    by false = ways.left (Err (Carrier fault.NoSuch)) old refl
+        by : (b : Bool) → R old (Err (if b then world.HasProgram else Carrier fault.NoSuch)) old
+        by true = unsaid_way refl old
+        by false = ways.left (Err (Carrier fault.NoSuch)) old refl
   event_way (Net e) unsaid_way old r new running t = net_ends e t.0 t.1 old r new running t.2 t.3
   event_way Quiet unsaid_way old r new running t = quiet_ends t.0 t.1 old r new running t.2 t.3
   event_way (Offer h) unsaid_way old r new running t =

@@ -1,5 +1,5 @@
 -- Each event of a world that has not stopped leaves memory lasting in all programs and services.
-use Rattle.world_trace.proofs.Common.{◌≡◌, inr, ℕ, zero, suc, Bool, true, false, List, [], ◌∷◌, if◌then◌else◌, length, nat_lt, Option, Some, None, IfSome, Result, Ok, Err, refl, ap, sym, subst, ◌∙◌, false≢true, All-cons, All-head, All-nil, All-tail, All, Notice, ServiceDeskState, ServicesState, no_services, opening_desk, line_bits, Calls, crossing_of, is_halt, is_memory, Host, same_host, Crossing, same_host-true, all_told, asked, crossed, AskGives, AtSeat, DoesOrHalts, Halts, OfferEnds, OfferGives, QuietEnds, StepGives, TakeEnds, TakeGives, TypeGives, WorldState, noticed, opening_seats, opening_services, opening_world, seat_of, seated, serviced, services_of, stops, tended, up_in, with_program, with_server, with_services, with_user, world_heard, world_moved, Event, Ask, Offer, Quiet, Server, Take, Typed, User, WorldFault, Seat, ServiceSeat, accepted, NcpState, opening_state, refusal, served, served_notices, next_out, offered, NcpFault, Request, WorldEvent, Lasts, ProgramLasts, SeatLasts, ServiceLasts, ServicesLast}
+use Rattle.world_trace.proofs.Common.{◌≡◌, inr, ℕ, zero, suc, Bool, true, false, List, [], ◌∷◌, if◌then◌else◌, length, nat_lt, Option, Some, None, IfSome, Result, Ok, Err, refl, ap, sym, subst, ◌∙◌, false≢true, All-cons, All-head, All-nil, All-tail, All, Notice, ServiceDeskState, ServicesState, no_services, opening_desk, line_bits, Calls, crossing_of, is_halt, is_memory, Host, same_host, Crossing, same_host-true, all_told, asked, crossed, AskGives, AtSeat, DoesOrHalts, Halts, OfferEnds, OfferGives, QuietEnds, StepGives, TakeEnds, TakeGives, TypeGives, WorldState, noticed, opening_seats, opening_services, opening_world, seat_of, seated, serviced, services_of, stops, tended, up_in, with_program, with_server, with_services, with_user, world_heard, world_moved, Event, Ask, Offer, Out, Quiet, Server, Take, Typed, User, WorldFault, Seat, ServiceSeat, accepted, NcpState, opening_state, refusal, served, served_notices, next_out, offered, NcpFault, Request, WorldEvent, Lasts, ProgramLasts, SeatLasts, ServiceLasts, ServicesLast}
 use Rattle.std.proofs.Common.{inl, find}
 use Rattle.std.specs.Bool.{MatchBool}
 use Rattle.host_services.specs.Turns as services
