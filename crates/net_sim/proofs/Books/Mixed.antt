@@ -1,5 +1,5 @@
 -- Worlds with strangers, event by event.
-use Rattle.net_sim.proofs.Common.{◌≡◌, ℕ, Bool, true, false, List, [], ◌∷◌, refl, sym, subst, MatchBool, Calls, Host, is_host, Crossing, HostMessage, shown, HaveAddresses, Each, IsNamed, WorldState, WorldFault, Carrier, Net, Quiet, Offer, Ask, Server, User, Typed, CalmGives, StepGives}
+use Rattle.net_sim.proofs.Common.{◌≡◌, ℕ, Bool, true, false, List, [], ◌∷◌, refl, sym, subst, MatchBool, Calls, Host, is_host, Crossing, HostMessage, shown, HaveAddresses, Each, IsNamed, WorldState, WorldFault, Carrier, CalmGives, StepGives}
 use Rattle.std.proofs.Common.{Result}
 use Rattle.interface.specs.Mailboxes.{IsRun}
 use Rattle.interface.specs.declared.carrier.CarrierFault.TheVariants as fault
@@ -92,13 +92,7 @@ module _ {C : Type 0} (own : Calls C) (hosts : List Host) where
   event_keeps : (e : Event) (old : MixedState C) (r : Answer) (new : MixedState C) → old.world.stopped ≡ false → IsNamed e → Kept old → AmongGives (shown own) old e r new → Kept new
   event_keeps (Out m) old r new running named k h = says_keeps m old r new running k h
   event_keeps (Take g) old r new running named k h = take_keeps g old r new running k h
-  event_keeps (Net e) old r new running named k h = asked_keeps (Net e) old r new named k h
-  event_keeps Quiet old r new running named k h = asked_keeps Quiet old r new named k h
-  event_keeps (Offer g) old r new running named k h = asked_keeps (Offer g) old r new named k h
-  event_keeps (Ask g q) old r new running named k h = asked_keeps (Ask g q) old r new named k h
-  event_keeps (Server g listen base) old r new running named k h = asked_keeps (Server g listen base) old r new named k h
-  event_keeps (User g peer listen mine) old r new running named k h = asked_keeps (User g peer listen mine) old r new named k h
-  event_keeps (Typed g line) old r new running named k h = asked_keeps (Typed g line) old r new named k h
+  event_keeps e old r new running named k h = asked_keeps e old r new named k h
 
   pub mixed_keeps : (e : Event) (old : MixedState C) (r : Answer) (new : MixedState C) → IsNamed e → Kept old → MixedStepGives (shown own) old e r new → Kept new
   mixed_keeps e old r new named k h =
