@@ -185,6 +185,10 @@ pub fn worked_told()
     ensures before { told_among is_third (crossing.In eight_bits ∷ []) (eight_told 0 ∷ []) ≡ eight_told 0 ∷ [] }
     ensures nothing { ToldAmong is_third [] (eight_told 1 ∷ []) → ⊥ }
 
+    // nor is one left out at another host than the crossing's own: at a third, or at the host that a message is for before it takes it
+    ensures elsewhere { ToldAmong is_third (crossing.In eight_bits ∷ []) (record (eight_told 1) { host = first } ∷ []) → ⊥ }
+    ensures untaken { ToldAmong is_third (crossing.Out eight_bits ∷ []) (eight_told 1 ∷ []) → ⊥ }
+
     // what goes out among hosts with programs has to be reported, and what a stranger sends needn't
     ensures unreported { ToldAmong is_third (crossing.Out plain_bits ∷ []) [] → ⊥ }
     ensures free { ToldAmong is_third (crossing.Out eight_bits ∷ []) [] }

@@ -1,10 +1,11 @@
 -- The notices of data in a book are those of messages that crossed.
-use Rattle.world_keeps_lives.proofs.Common.{◌≡◌, ◌||◌, ◌≤◌, inl, inr, not, Option, None, ℕ, ◌+◌, ◌*◌, ◌==◌, Bool, true, false, if◌then◌else◌, List, [], ◌∷◌, ◌++◌, take, drop, length, Some, refl, ap, sym, subst, ◌∙◌, arith, eq-eqb, Contains, drop-append_seam, Host, Crossing, HostMessage, data_bits, header_bits, is_receive_socket, MayGo, data_of, is_link, is_open, is_receiving, receives_on, PairState, Parcel, may_send_on, next_of, Entry, Notice, both, what_goes, find_passes, pair, pair_with, message_for, next_in, next_is, next_pair, Told, Kept, all_told, asked, book_told, crossed, HaveAddresses, HasCrossed, coming, data_by, going, request, AreTold, FormedNotices, HasLink, data_told, Agrees, Asked, Crossed, IsNext, IsStory, Moment, places, program, events_of, crossings_of, host_in, kept_by, notices_by, data_away, story_agrees}
+use Rattle.world_keeps_lives.proofs.Common.{◌≡◌, ◌&&◌, ◌||◌, ◌≤◌, inl, inr, not, Option, None, ℕ, ◌+◌, ◌*◌, ◌==◌, Bool, true, false, if◌then◌else◌, List, [], ◌∷◌, ◌++◌, take, drop, length, Some, refl, ap, sym, subst, ◌∙◌, arith, eq-eqb, Contains, drop-append_seam, Host, same_host, same_host-refl, Crossing, HostMessage, data_bits, header_bits, is_receive_socket, MayGo, data_of, is_link, is_open, is_receiving, receives_on, PairState, Parcel, may_send_on, next_of, Entry, Notice, both, what_goes, find_passes, pair, pair_with, message_for, next_in, next_is, next_pair, Told, Kept, all_told, asked, book_told, crossed, HaveAddresses, HasCrossed, coming, data_by, going, request, AreTold, FormedNotices, HasLink, data_told, Agrees, Asked, Crossed, IsNext, IsStory, Moment, places, program, events_of, crossings_of, host_in, kept_by, notices_by, data_away, story_agrees}
 use Rattle.reset_law.specs.Network.{AreOurs, Network}
 use Rattle.net_sim.specs.Mixed.{Happened, crossed_only, mixed_kept}
 use Rattle.net_sim.proofs.lemmas.{coupled}
 use Rattle.world_keeps_lives.specs.Told.{AreToldAmong, MayBeUntoldAmong, ToldAmong, crossed_at, has_stranger, is_of_stranger, told_among}
 use Rattle.world_keeps_pairing.proofs.lemmas.{mail_below}
+use Rattle.std.proofs.Math.Bool.{and-false}
 use Rattle.std.proofs.lemmas.Bool.{eqb-true, or_parts, or_right}
 use Rattle.std.proofs.lemmas.Option.{same_Some}
 use Rattle.interface.specs.Mailboxes as mail
@@ -87,8 +88,8 @@ still_among : (strange : Host → Bool) (c : Crossing) (log : List Crossing) (ts
     → told_among strange (c ∷ log) ts ≡ told_among strange log ts
 still_among strange c log [] old = refl
 still_among strange c log (t ∷ ts) old =
-    ap (λ (v : Bool). if not (has_stranger strange (if v then Some c else crossed_at t.place log)) then t ∷ told_among strange (c ∷ log) ts else told_among strange (c ∷ log) ts) not_here
-    ∙ ap (λ (us : List Told). if not (has_stranger strange (crossed_at t.place log)) then t ∷ us else us) (still_among strange c log ts old.1) where
+    ap (λ (v : Bool). if not (has_stranger strange t.host (if v then Some c else crossed_at t.place log)) then t ∷ told_among strange (c ∷ log) ts else told_among strange (c ∷ log) ts) not_here
+    ∙ ap (λ (us : List Told). if not (has_stranger strange t.host (crossed_at t.place log)) then t ∷ us else us) (still_among strange c log ts old.1) where
       not_here : (t.place == length (c ∷ log)) ≡ false
       not_here = by (t.place == length (c ∷ log)) refl where
         by : (v : Bool) → (t.place == length (c ∷ log)) ≡ v → v ≡ false
@@ -110,24 +111,26 @@ module _ (strange : Host → Bool) (c : Crossing) (log : List Crossing) where
       subst (λ (us : List Told). AreToldAmong strange (c ∷ log) us) (sym (still_among strange c log ts old))
       (untold (told_among strange log ts) u a)
 
-  first_among : (t : Told) (ts : List Told) → t.place ≡ length (c ∷ log)
+  first_among : (t : Told) (ts : List Told) → t.place ≡ length (c ∷ log) → t.host ≡ host_in (Crossed c)
       → told_among strange (c ∷ log) (t ∷ ts) ≡ (if not (is_of_stranger strange c) then t ∷ told_among strange (c ∷ log) ts else told_among strange (c ∷ log) ts)
-  first_among t ts is =
-      ap (λ (v : Bool). if not (has_stranger strange (if v then Some c else crossed_at t.place log)) then t ∷ told_among strange (c ∷ log) ts else told_among strange (c ∷ log) ts)
+  first_among t ts is here =
+      ap (λ (v : Bool). if not (has_stranger strange t.host (if v then Some c else crossed_at t.place log)) then t ∷ told_among strange (c ∷ log) ts else told_among strange (c ∷ log) ts)
       (eq-eqb t.place (length (c ∷ log)) is)
+      ∙ ap (λ (v : Bool). if not (v && is_of_stranger strange c) then t ∷ told_among strange (c ∷ log) ts else told_among strange (c ∷ log) ts)
+      (ap (λ (h : Host). same_host h (host_in (Crossed c))) here ∙ same_host-refl (host_in (Crossed c)))
 
-  reports_one : (t : Told) (ts : List Told) → t.place ≡ length (c ∷ log) → Each (IsOld log) ts
-      → (is_of_stranger strange c ≡ false → notices.Tells c log t)
+  reports_one : (t : Told) (ts : List Told) → t.place ≡ length (c ∷ log) → t.host ≡ host_in (Crossed c)
+      → Each (IsOld log) ts → (is_of_stranger strange c ≡ false → notices.Tells c log t)
       → AreToldAmong strange log (told_among strange log ts) → Among (t ∷ ts)
-  reports_one t ts is old tells a = by (is_of_stranger strange c) refl where
+  reports_one t ts is here old tells a = by (is_of_stranger strange c) refl where
     P : List Told → Type 0
     P us = AreToldAmong strange (c ∷ log) us
 
     by : (v : Bool) → is_of_stranger strange c ≡ v → Among (t ∷ ts)
     by true on =
-        subst P (sym (first_among t ts is ∙ ap (λ (v : Bool). if not v then t ∷ told_among strange (c ∷ log) ts else told_among strange (c ∷ log) ts) on)) (unchanged ts old (inl on) a)
+        subst P (sym (first_among t ts is here ∙ ap (λ (v : Bool). if not v then t ∷ told_among strange (c ∷ log) ts else told_among strange (c ∷ log) ts) on)) (unchanged ts old (inl on) a)
     by false off =
-        subst P (sym (first_among t ts is ∙ ap (λ (v : Bool). if not v then t ∷ told_among strange (c ∷ log) ts else told_among strange (c ∷ log) ts) off))
+        subst P (sym (first_among t ts is here ∙ ap (λ (v : Bool). if not v then t ∷ told_among strange (c ∷ log) ts else told_among strange (c ∷ log) ts) off))
         (inr (tells off, subst (λ (us : List Told). AreToldAmong strange log us) (sym (still_among strange c log ts old)) a))
 
 one_more : (c : Crossing) (log : List Crossing) → 1 + length log ≡ length (c ∷ log)
@@ -179,7 +182,7 @@ module _ (hosts : Network) (moments : List Moment) (so : AreSo hosts moments) wh
       → (is_of_stranger hosts.strange c ≡ false → notices.Tells c (crossings_of moments) (record { host = host_in (Crossed c); place = 1 + length (crossings_of moments); notice = n }))
       → AreSo hosts (Crossed c ∷ moments)
   data_crossing c n off told d tells = record {
-    told = subst (λ (ts : List Told). AreToldAmong hosts.strange (c ∷ crossings_of moments) (told_among hosts.strange (c ∷ crossings_of moments) ts)) (sym same) (reports_one hosts.strange c (crossings_of moments) this (data_told (mixed_kept hosts.strange moments).book.notices) placed so.old (λ none. here none) so.told);
+    told = subst (λ (ts : List Told). AreToldAmong hosts.strange (c ∷ crossings_of moments) (told_among hosts.strange (c ∷ crossings_of moments) ts)) (sym same) (reports_one hosts.strange c (crossings_of moments) this (data_told (mixed_kept hosts.strange moments).book.notices) placed refl so.old (λ none. here none) so.told);
     old = subst (λ (ts : List Told). Each (IsOld (c ∷ crossings_of moments)) ts) (sym same) ((let p : this.place ≡ length (c ∷ crossings_of moments) = placed in omega (arith, p)), older c);
   } where
     this : Told
@@ -412,9 +415,11 @@ all_among log [] = refl
 all_among log (t ∷ ts) =
     ap (λ (v : Bool). if not v then t ∷ told_among (λ h. false) log ts else told_among (λ h. false) log ts) (plain (crossed_at t.place log))
     ∙ ap (λ (us : List Told). t ∷ us) (all_among log ts) where
-      plain : (o : Option Crossing) → has_stranger (λ h. false) o ≡ false
+      plain : (o : Option Crossing) → has_stranger (λ h. false) t.host o ≡ false
       plain None = refl
-      plain (Some c) = nobody_strange c
+      plain (Some c) =
+          ap (λ (v : Bool). same_host t.host (host_in (Crossed c)) && v) (nobody_strange c)
+          ∙ and-false (same_host t.host (host_in (Crossed c)))
 
 plainly : (c : Crossing) → MayBeUntoldAmong (λ h. false) c → MayBeUntold c
 plainly c (inl on) = absurd (let both : false ≡ true = sym (nobody_strange c) ∙ on in cc)

@@ -1,8 +1,10 @@
 -- What hosts with programs are notified of about data, among each other (NIC 8246, messages of data).
-use Rattle.std.specs.Prelude.{◌≡◌, ◌⊎◌, ◌==◌, ◌||◌, ℕ, not, Bool, true, false, if◌then◌else◌, List, [], ◌∷◌, filter, length, Option, Some, None}
-use Rattle.interface.specs.Host.{Host}
+use Rattle.std.specs.Prelude.{◌≡◌, ◌⊎◌, ◌==◌, ◌&&◌, ◌||◌, ℕ, not, Bool, true, false, if◌then◌else◌, List, [], ◌∷◌, filter, length, Option, Some, None}
+use Rattle.interface.specs.Host.{Host, same_host}
 use Rattle.interface.specs.declared.crossing.Crossing.{Crossing}
 use Rattle.interface.specs.declared.crossing.Crossing.TheVariants as crossing
+use Rattle.net_sim.specs.Story.{Crossed}
+use Rattle.net_sim.specs.Told.{host_in}
 use Rattle.promise.specs.Notices.{MayBeUntold, Tells, data_told}
 use Rattle.promise.specs.declared.book.Told.{Told}
 
@@ -19,13 +21,14 @@ is_of_stranger strange (crossing.Answer kind f) = strange f.source || strange f.
 is_of_stranger strange (crossing.Down h) = strange h
 is_of_stranger strange (crossing.Up h) = strange h
 
-abbrev pub has_stranger : (Host → Bool) → Option Crossing → Bool
-has_stranger strange None = false
-has_stranger strange (Some c) = is_of_stranger strange c
+-- it is this host's own, and a stranger takes part in it
+abbrev pub has_stranger : (Host → Bool) → Host → Option Crossing → Bool
+has_stranger strange h None = false
+has_stranger strange h (Some c) = same_host h (host_in (Crossed c)) && is_of_stranger strange c
 
--- all notices but those about a crossing in which a stranger took part, which are just after it
+-- all notices but those of a host just after a crossing of its own in which a stranger took part
 abbrev pub told_among : (Host → Bool) → List Crossing → List Told → List Told
-told_among strange log told = filter (λ t. not (has_stranger strange (crossed_at t.place log))) told
+told_among strange log told = filter (λ t. not (has_stranger strange t.host (crossed_at t.place log))) told
 
 -- what goes out to a stranger may be reported or not, and so may what comes in from one
 abbrev pub MayBeUntoldAmong : (Host → Bool) → Crossing → Type 0
