@@ -1,4 +1,4 @@
--- The messages that crossed: those of lives, and those that were taken.
+-- The messages that crossed: those of lives, those that were taken, and those that wait.
 pub mod SameText
 pub mod TextsBy
 pub mod Made
@@ -7,3 +7,6 @@ pub mod Streamed
 pub mod Numbers
 pub mod Arrivals
 pub mod Sent
+pub mod Counted
+pub mod Numbered
+pub mod Mailboxes

@@ -1,14 +1,7 @@
 pub mod Common
-pub mod Mailboxes
-pub mod Named
 pub mod Elements
-pub mod Placed
-pub mod Asked
-pub mod Known
-pub mod Walks
+pub mod Requests
 pub mod Peace
-pub mod Counted
-pub mod Numbered
 pub mod FirstLives
 pub mod Worked
 pub mod Crossed

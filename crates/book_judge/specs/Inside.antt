@@ -14,6 +14,7 @@ pub mod Deeds
 pub mod Changes
 pub mod Begins
 pub mod Contacts
+pub mod Indexed
 use Rattle.std.specs.Prelude.{ℕ, Bool, true, false, not, ◌&&◌, nat_le, if◌then◌else◌, List, [], ◌∷◌, slice_get, Option, Some, None}
 use Rattle.std.specs.FinMap as map
 use Rattle.interface.specs.Flow.{flow_cmp}

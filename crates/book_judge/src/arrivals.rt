@@ -1,13 +1,14 @@
 //! How many messages had gone out before each one came in.
 
-ghost use Rattle.std.specs.Prelude.{◌≡◌, ◌<◌, IfOk, List, length, true, false};
+ghost use Rattle.std.specs.Prelude.{◌≡◌, ◌<◌, IfOk, List, length, true};
 ghost use Rattle.interface.specs.declared.crossing.Crossing.{Crossing};
 ghost use Rattle.book_judge.specs.Inside.Joined.{AreJoined};
 ghost use Rattle.book_judge.specs.Inside.Arrivals as tests;
 ghost use Rattle.book_judge.specs.Inside.Arrivals.{AreArrivals, ArrivalOf, IsArrivalAt, IsSteady};
 
+use crate::indexed_log::IndexedLog;
 use crate::joined::{Joined, message_of};
-use interface::{Crossing as Passage, Flow};
+use interface::Flow;
 use std::alloc::{AllocError, Global};
 
 /// What is known of a message that came in.
@@ -57,42 +58,29 @@ fn since_of(into: &Joined, arrivals: &[Arrival], flow: &Flow, number: usize, sen
 }
 
 /// Returns what is known of the message that came in at a place, if one did. Of earlier ones it is known.
-fn arrival_at(
-    log: &[Passage],
-    into: &Joined,
-    out: &Joined,
-    arrivals: &[Arrival],
-    place: usize,
-) -> Arrival
+fn arrival_at(log: &IndexedLog<'_>, arrivals: &[Arrival], place: usize) -> Arrival
     requires place { place < length log.now }
-    requires joined { AreJoined true log.now into.now × AreJoined false log.now out.now }
     requires earlier { AreArrivals place arrivals.now log.now }
     ensures { IsArrivalAt log.now place result }
 {
-    let Some(message) = message_of(true, &log[place]) else {
+    let Some(message) = message_of(true, &log.crossings()[place]) else {
         return Arrival { sent: 0, since: 0 };
     };
-    let number = into.between(&message.flow, 0, place);
-    let sent = out.between(&message.flow, 0, place);
-    let since = since_of(into, arrivals, &message.flow, number, sent);
+    let number = log.came().between(&message.flow, 0, place);
+    let sent = log.went().between(&message.flow, 0, place);
+    let since = since_of(log.came(), arrivals, &message.flow, number, sent);
     Arrival { sent, since }
 }
 
 /// Returns what is known of each message that came in, by the places of a log.
 ///
 /// Errors: `AllocError`.
-pub(crate) fn arrivals_of(
-    alloc: Global,
-    log: &[Passage],
-    into: &Joined,
-    out: &Joined,
-) -> Result<Vec<Arrival>, AllocError>
-    requires { AreJoined true log.now into.now × AreJoined false log.now out.now }
+pub(crate) fn arrivals_of(alloc: Global, log: &IndexedLog<'_>) -> Result<Vec<Arrival>, AllocError>
     ensures { IfOk result (λ arrivals. AreArrivals (length log.now) arrivals.items log.now) }
 {
     let mut arrivals = Vec::new(alloc);
-    for place in 0..log.len() {
-        let arrival = arrival_at(log, into, out, &arrivals, place);
+    for place in 0..log.crossings().len() {
+        let arrival = arrival_at(log, &arrivals, place);
         arrivals.push(arrival)?;
     }
     Ok(arrivals)

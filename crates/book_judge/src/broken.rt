@@ -14,7 +14,7 @@ use crate::arrivals::arrivals_of;
 use crate::chains::chained;
 use crate::closes::lost_at;
 use crate::grants::excess_at;
-use crate::joined::join_data;
+use crate::indexed_log::IndexedLog;
 use crate::matches::with_match;
 use crate::names::Name;
 use crate::partners::odds_at;
@@ -23,7 +23,6 @@ use crate::sent::unsent_at;
 use crate::stamps::partners_of;
 use crate::starts::starts_of;
 use crate::streams::unfed_at;
-use interface::Crossing as Passage;
 use net_sim::{BitLog, Finding, Life};
 use promise::Fate;
 use std::alloc::{AllocError, Global};
@@ -74,12 +73,12 @@ fn uncounted(lives: &[Life], handed: &[BitLog]) -> Option<Finding>
 }
 
 /// Returns where it shows that the lives of a log, and what was handed over in them, are malformed: the first life that has no list, or
-/// the first list that has no life; else the first life with a stamp that names no request. The log is the oldest first.
+/// the first list that has no life; else the first life with a stamp that names no request.
 ///
 /// Errors: `AllocError`.
 pub fn malformed_at(
     alloc: Global,
-    log: &[Passage],
+    log: &IndexedLog<'_>,
     lives: &[Life],
     handed: &[BitLog],
 ) -> Result<Option<Finding>, AllocError>
@@ -173,7 +172,7 @@ fn lost(
 /// Errors: `AllocError`.
 fn unsent(
     alloc: Global,
-    log: &[Passage],
+    log: &IndexedLog<'_>,
     last: &Places,
     before: &[Option<usize>],
     names: &[Name],
@@ -183,11 +182,9 @@ fn unsent(
     requires named { AreNamed (length lives.now) names.now lives.now (reverse log.now) }
     ensures { IfOk result (λ found. MatchOption found (EachWasSent (reverse log.now) lives.now) (λ at. ShowsLife (first_sent (reverse log.now) lives.now) at (reverse log.now) lives.now)) }
 {
-    let into = join_data(alloc, log, true)?;
-    let out = join_data(alloc, log, false)?;
-    let arrivals = arrivals_of(alloc, log, &into, &out)?;
-    let starts = starts_of(alloc, log, &into, &out, lives)?;
-    match unsent_at(&into, &arrivals, &starts, last, before, names, lives) {
+    let arrivals = arrivals_of(alloc, log)?;
+    let starts = starts_of(alloc, log, lives)?;
+    match unsent_at(log.came(), &arrivals, &starts, last, before, names, lives) {
         Some(place) => Ok(Some(with_match(names, lives, place))),
         None => Ok(None),
     }
@@ -199,7 +196,7 @@ fn unsent(
 /// Errors: `AllocError`.
 fn broken_parts(
     alloc: Global,
-    log: &[Passage],
+    log: &IndexedLog<'_>,
     names: &[Name],
     lives: &[Life],
     handed: &[BitLog],
@@ -226,7 +223,7 @@ fn broken_parts(
 }
 
 /// Returns where it shows that the lives of a log, and what was handed over in them, aren't those of a safe book, that what they
-/// count wasn't sent so, or that a life which its partner ended lost anything. The log is the oldest first. A life that has no fate isn't one
+/// count wasn't sent so, or that a life which its partner ended lost anything. A life that has no fate isn't one
 /// that its partner ended.
 ///
 /// It says what [`net_sim::malformed`], [`net_sim::broken_partners`], [`net_sim::broken_streams`] and
@@ -236,7 +233,7 @@ fn broken_parts(
 /// Errors: `AllocError`.
 pub fn broken_at(
     alloc: Global,
-    log: &[Passage],
+    log: &IndexedLog<'_>,
     lives: &[Life],
     handed: &[BitLog],
     fates: &[Fate],

@@ -18,6 +18,7 @@ mod contacts;
 mod deeds;
 mod key_map;
 
+use crate::indexed_log::IndexedLog;
 use begins::{Ahead, Known, Reached, ahead_of, key, known_by};
 use changes::{Change, but_closes, changes_of};
 use contacts::{Said, agrees, note};
@@ -225,7 +226,7 @@ pub(crate) fn courses_of(alloc: Global, log: &[Crossing]) -> Result<Courses, All
 }
 
 /// Returns the place of the first life whose fate isn't one that what crossed leaves it, or that disagrees with an
-/// earlier one on a contact, counted from 0; `None` where there is none. The log is the oldest first. A life that has
+/// earlier one on a contact, counted from 0; `None` where there is none. A life that has
 /// no fate, and one whose requests haven't crossed, is none of these.
 ///
 /// A life begins with the second of its two requests, where nothing came between them that ends lives. It is over once
@@ -239,18 +240,18 @@ pub(crate) fn courses_of(alloc: Global, log: &[Crossing]) -> Result<Courses, All
 /// Errors: `AllocError`.
 pub fn unsuited_at(
     alloc: Global,
-    log: &[Crossing],
+    log: &IndexedLog<'_>,
     lives: &[Life],
     fates: &[Fate],
 ) -> Result<Option<usize>, AllocError>
     ensures { IfOk result (λ found. MatchOption found (AreSuited (reverse log.now) lives.now fates.now) (λ place. UnsuitedAt (reverse log.now) lives.now fates.now place)) }
 {
-    let courses = courses_of(alloc, log)?;
+    let courses = log.courses();
     let cuts = courses.cuts(alloc)?;
     let mut ends = KeyMap::new(alloc);
     for (place, life) in lives.iter().enumerate() {
         let fate = fate_at(fates, place);
-        let said = courses.said(&cuts, log.len(), life, fate);
+        let said = courses.said(&cuts, log.crossings().len(), life, fate);
         if !courses.suits(life, fate) || !agrees(&ends, life, said) {
             return Ok(Some(place));
         }

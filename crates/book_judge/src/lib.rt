@@ -19,6 +19,7 @@ mod data;
 mod fates;
 mod flow_map;
 mod grants;
+mod indexed_log;
 mod joined;
 pub mod law;
 mod lives;
@@ -41,6 +42,7 @@ pub mod worked_places;
 
 pub use broken::{Broken, broken_at, malformed_at};
 pub use fates::unsuited_at;
+pub use indexed_log::IndexedLog;
 pub use lives::unmade_at;
 pub use messages::broken_message;
 pub use runs::stray_at;

@@ -1,20 +1,18 @@
 //! Whether lives are made of the messages that crossed before their ends.
 
-ghost use Rattle.std.specs.Prelude.{◌≡◌, false, IfOk, MatchBool, MatchOption, reverse, true};
+ghost use Rattle.std.specs.Prelude.{◌≡◌, false, MatchBool, MatchOption, reverse, true};
 ghost use Rattle.interface.specs.Host.{Host};
 ghost use Rattle.promise.specs.Formed as formed;
 ghost use Rattle.promise.specs.Safe as safe;
-ghost use Rattle.book_judge.specs.Inside.Joined.{AreJoined};
 ghost use Rattle.book_judge.specs.Inside.Made.{IsMadeBy};
 ghost use Rattle.book_judge.specs.Lives.{AreMade, UnmadeAt};
 
 use crate::data::{is_made_on, receives};
-use crate::fates::courses_of;
-use crate::joined::{Joined, join_data, message_of};
+use crate::indexed_log::IndexedLog;
+use crate::joined::message_of;
 use crate::requests::named_in;
 use interface::{Crossing, Flow, HostAddr, Link};
 use net_sim::Life;
-use std::alloc::{AllocError, Global};
 
 /// Returns the flow of requests from one host to another.
 pub(crate) fn control_flow(source: HostAddr, destination: HostAddr) -> Flow
@@ -79,45 +77,35 @@ pub(crate) fn link_of(log: &[Crossing], life: &Life) -> Option<u8>
     }
 }
 
-/// Returns whether a life is made of messages that crossed before a place. Of those that came in, and of those that
-/// went out, the data are joined.
-fn is_made(log: &[Crossing], into: &Joined, out: &Joined, life: &Life, until: usize) -> bool
-    requires { AreJoined true log.now into.now × AreJoined false log.now out.now }
+/// Returns whether a life is made of messages that crossed before a place.
+fn is_made(log: &IndexedLog<'_>, life: &Life, until: usize) -> bool
     ensures { MatchBool result (IsMadeBy (reverse log.now) until life.now) (IsMadeBy (reverse log.now) until life.now → ⊥) }
 {
-    let (Some(own), Some(partner)) = (own_named(log, life), partner_named(log, life)) else {
+    let crossed = log.crossings();
+    let (Some(own), Some(partner)) = (own_named(crossed, life), partner_named(crossed, life)) else {
         return false;
     };
     if receives(life) {
-        return is_made_on(log, into, life, own, until);
+        return is_made_on(crossed, log.came(), life, own, until);
     }
-    is_made_on(log, out, life, partner, until)
+    is_made_on(crossed, log.went(), life, partner, until)
 }
 
 /// Returns the place of the first life that isn't made of messages that crossed before it was over, counted from 0;
-/// `None` where all are. The log is the oldest first.
+/// `None` where all are.
 ///
 /// The RTS of a life's two requests names its link, and its messages are the first there after both of these, as many as it
 /// counts: what comes in for a receiving life, and what goes out for a sending one (NIC 8246, RTS, STR and messages of data).
 /// It counts none that crossed after both CLS, after its connections were dropped, or after its host stopped. The data
-/// of each flow are joined once, so the time grows with the log, whatever the lives count.
-///
-/// Errors: `AllocError`.
-pub fn unmade_at(
-    alloc: Global,
-    log: &[Crossing],
-    lives: &[Life],
-) -> Result<Option<usize>, AllocError>
-    ensures { IfOk result (λ found. MatchOption found (AreMade (reverse log.now) lives.now) (λ place. UnmadeAt (reverse log.now) lives.now place)) }
+/// of each flow are joined, so the time grows with the log, whatever the lives count.
+pub fn unmade_at(log: &IndexedLog<'_>, lives: &[Life]) -> Option<usize>
+    ensures { MatchOption result (AreMade (reverse log.now) lives.now) (λ place. UnmadeAt (reverse log.now) lives.now place) }
 {
-    let into = join_data(alloc, log, true)?;
-    let out = join_data(alloc, log, false)?;
-    let courses = courses_of(alloc, log)?;
     for (place, life) in lives.iter().enumerate() {
-        let end = courses.end(log.len(), life);
-        if !is_made(log, &into, &out, life, end) {
-            return Ok(Some(place));
+        let end = log.courses().end(log.crossings().len(), life);
+        if !is_made(log, life, end) {
+            return Some(place);
         }
     }
-    Ok(None)
+    None
 }

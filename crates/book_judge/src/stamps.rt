@@ -7,6 +7,7 @@ ghost use Rattle.book_judge.specs.Inside.Asked as tests;
 ghost use Rattle.book_judge.specs.Inside.Asked.{AreOuts, Names};
 
 use crate::flow_map::FlowMap;
+use crate::indexed_log::IndexedLog;
 use crate::lives::control_flow;
 use crate::names::Name;
 use interface::{Crossing, Flow};
@@ -38,7 +39,7 @@ fn note(last: &mut FlowMap<usize>, place: usize, crossing: &Crossing) -> Result<
 /// Returns, for each message that came in, where its flow's last message before that went out.
 ///
 /// Errors: `AllocError`.
-fn outs_of(alloc: Global, log: &[Crossing]) -> Result<Vec<Option<usize>>, AllocError>
+pub(crate) fn outs_of(alloc: Global, log: &[Crossing]) -> Result<Vec<Option<usize>>, AllocError>
     ensures { IfOk result (λ outs. AreOuts (length log.now) outs.items log.now) }
 {
     let mut last = FlowMap::new(alloc);
@@ -72,19 +73,18 @@ pub(crate) fn found_at(found: &[Option<usize>], place: usize) -> Option<usize>
 }
 
 /// Returns the request of a life's partner; `None` where its stamps don't name requests.
-fn partner_of(log: &[Crossing], outs: &[Option<usize>], life: &Life) -> Option<Name>
-    requires { AreOuts (length log.now) outs.now log.now }
+fn partner_of(log: &IndexedLog<'_>, life: &Life) -> Option<Name>
     ensures { MatchOption result (IsStamped (reverse log.now) life.now → ⊥) (λ name. IsStamped (reverse log.now) life.now × (partner_request (reverse log.now) life.now ≡ Some name)) }
 {
     let goes = control_flow(life.host, life.peer);
     let comes = control_flow(life.peer, life.host);
-    if !passes_at(log, false, &goes, life.own_stamp) {
+    if !passes_at(log.crossings(), false, &goes, life.own_stamp) {
         return None;
     }
-    if !passes_at(log, true, &comes, life.partner_stamp) {
+    if !passes_at(log.crossings(), true, &comes, life.partner_stamp) {
         return None;
     }
-    match found_at(outs, life.partner_stamp) {
+    match found_at(log.outs(), life.partner_stamp) {
         Some(place) => Some(Name::partner_of(life, place)),
         None => None,
     }
@@ -95,15 +95,14 @@ fn partner_of(log: &[Crossing], outs: &[Option<usize>], life: &Life) -> Option<N
 /// Errors: `AllocError`.
 pub(crate) fn partners_of(
     alloc: Global,
-    log: &[Crossing],
+    log: &IndexedLog<'_>,
     lives: &[Life],
 ) -> Result<Result<Vec<Name>, usize>, AllocError>
     ensures { IfOk result (λ named. Names named lives.now (reverse log.now)) }
 {
-    let outs = outs_of(alloc, log)?;
     let mut names = Vec::new(alloc);
     for (place, life) in lives.iter().enumerate() {
-        let Some(name) = partner_of(log, &outs, life) else {
+        let Some(name) = partner_of(log, life) else {
             return Ok(Err(place));
         };
         names.push(name)?;

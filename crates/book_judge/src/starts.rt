@@ -1,15 +1,12 @@
 //! Where the messages of lives begin.
 
-ghost use Rattle.std.specs.Prelude.{◌≡◌, IfOk, length, slice_get, true, false};
-ghost use Rattle.promise.specs.Safe as safe;
-ghost use Rattle.book_judge.specs.Inside.Joined.{AreJoined};
+ghost use Rattle.std.specs.Prelude.{◌≡◌, IfOk, length, slice_get};
 ghost use Rattle.book_judge.specs.Inside.Starts as tests;
 ghost use Rattle.book_judge.specs.Inside.Starts.{AreStarts, IsStart};
 
 use crate::data::{flow_of, receives, since};
-use crate::joined::Joined;
+use crate::indexed_log::IndexedLog;
 use crate::lives::link_of;
-use interface::Crossing;
 use net_sim::Life;
 use std::alloc::{AllocError, Global};
 
@@ -33,39 +30,35 @@ pub(crate) struct Taking {
     pub(crate) sent: usize,
 }
 
-/// Returns where the messages of a life begin, of which those that come in, or those that go out, are joined; `None`
-/// where nothing names its link.
-fn start_of(log: &[Crossing], joined: &Joined, life: &Life) -> Option<Start>
-    requires { AreJoined (safe.receives life.now) log.now joined.now }
+/// Returns where the messages of a life begin; `None` where nothing names its link.
+fn start_of(log: &IndexedLog<'_>, life: &Life) -> Option<Start>
     ensures { IsStart log.now life.now result }
 {
-    let link = link_of(log, life)?;
-    let before = joined.between(&flow_of(life, link), 0, since(log, life));
+    let crossed = log.crossings();
+    let link = link_of(crossed, life)?;
+    let flow = flow_of(life, link);
+    let until = since(crossed, life);
+    let before = if receives(life) {
+        log.came().between(&flow, 0, until)
+    } else {
+        log.went().between(&flow, 0, until)
+    };
     Some(Start { link, before })
 }
 
-/// Returns where the messages of each life begin. Of those that came in, and of those that went out, the data are joined.
+/// Returns where the messages of each life begin.
 ///
 /// Errors: `AllocError`.
 pub(crate) fn starts_of(
     alloc: Global,
-    log: &[Crossing],
-    into: &Joined,
-    out: &Joined,
+    log: &IndexedLog<'_>,
     lives: &[Life],
 ) -> Result<Vec<Option<Start>>, AllocError>
-    requires { AreJoined true log.now into.now × AreJoined false log.now out.now }
     ensures { IfOk result (λ starts. AreStarts (length lives.now) starts.items lives.now log.now) }
 {
     let mut starts = Vec::new(alloc);
     for place in 0..lives.len() {
-        let life = &lives[place];
-        let start = if receives(life) {
-            start_of(log, into, life)
-        } else {
-            start_of(log, out, life)
-        };
-        starts.push(start)?;
+        starts.push(start_of(log, &lives[place]))?;
     }
     Ok(starts)
 }

@@ -12,7 +12,8 @@ ghost use Rattle.net_sim.specs.Findings.{ShowsCrossing};
 
 use crate::verdict::Verdict;
 use book_judge::{
-    Broken, broken_at, broken_message, malformed_at, stray_at, unmade_at, unsuited_at, untoward_at,
+    Broken, IndexedLog, broken_at, broken_message, malformed_at, stray_at, unmade_at, unsuited_at,
+    untoward_at,
 };
 use book_log::BookLists;
 use interface::{Crossing, HostAddr};
@@ -83,7 +84,7 @@ fn keep_counted<T: Drop>(alloc: Global, counted: &[bool], all: Vec<T>) -> Result
 fn broken_parts(
     alloc: Global,
     malformed: Option<Finding>,
-    log: &[Crossing],
+    log: &IndexedLog<'_>,
     lives: &[Life],
     handed: &[BitLog],
     fates: &[Fate],
@@ -141,10 +142,13 @@ pub(crate) fn judge(
         fates: words,
         handed: texts,
     } = lists;
-    let log = crossings.as_slice();
+    let crossed = crossings.as_slice();
+    let stray = stray_at(alloc, crossed)?;
+    let messages = unkept(alloc, crossed, stray)?;
+    let log = IndexedLog::new(alloc, crossed)?;
     let lives = all.as_slice();
     let handed = texts.as_slice();
-    let malformed = malformed_at(alloc, log, lives, handed)?;
+    let malformed = malformed_at(alloc, &log, lives, handed)?;
     let toward = untoward(malformed, strangers, lives, handed);
     let lives_kept = keep_counted(alloc, among, all)?;
     let lists_kept = keep_counted(alloc, among, texts)?;
@@ -152,11 +156,9 @@ pub(crate) fn judge(
     let some = lives_kept.as_slice();
     let some_lists = lists_kept.as_slice();
     let ends = fates_kept.as_slice();
-    let stray = stray_at(alloc, log)?;
-    let messages = unkept(alloc, log, stray)?;
-    let unmade = unmade_at(alloc, log, some)?;
-    let broken = broken_parts(alloc, malformed, log, some, some_lists, ends)?;
-    let unsuited = unsuited_at(alloc, log, some, ends)?;
+    let unmade = unmade_at(&log, some);
+    let broken = broken_parts(alloc, malformed, &log, some, some_lists, ends)?;
+    let unsuited = unsuited_at(alloc, &log, some, ends)?;
     Ok(Verdict {
         stray,
         unmade,

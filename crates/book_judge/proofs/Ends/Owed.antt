@@ -3,7 +3,7 @@ use Rattle.book_judge.proofs.Common.{◌≡◌, ℕ, ◌+◌, ◌≤◌, Bool, t
 use Rattle.std.proofs.Common.{nat_lt}
 use Rattle.std.specs.FinMap as map
 use Rattle.std.proofs.lemmas.Bool.{lt-ltb}
-use Rattle.book_judge.proofs.Mailboxes.{get_set}
+use Rattle.book_judge.proofs.Crossed.Mailboxes.{get_set}
 use Rattle.book_judge.specs.declared.fates.deeds.Act.TheVariants as act
 use Rattle.book_judge.specs.Inside.Changes.{owed_by_act}
 

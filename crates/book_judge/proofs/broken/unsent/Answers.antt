@@ -4,7 +4,7 @@ use Rattle.book_judge.specs.Inside.Sent.{SentAt}
 use Rattle.book_judge.specs.Inside.Starts.{AreStarts}
 use Rattle.book_judge.specs.declared.arrivals.Arrival.{Arrival}
 use Rattle.book_judge.specs.declared.starts.Start.{Start}
-use Rattle.book_judge.proofs.Counted.{sent_none, sent_some}
+use Rattle.book_judge.proofs.Crossed.Counted.{sent_none, sent_some}
 use Rattle.book_judge.proofs.broken.unsent.Goals as goal
 
 pub unsent_at-requires-clause-counts : goal.unsent_at-requires-clause-counts

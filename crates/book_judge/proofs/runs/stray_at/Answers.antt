@@ -1,5 +1,5 @@
 use Rattle.book_judge.proofs.Common.{sym, subst, ◌∙◌, [], arith, Mail}
-use Rattle.book_judge.proofs.Mailboxes.{Agrees, opening_agrees, goes_on, strays, whole_run}
+use Rattle.book_judge.proofs.Crossed.Mailboxes.{Agrees, opening_agrees, goes_on, strays, whole_run}
 use Rattle.book_judge.proofs.runs.stray_at.Goals as goal
 
 pub loop-place-init : goal.loop-place-init

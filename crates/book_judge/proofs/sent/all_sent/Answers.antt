@@ -1,6 +1,6 @@
 use Rattle.book_judge.proofs.Common.{◌∙◌, ◌-◌, ap, length, take, true, subst, Flow, flow_of, texts_by}
 use Rattle.book_judge.specs.Inside.Sent.{Rises}
-use Rattle.book_judge.proofs.Numbered.{count_all, each_all, each_tells, last_tells, none_sent, on_true}
+use Rattle.book_judge.proofs.Crossed.Numbered.{count_all, each_all, each_tells, last_tells, none_sent, on_true}
 use Rattle.book_judge.proofs.sent.all_sent.Goals as goal
 
 pub returns-then-past-start : goal.returns-then-past-start

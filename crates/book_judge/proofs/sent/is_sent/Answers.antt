@@ -1,5 +1,5 @@
 use Rattle.book_judge.proofs.Common.{◌∙◌, sym}
-use Rattle.book_judge.proofs.Numbered.{sender_sent, sent_told, unlinked_sent}
+use Rattle.book_judge.proofs.Crossed.Numbered.{sender_sent, sent_told, unlinked_sent}
 use Rattle.book_judge.proofs.sent.is_sent.Goals as goal
 
 pub returns-then-not-receives : goal.returns-then-not-receives

@@ -1,7 +1,7 @@
 use Rattle.book_judge.proofs.Common.{Option, refl, subst}
 use Rattle.book_judge.specs.Inside.Arrivals.{ArrivalOf}
 use Rattle.book_judge.specs.declared.arrivals.Arrival.{Arrival}
-use Rattle.book_judge.proofs.Numbered.{steady_told}
+use Rattle.book_judge.proofs.Crossed.Numbered.{steady_told}
 use Rattle.book_judge.proofs.sent.is_steady.Goals as goal
 
 pub returns-in-Some : goal.returns-in-Some
