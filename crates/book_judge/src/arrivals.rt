@@ -63,12 +63,14 @@ fn arrival_at(log: &IndexedLog<'_>, arrivals: &[Arrival], place: usize) -> Arriv
     requires earlier { AreArrivals place arrivals.now log.now }
     ensures { IsArrivalAt log.now place result }
 {
-    let Some(message) = message_of(true, &log.crossings()[place]) else {
+    let crossed = log.crossings();
+    let into = log.came();
+    let Some(message) = message_of(true, &crossed[place]) else {
         return Arrival { sent: 0, since: 0 };
     };
-    let number = log.came().between(&message.flow, 0, place);
+    let number = into.between(&message.flow, 0, place);
     let sent = log.went().between(&message.flow, 0, place);
-    let since = since_of(log.came(), arrivals, &message.flow, number, sent);
+    let since = since_of(into, arrivals, &message.flow, number, sent);
     Arrival { sent, since }
 }
 
@@ -78,8 +80,9 @@ fn arrival_at(log: &IndexedLog<'_>, arrivals: &[Arrival], place: usize) -> Arriv
 pub(crate) fn arrivals_of(alloc: Global, log: &IndexedLog<'_>) -> Result<Vec<Arrival>, AllocError>
     ensures { IfOk result (λ arrivals. AreArrivals (length log.now) arrivals.items log.now) }
 {
+    let crossed = log.crossings();
     let mut arrivals = Vec::new(alloc);
-    for place in 0..log.crossings().len() {
+    for place in 0..crossed.len() {
         let arrival = arrival_at(log, &arrivals, place);
         arrivals.push(arrival)?;
     }

@@ -184,7 +184,8 @@ fn unsent(
 {
     let arrivals = arrivals_of(alloc, log)?;
     let starts = starts_of(alloc, log, lives)?;
-    match unsent_at(log.came(), &arrivals, &starts, last, before, names, lives) {
+    let into = log.came();
+    match unsent_at(into, &arrivals, &starts, last, before, names, lives) {
         Some(place) => Ok(Some(with_match(names, lives, place))),
         None => Ok(None),
     }

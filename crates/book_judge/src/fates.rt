@@ -246,12 +246,13 @@ pub fn unsuited_at(
 ) -> Result<Option<usize>, AllocError>
     ensures { IfOk result (λ found. MatchOption found (AreSuited (reverse log.now) lives.now fates.now) (λ place. UnsuitedAt (reverse log.now) lives.now fates.now place)) }
 {
+    let crossed = log.crossings();
     let courses = log.courses();
     let cuts = courses.cuts(alloc)?;
     let mut ends = KeyMap::new(alloc);
     for (place, life) in lives.iter().enumerate() {
         let fate = fate_at(fates, place);
-        let said = courses.said(&cuts, log.crossings().len(), life, fate);
+        let said = courses.said(&cuts, crossed.len(), life, fate);
         if !courses.suits(life, fate) || !agrees(&ends, life, said) {
             return Ok(Some(place));
         }

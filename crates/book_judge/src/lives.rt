@@ -101,8 +101,10 @@ fn is_made(log: &IndexedLog<'_>, life: &Life, until: usize) -> bool
 pub fn unmade_at(log: &IndexedLog<'_>, lives: &[Life]) -> Option<usize>
     ensures { MatchOption result (AreMade (reverse log.now) lives.now) (λ place. UnmadeAt (reverse log.now) lives.now place) }
 {
+    let crossed = log.crossings();
+    let courses = log.courses();
     for (place, life) in lives.iter().enumerate() {
-        let end = log.courses().end(log.crossings().len(), life);
+        let end = courses.end(crossed.len(), life);
         if !is_made(log, life, end) {
             return Some(place);
         }

@@ -76,12 +76,13 @@ pub(crate) fn found_at(found: &[Option<usize>], place: usize) -> Option<usize>
 fn partner_of(log: &IndexedLog<'_>, life: &Life) -> Option<Name>
     ensures { MatchOption result (IsStamped (reverse log.now) life.now → ⊥) (λ name. IsStamped (reverse log.now) life.now × (partner_request (reverse log.now) life.now ≡ Some name)) }
 {
+    let crossed = log.crossings();
     let goes = control_flow(life.host, life.peer);
     let comes = control_flow(life.peer, life.host);
-    if !passes_at(log.crossings(), false, &goes, life.own_stamp) {
+    if !passes_at(crossed, false, &goes, life.own_stamp) {
         return None;
     }
-    if !passes_at(log.crossings(), true, &comes, life.partner_stamp) {
+    if !passes_at(crossed, true, &comes, life.partner_stamp) {
         return None;
     }
     match found_at(log.outs(), life.partner_stamp) {

@@ -1,6 +1,10 @@
 //! Where the messages of lives begin.
 
-ghost use Rattle.std.specs.Prelude.{◌≡◌, IfOk, length, slice_get};
+ghost use Rattle.std.specs.Prelude.{◌≡◌, IfOk, length, slice_get, take};
+ghost use Rattle.promise.specs.Formed as formed;
+ghost use Rattle.promise.specs.Safe as safe;
+ghost use Rattle.book_judge.specs.Inside.Joined.{texts_by};
+ghost use Rattle.book_judge.specs.Inside.Made as made;
 ghost use Rattle.book_judge.specs.Inside.Starts as tests;
 ghost use Rattle.book_judge.specs.Inside.Starts.{AreStarts, IsStart};
 
@@ -30,19 +34,25 @@ pub(crate) struct Taking {
     pub(crate) sent: usize,
 }
 
+/// Returns how many messages had crossed on a link of a life when both its requests had.
+fn before_both(log: &IndexedLog<'_>, life: &Life, link: u8) -> usize
+    ensures { result ≡ length (texts_by (safe.receives life.now) (formed.flow_of life.now link) (take (made.since life.now) log.now)) }
+{
+    let flow = flow_of(life, link);
+    let crossed = log.crossings();
+    let until = since(crossed, life);
+    if receives(life) {
+        return log.came().between(&flow, 0, until);
+    }
+    log.went().between(&flow, 0, until)
+}
+
 /// Returns where the messages of a life begin; `None` where nothing names its link.
 fn start_of(log: &IndexedLog<'_>, life: &Life) -> Option<Start>
     ensures { IsStart log.now life.now result }
 {
-    let crossed = log.crossings();
-    let link = link_of(crossed, life)?;
-    let flow = flow_of(life, link);
-    let until = since(crossed, life);
-    let before = if receives(life) {
-        log.came().between(&flow, 0, until)
-    } else {
-        log.went().between(&flow, 0, until)
-    };
+    let link = link_of(log.crossings(), life)?;
+    let before = before_both(log, life, link);
     Some(Start { link, before })
 }
 

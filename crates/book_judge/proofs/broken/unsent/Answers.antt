@@ -17,7 +17,7 @@ pub with_match-requires : goal.with_match-requires
 with_match-requires c = (
   (subst (λ (o : Option ℕ). FoundFirst (SentAt c.args.log.now c.deref-2.result.now c.args.names.now c.args.lives.now) (length c.args.lives.now) o)
       c.in-Some.is (c.unsent_at.ensures c.args.log.now (
-        c.in_ok-into.ensures,
+        c.came-into.ensures,
         subst (λ (es : List Arrival). AreArrivals (length c.args.log.now) es c.args.log.now) (sym c.deref.ensures.value) c.in_ok-arrivals.ensures,
       ))).0,
   c.requires.named.counts,
@@ -31,7 +31,7 @@ returns-in-Some c =
     c.in-Some.place c.with_match.result
     (subst (λ (o : Option ℕ). FoundFirst (SentAt c.args.log.now c.deref-2.result.now c.args.names.now c.args.lives.now) (length c.args.lives.now) o)
     c.in-Some.is (c.unsent_at.ensures c.args.log.now (
-      c.in_ok-into.ensures,
+      c.came-into.ensures,
       subst (λ (es : List Arrival). AreArrivals (length c.args.log.now) es c.args.log.now) (sym c.deref.ensures.value) c.in_ok-arrivals.ensures,
     )))
     (c.with_match.ensures (reverse c.args.log.now) c.requires.named)
@@ -43,6 +43,6 @@ returns c =
     (sym c.deref-2.ensures.value) c.in_ok-starts.ensures)
     (subst (λ (o : Option ℕ). FoundFirst (SentAt c.args.log.now c.deref-2.result.now c.args.names.now c.args.lives.now) (length c.args.lives.now) o)
     c.in-None.is (c.unsent_at.ensures c.args.log.now (
-      c.in_ok-into.ensures,
+      c.came-into.ensures,
       subst (λ (es : List Arrival). AreArrivals (length c.args.log.now) es c.args.log.now) (sym c.deref.ensures.value) c.in_ok-arrivals.ensures,
     )))

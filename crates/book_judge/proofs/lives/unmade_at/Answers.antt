@@ -1,4 +1,4 @@
-use Rattle.book_judge.proofs.Common.{arith, reverse, deeds_in}
+use Rattle.book_judge.proofs.Common.{Crossing, List, ap, arith, deeds_in, end_after, length, reverse, ◌∙◌}
 use Rattle.book_judge.proofs.Crossed.Made.{all_made, made_more, made_until, none_yet, unmade_here, until_made}
 use Rattle.book_judge.proofs.lives.unmade_at.Goals as goal
 
@@ -10,7 +10,8 @@ loop-place-preserved c =
     made_more c.args.log.now c.args.lives.now c.loop-place.place c.index-lives-place.result c.loop-place-test.true
     c.index-lives-place.is
     (made_until c.args.log.now c.index-lives-place.result c.end-end.result
-    (c.end-end.ensures (deeds_in (reverse c.args.log.now)) c.in_ok-courses.ensures) c.if-not-is_made.ensures)
+    (c.end-end.ensures (deeds_in (reverse c.args.log.now)) c.courses-courses.ensures
+    ∙ ap (λ (xs : List Crossing). end_after (length xs) (deeds_in (reverse c.args.log.now)) c.index-lives-place.result) c.crossings-crossed.ensures) c.if-not-is_made.ensures)
     c.loop-place.invariant
 
 pub returns-then-not-is_made : goal.returns-then-not-is_made
@@ -18,7 +19,8 @@ returns-then-not-is_made c =
     unmade_here c.args.log.now c.args.lives.now c.loop-place.place c.index-lives-place.result c.loop-place-test.true
     c.index-lives-place.is
     (λ made. c.if-not-is_made.ensures (until_made c.args.log.now c.index-lives-place.result c.end-end.result
-    (c.end-end.ensures (deeds_in (reverse c.args.log.now)) c.in_ok-courses.ensures) made)) c.loop-place.invariant
+    (c.end-end.ensures (deeds_in (reverse c.args.log.now)) c.courses-courses.ensures
+    ∙ ap (λ (xs : List Crossing). end_after (length xs) (deeds_in (reverse c.args.log.now)) c.index-lives-place.result) c.crossings-crossed.ensures) made)) c.loop-place.invariant
 
 pub returns : goal.returns
 returns c =
