@@ -1,5 +1,5 @@
 -- The promise of a book, put together from its parts, and what else is so of its world.
-use Rattle.std.proofs.Common.{◌≡◌, List, [], ◌∷◌, ◌++◌, subst}
+use Rattle.std.proofs.Common.{◌≡◌, List, [], ◌∷◌, ◌++◌, false, subst, sym, true}
 use Rattle.interface.specs.Calls.{Seen}
 use Rattle.interface.specs.Host.{Host}
 use Rattle.interface.specs.Mailboxes.{IsRun}
@@ -12,10 +12,17 @@ use Rattle.promise.specs.Arrived.{ArrivedBook}
 use Rattle.promise.specs.Ends.{AreContacts, AreLeft}
 use Rattle.promise.specs.Fates.{AreFated, ClosesWhole}
 use Rattle.promise.specs.Promised.{Promised}
+use Rattle.promise.specs.declared.life.Life.{Life}
+use Rattle.net_sim.proofs.lemmas.AllOurs.{happened}
+use Rattle.net_sim.specs.Story.{Moment}
+use Rattle.net_sim.specs.Timeline.{crossings_of}
+use Rattle.mixed_worlds.specs.Laws.{Among}
 use Rattle.headline.specs.Promise.{IsExact, KeepsPromise}
 use Rattle.world_keeps_connections.proofs.lemmas.{world_joined}
 use Rattle.world_keeps_lives.proofs.lemmas.{world_drained, world_handed, world_taken, world_told}
-use Rattle.world_keeps_pairing.proofs.lemmas.{world_alone, world_partners}
+use Rattle.world_keeps_lives.proofs.lemmas.AllOurs.{lives_all}
+use Rattle.world_keeps_pairing.proofs.lemmas.{book_lives, book_run, world_alone, world_partners}
+use Rattle.world_keeps_streams.specs.Granted.{EachIsWithin}
 use Rattle.world_keeps_streams.specs.Sent.{EachWasSent}
 use Rattle.world_keeps_streams.specs.Within.{CountNothingLater}
 use Rattle.world_keeps_streams.proofs.lemmas.{world_agrees, world_answered, world_arrives, world_calms, world_came, world_closes, world_comes, world_firsts, world_formed, world_handed_over, world_rests, world_sent, world_settles, world_source}
@@ -67,13 +74,30 @@ exact seen w lawful = record {
   firsts = world_firsts seen (seen w.carrier).hosts w lawful;
 }
 
+-- what each life sent is within its grants, since that is so of any network, whoever is a stranger there
+pub within_grants : Among → {C : Type 0} (seen : C → Seen) (w : WorldState C) → IsLawful seen (seen w.carrier).hosts w
+    → EachIsWithin w.kept.book.crossings w.kept.book.lives
+within_grants law seen w lawful =
+    let hosts : List Host = (seen w.carrier).hosts in
+    let moments : List Moment = lawful.whole.moments in
+    let run : IsRun hosts (crossings_of moments) = book_run seen hosts w lawful in
+    subst (λ (log : List Crossing). EachIsWithin log w.kept.book.lives) (sym lawful.whole.crossings)
+    (subst (λ (lives : List Life). EachIsWithin (crossings_of moments) lives) (sym (book_lives seen hosts w lawful))
+    (subst (λ (lives : List Life). EachIsWithin (crossings_of moments) lives) (lives_all hosts moments)
+    (law.granted (λ h. false) hosts moments (record {
+      addresses = lawful.addresses;
+      strangers = λ h is. absurd (let no : false ≡ true = is in cc);
+      run = run;
+      happen = happened hosts moments lawful.whole.timeline;
+    }))))
+
 -- so it is where a call promises each of the book that it gives
 pub given : {C : Type 0} (seen : C → Seen) (w : WorldState C) (k : Kept) → k ≡ w.kept → Promised (seen w.carrier).hosts k.book k.handed → AreFated k.book.lives k.fates
     → ClosesWhole k.book.crossings k.book.lives k.handed k.fates → ArrivedBook k.book.contacts k.book.crossings k.book.lives k.fates
     → AreLeft k.book.contacts k.book.crossings k.book.lives k.fates → AreContacts k.book.contacts k.book.crossings
     → CountNothingLater k.book.contacts k.book.crossings k.book.lives → EachWasSent k.book.crossings k.book.lives
-    → IsExact seen w → KeepsPromise seen w
-given seen w k is promised fated whole arrived over contacts within sent exact = record {
+    → EachIsWithin k.book.crossings k.book.lives → IsExact seen w → KeepsPromise seen w
+given seen w k is promised fated whole arrived over contacts within sent granted exact = record {
   promised = subst (λ (j : Kept). Promised (seen w.carrier).hosts j.book j.handed) is promised;
   fated = subst (λ (j : Kept). AreFated j.book.lives j.fates) is fated;
   whole = subst (λ (j : Kept). ClosesWhole j.book.crossings j.book.lives j.handed j.fates) is whole;
@@ -82,5 +106,6 @@ given seen w k is promised fated whole arrived over contacts within sent exact =
   contacts = subst (λ (j : Kept). AreContacts j.book.contacts j.book.crossings) is contacts;
   within = subst (λ (j : Kept). CountNothingLater j.book.contacts j.book.crossings j.book.lives) is within;
   sent = subst (λ (j : Kept). EachWasSent j.book.crossings j.book.lives) is sent;
+  granted = subst (λ (j : Kept). EachIsWithin j.book.crossings j.book.lives) is granted;
   exact = exact;
 }

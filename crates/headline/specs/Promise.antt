@@ -13,6 +13,7 @@ use Rattle.world_keeps_streams.specs.Arrivals.{AllArrive, AllCome}
 use Rattle.world_keeps_streams.specs.Came.{AllCame}
 use Rattle.world_keeps_streams.specs.Closes.{AllClose, AllHanded}
 use Rattle.world_keeps_streams.specs.Rests.{AllAgree, AllCalm, AllRest}
+use Rattle.world_keeps_streams.specs.Granted.{EachIsWithin}
 use Rattle.world_keeps_streams.specs.Sent.{EachWasSent}
 use Rattle.world_keeps_streams.specs.Settled.{EachAgrees, HasSettled}
 use Rattle.world_keeps_streams.specs.Within.{CountNothingLater}
@@ -45,4 +46,5 @@ pub record KeepsPromise {C : Type 0} (seen : C → Seen) (w : WorldState C) : Ty
   pub contacts : AreContacts w.kept.book.contacts w.kept.book.crossings
   pub within : CountNothingLater w.kept.book.contacts w.kept.book.crossings w.kept.book.lives
   pub sent : EachWasSent w.kept.book.crossings w.kept.book.lives
+  pub granted : EachIsWithin w.kept.book.crossings w.kept.book.lives
   pub exact : IsExact seen w

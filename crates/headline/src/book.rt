@@ -6,10 +6,12 @@ ghost use Rattle.promise.specs.Arrived.{ArrivedBook};
 ghost use Rattle.promise.specs.Ends.{AreContacts, AreLeft};
 ghost use Rattle.promise.specs.Fates.{AreFated, ClosesWhole};
 ghost use Rattle.promise.specs.Promised.{Promised};
+ghost use Rattle.world_keeps_streams.specs.Granted.{EachIsWithin};
 ghost use Rattle.world_keeps_streams.specs.Sent.{EachWasSent};
 ghost use Rattle.world_keeps_streams.specs.Within.{CountNothingLater};
 
 use interface::Carrier;
+use mixed_worlds::law::among;
 use net_sim::{Book, World};
 
 /// Returns the book of a world. It keeps the promise, whatever the world's carrier is made of and whatever happened.
@@ -25,6 +27,7 @@ use net_sim::{Book, World};
 /// - `contacts`: `AreContacts`. What a host sends to another next after a contact with it is an RST.
 /// - `within`: `CountNothingLater`. A life that is over counts no message that crossed after what ended it.
 /// - `sent`: `EachWasSent`. The k-th message that a receiving life counts is the k-th of the life that it matches.
+/// - `granted`: `EachIsWithin`. What a sending life sent is within what the ALLs grant on its link that its host took.
 ///
 /// By `lawful` the world is exact (`IsExact`): the book says what the programs of all hosts make of what crossed and of
 /// what their users asked for.
@@ -39,6 +42,8 @@ pub fn book_of<C: Carrier>(world: &World<C>) -> Book<'_>
     ensures contacts { AreContacts result.book.contacts result.book.crossings }
     ensures within { CountNothingLater result.book.contacts result.book.crossings result.book.lives }
     ensures sent { EachWasSent result.book.crossings result.book.lives }
+    ensures granted { EachIsWithin result.book.crossings result.book.lives }
 {
+    among();
     world.book()
 }

@@ -19,6 +19,7 @@ pub mod DataNotices
 pub mod Granted
 pub mod Carried
 pub mod CarriedLives
+pub mod LinkGrants
 pub mod Once
 pub mod OnceGone
 pub mod OnceLives

@@ -17,6 +17,7 @@ use Rattle.net_sim.specs.Timeline.{contacts_of}
 use Rattle.net_sim.specs.Told.{without_reports}
 use Rattle.net_sim.specs.World.{WorldState}
 use Rattle.world_keeps_lives.specs.Lives.{IsBounded}
+use Rattle.world_keeps_streams.specs.Granted.{EachIsWithin}
 use Rattle.world_keeps_streams.specs.Sent.{EachWasSent}
 use Rattle.world_keeps_streams.specs.Within.{CountNothingLater}
 use Rattle.mixed_worlds.specs.Arrived.{ArrivedAmong}
@@ -79,6 +80,8 @@ module _ {C : Type 0} (strange : Host → Bool) (seen : C → Seen) (hosts : Lis
         (lives_among strange k.book.lives)) (law.within strange hosts moments world_mixed);
     sent = kept (λ xs k. EachWasSent xs (lives_among strange k.book.lives))
         (law.sent strange hosts moments world_mixed);
+    granted = kept (λ xs k. EachIsWithin xs (lives_among strange k.book.lives))
+        (law.granted strange hosts moments world_mixed);
     joined = kept (λ xs k. JoinedBook (record k.book {
       reports = w.kept.book.reports;
       lives = lives_among strange k.book.lives;

@@ -33,6 +33,7 @@ use Rattle.net_sim.specs.Told.{host_in, notices_by}
 use Rattle.net_sim.specs.World.{WorldState}
 use Rattle.world_keeps_lives.specs.Lives.{HasOpenEnd, IsBounded, IsFreeSocket, IsOwned}
 use Rattle.world_keeps_streams.specs.Rests.{Agree, AreOpen}
+use Rattle.world_keeps_streams.specs.Granted.{EachIsWithin}
 use Rattle.world_keeps_streams.specs.Sent.{EachWasSent}
 use Rattle.world_keeps_streams.specs.Within.{CountNothingLater}
 use Rattle.mixed_worlds.specs.Arrived.{ArrivedAmong}
@@ -106,6 +107,10 @@ pub record Among : Type 0 where
   pub sent :
       (strange : Host → Bool) (hosts : List Host) (moments : List Moment) → IsMixed strange hosts moments →
       EachWasSent (crossings_of moments) (lives_among strange (mixed_kept strange moments).book.lives)
+  -- and what a sending one sent is within what the ALLs grant on its link that its host took
+  pub granted :
+      (strange : Host → Bool) (hosts : List Host) (moments : List Moment) → IsMixed strange hosts moments →
+      EachIsWithin (crossings_of moments) (lives_among strange (mixed_kept strange moments).book.lives)
   -- what their users are notified of data are the messages of data that crossed among them
   pub told :
       (strange : Host → Bool) (hosts : List Host) (moments : List Moment) → IsMixed strange hosts moments →
@@ -198,7 +203,8 @@ pub record Toward : Type 0 where
 -- among them loses nothing, and a finished initial connection pairs the right four sockets. Each of these lives has its
 -- fate (`fated`), which what crossed and the contacts among these hosts leave it (`over`); a contact among them is
 -- followed by an RST (`contacts`); what a life counts crossed before it was over (`within`), and the k-th message that a
--- receiving one counts is the k-th of the one that it matches (`sent`); and an open one has all that came for it, so
+-- receiving one counts is the k-th of the one that it matches (`sent`); what a sending one sent is within what the ALLs
+-- grant that its host took (`granted`); and an open one has all that came for it, so
 -- RFNM of data among these hosts means that they have arrived (`arrived`)
 pub record KeepsAmong {C : Type 0} (strange : Host → Bool) (hosts : List Host) (w : WorldState C) : Type 0 where
   pub run : IsRun hosts w.kept.book.crossings
@@ -218,6 +224,7 @@ pub record KeepsAmong {C : Type 0} (strange : Host → Bool) (hosts : List Host)
   pub within : CountNothingLater (contacts_among strange w.kept.book.contacts) w.kept.book.crossings
       (lives_among strange w.kept.book.lives)
   pub sent : EachWasSent w.kept.book.crossings (lives_among strange w.kept.book.lives)
+  pub granted : EachIsWithin w.kept.book.crossings (lives_among strange w.kept.book.lives)
   pub joined : JoinedBook (record w.kept.book { lives = lives_among strange w.kept.book.lives })
 
 -- What it promises of each host with a program, toward strangers and all others

@@ -1,21 +1,18 @@
 -- What a host that runs the program keeps with each peer, whatever that sends (NIC 8246, RTS, STR, ALL and data
 -- messages).
-use Rattle.std.specs.Prelude.{◌≡◌, ◌⊎◌, ℕ, ◌+◌, ◌<◌, ◌≤◌, ◌==◌, ◌&&◌, Bool, true, false, List, [], ◌∷◌, ◌++◌, length}
-use Rattle.std.specs.Prelude.{IsSome, if◌then◌else◌, nat_le, nat_lt}
-use Rattle.interface.specs.Mailboxes.{same_flow}
+use Rattle.std.specs.Prelude.{◌≡◌, ◌⊎◌, ℕ, ◌+◌, ◌<◌, ◌==◌, Bool, true, false, List, [], ◌∷◌, ◌++◌, length}
+use Rattle.std.specs.Prelude.{IsSome}
 use Rattle.interface.specs.declared.address.Flow.{Flow}
 use Rattle.interface.specs.declared.crossing.Crossing.{Crossing}
 use Rattle.interface.specs.declared.crossing.Crossing.TheVariants as crossing
-use Rattle.host_pairs.specs.Control.{Legal, Order, orders_of}
 use Rattle.host_pairs.specs.declared.notice.Notice.{Notice}
 use Rattle.host_pairs.specs.declared.notice.Notice.TheVariants as notice
 use Rattle.ncp_control.specs.declared.command.Command.TheVariants as command
 use Rattle.promise.specs.Formed.{AreData, HasCrossed, coming, flow_of, going, own_named, partner_named}
-use Rattle.promise.specs.Safe.{AreTwo, Name, control_flow, own_request, receives, sends}
-use Rattle.promise.specs.declared.life.Amount.{Amount}
+use Rattle.promise.specs.Safe.{AreTwo, Name, own_request, receives, sends}
 use Rattle.promise.specs.declared.life.Life.{Life}
-use Rattle.net_sim.specs.Book.{more, nothing}
 use Rattle.net_sim.specs.Story.{Crossed, Moment}
+pub use Rattle.world_keeps_streams.specs.Granted.{IsWithin, granted_at, granted_in, granted_to, may_grant}
 
 -- both requests of a life crossed, for its two sockets: its own went out at its own stamp, and its partner's came in at
 -- its partner stamp. The RTS of the two names a link, and the STR a byte size. Nothing is said of its messages
@@ -55,36 +52,6 @@ IsNamed log x link = HasCrossed coming x.peer x.host x.partner_stamp (command.Rt
 -- this link is named by its own RTS for its two sockets, in the message that went out at its own stamp
 abbrev pub NamesItself : List Crossing → Life → ℕ → Type 0
 NamesItself log x link = HasCrossed going x.host x.peer x.own_stamp (command.Rts x.socket x.foreign link) log
-
--- the messages and bits that the ALLs in a text grant on a link, all together (NIC 8246, ALL)
-abbrev pub granted_in : ℕ → List Order → Amount
-granted_in link [] = nothing
-granted_in link (Legal (command.All other messages bits) ∷ orders) =
-    if other == link then more messages bits (granted_in link orders) else granted_in link orders
-granted_in link (o ∷ orders) = granted_in link orders
-
--- a life's host takes them at this place: after its own request went out, and in the message with its partner's request
--- or after it
-abbrev pub may_grant : Life → ℕ → Bool
-may_grant x place = nat_lt x.own_stamp place && nat_le x.partner_stamp place
-
--- what a crossing at a place grants a life: a message that comes in on link 0 from its peer
-abbrev pub granted_at : Life → ℕ → ℕ → Crossing → Amount
-granted_at x link place (crossing.In m) =
-    if may_grant x place && same_flow (control_flow x.peer x.host) m.flow then granted_in link (orders_of m.text)
-    else nothing
-granted_at x link place c = nothing
-
--- and all that crossed
-abbrev pub granted_to : Life → ℕ → List Crossing → Amount
-granted_to x link [] = nothing
-granted_to x link (c ∷ log) =
-    more (granted_at x link (length log) c).messages (granted_at x link (length log) c).bits (granted_to x link log)
-
--- what a life sent is within what its peer granted on this link
-pub record IsWithin (log : List Crossing) (x : Life) (link : ℕ) : Type 0 where
-  pub messages : x.messages ≤ (granted_to x link log).messages
-  pub bits : length x.bits ≤ (granted_to x link log).bits
 
 -- the bits of a life are those of as many messages as it counts, on one link, after both its requests: they came in
 -- from its peer, or went out to it. A life that sends has the link that its peer named, and is within what its peer

@@ -39,6 +39,7 @@ pub fn among()
     ensures { Among }
 {
     streams::among();
+    orders();
 }
 
 /// A host with a program, toward strangers and all others.

@@ -14,7 +14,7 @@ pub use Rattle.world_keeps_lives.proofs.Drained.{handed_in}
 pub use Rattle.world_keeps_lives.proofs.Ends.{IsRefusing, found_changed, none_changed, refusing_found}
 pub use Rattle.world_keeps_lives.proofs.Facts.{no}
 pub use Rattle.world_keeps_lives.proofs.Firsts.Books.{WasAt, same_out}
-pub use Rattle.world_keeps_lives.proofs.Firsts.Ends.{HasOwner, Together, not_zero}
+pub use Rattle.world_keeps_lives.proofs.Firsts.Ends.{HasOwner, Together, not_zero, str_foreign}
 pub use Rattle.world_keeps_lives.proofs.Firsts.Full
 pub use Rattle.world_keeps_lives.proofs.Formed
 pub use Rattle.world_keeps_lives.proofs.Goes.{IsOfTwo, Waits, all_go, unasked_by}
@@ -24,7 +24,7 @@ pub use Rattle.world_keeps_lives.proofs.Hosts.{offer_holds, same_turned, waits}
 pub use Rattle.world_keeps_lives.proofs.Laws.{live_end, safe_life}
 pub use Rattle.world_keeps_lives.proofs.Laws
 pub use Rattle.world_keeps_lives.proofs.Firsts.Books
-pub use Rattle.world_keeps_lives.proofs.Firsts.Linked.{Linked, LinkedBook}
+pub use Rattle.world_keeps_lives.proofs.Firsts.Linked.{HasRequests, Linked, LinkedBook}
 pub use Rattle.world_keeps_lives.proofs.Moments.{opening_holds}
 pub use Rattle.world_keeps_lives.proofs.Named.{NamedAt, Names, found_at, named_again, named_is, named_there, names_of, some_named, way_of}
 pub use Rattle.world_keeps_lives.proofs.Named.{none_some}

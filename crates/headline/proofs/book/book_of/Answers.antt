@@ -7,9 +7,10 @@ use Rattle.promise.specs.Promised.{Promised}
 use Rattle.net_sim.proofs.lemmas.{world_fated}
 use Rattle.world_keeps_streams.proofs.lemmas.{world_arrived, world_contacts, world_ended, world_over}
 use Rattle.world_keeps_streams.proofs.lemmas.{world_was_sent, world_within}
+use Rattle.world_keeps_streams.specs.Granted.{EachIsWithin}
 use Rattle.world_keeps_streams.specs.Sent.{EachWasSent}
 use Rattle.world_keeps_streams.specs.Within.{CountNothingLater}
-use Rattle.headline.proofs.Promise.{exact, promised}
+use Rattle.headline.proofs.Promise.{exact, promised, within_grants}
 use Rattle.headline.proofs.book.book_of.Goals as goal
 
 pub returns-clause-promise : goal.returns-clause-promise
@@ -56,3 +57,8 @@ returns-clause-sent g c =
     subst (λ (k : Kept). EachWasSent k.book.crossings k.book.lives) (sym c.book.ensures.value)
     (world_was_sent g.C.Carrier.calls.seen
     (g.C.Carrier.calls.seen c.args.world.now.carrier).hosts c.args.world.now c.book.ensures.lawful)
+
+pub returns-clause-granted : goal.returns-clause-granted
+returns-clause-granted g c =
+    subst (λ (k : Kept). EachIsWithin k.book.crossings k.book.lives) (sym c.book.ensures.value)
+    (within_grants c.among.ensures g.C.Carrier.calls.seen c.args.world.now c.book.ensures.lawful)
