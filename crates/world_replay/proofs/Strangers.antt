@@ -183,7 +183,7 @@ abbrev there : Calls Seen
 there = any_carrier
 
 -- after each of the three events
-abbrev sent : MixedState Seen
+abbrev pub sent : MixedState Seen
 sent = record beside_third { world = changed (grown three_seen (crossing.Out hail ∷ [])) (crossing.Out hail ∷ []) world }
 
 abbrev heard : MixedState Seen
@@ -192,7 +192,7 @@ heard = record sent { world = world_moved (grown sent.world.carrier (crossing.In
 abbrev answered : MixedState Seen
 answered = record heard { world = changed (grown heard.world.carrier (crossing.Answer answer.Rfnm hail.flow ∷ [])) (crossing.Answer answer.Rfnm hail.flow ∷ []) heard.world }
 
-goes_out : HappensBy (mixed_kind there) beside_third (script.Happen (Out hail)) sent (Crossed (crossing.Out hail) ∷ [])
+pub goes_out : HappensBy (mixed_kind there) beside_third (script.Happen (Out hail)) sent (Crossed (crossing.Out hail) ∷ [])
 goes_out = record {
   outcome = Ok tt;
   gives = ((Ok tt, grown three_seen (crossing.Out hail ∷ []), record { running = refl; shown = refl }, inl (refl, refl)), refl);

@@ -9,5 +9,6 @@ pub mod Rounds
 pub mod Seen
 pub mod Steps
 pub mod Worked
+pub mod WorkedBeside
 pub mod WorkedMixed
 pub mod Laws

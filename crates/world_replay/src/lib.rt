@@ -23,6 +23,7 @@ mod told;
 mod turning;
 pub mod worked;
 pub mod worked_apart;
+pub mod worked_beside;
 pub mod worked_drives;
 pub mod worked_ends;
 pub mod worked_mixed;
