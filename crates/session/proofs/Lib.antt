@@ -1,4 +1,7 @@
+mod Heads
 mod Laws
 mod Lines
 mod Parts
+mod Sessions
+mod Strangers
 mod Turns

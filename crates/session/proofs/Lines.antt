@@ -53,7 +53,8 @@ some_long line h =
 
 -- nothing is heard at the end of the input only
 pub nothing : (whole : Bool) (line left : List ℕ) (ended : Bool) → IsHeard whole line left ended → length line ≡ 0
-    → (line ≡ []) × (left ≡ []) × (ended ≡ true)
-nothing true line left ended (some, going) none = absurd (let long : 1 ≤ length line = some_long line some in omega (arith, long, none))
-nothing false [] left ended (is_line, last, fin) none = (refl, last, fin)
+    → (line ≡ []) × (left ≡ []) × (whole ≡ false)
+nothing true line left ended (some, going) none =
+    absurd (let long : 1 ≤ length line = some_long line some in omega (arith, long, none))
+nothing false [] left ended (is_line, last, fin) none = (refl, last, refl)
 nothing false (x ∷ line) left ended heard none = absurd (omega (arith, none))

@@ -1,8 +1,8 @@
 -- One more line is answered.
-use Rattle.std.proofs.Common.{◌≡◌, ◌≢◌, ◌⊎◌, ◌==◌, ◌∙◌, inl, inr, ℕ, zero, suc, List, [], ◌∷◌, ◌++◌, filter, take, Option, refl, ap, ap₂, sym, subst}
+use Rattle.std.proofs.Common.{◌≡◌, ◌≢◌, ◌⊎◌, ◌==◌, ◌∙◌, ◌+◌, arith, length, inl, inr, ℕ, zero, suc, List, [], ◌∷◌, ◌++◌, filter, take, Option, refl, ap, ap₂, sym, subst}
 use Rattle.std.proofs.KnownBytes.{Appends-nil, Appends-trans, Consumes-nil, Consumes-trans}
 use Rattle.std.proofs.lemmas.Grind.{flat_map-append}
-use Rattle.std.proofs.lemmas.List.{append-nil, append_assoc, map-append}
+use Rattle.std.proofs.lemmas.List.{append-nil, append_assoc, length-append, map-append}
 use Rattle.std.proofs.lemmas.List.Elements.{All-append, All-cons, All-head, All-nil, All-tail, filter-append}
 use Rattle.std.proofs.lemmas.List.Splits.{slice_split_at}
 use Rattle.std.specs.Io.KnownBytes.{Appends}
@@ -40,7 +40,7 @@ last_line (u ∷ v ∷ turns) t h last some =
 
 -- ---- the events that lines ask for
 
-first_line : (line rest : List ℕ) → IsLine line → lines_of (ended_line line ++ rest) ≡ line ∷ lines_of rest
+pub first_line : (line rest : List ℕ) → IsLine line → lines_of (ended_line line ++ rest) ≡ line ∷ lines_of rest
 first_line line rest h = ap lines_of (append_assoc line (10 ∷ []) rest) ∙ slice_split_at (λ b. b == 10) line 10 rest h refl
 
 -- what lines ask for, and then what follows them asks for
@@ -76,8 +76,8 @@ take_more (u ∷ turns) t (suc n) = elim (take_more turns t n) [
 
 -- all lines so far have their ends and are answered, and the network is where their events lead
 pub record Standing {S E : Type 0} (spelled : E → List ℕ) (IsMeant : E → Type 0) (Replays : Replaying S E) (opening now : S)
-    (pending left : List ℕ) (input rest before mid : Option (List ℕ)) : Type 0 where
-  pub serves : Serves (Prints spelled IsMeant Replays opening) pending left input rest before mid
+    (pending left : List ℕ) (input rest before mid : Option (List ℕ)) (start read : ℕ) : Type 0 where
+  pub serves : Serves (Prints spelled IsMeant Replays opening) pending left input rest before mid start read
   pub ended : AreEnded serves.turns
   pub here : Leads spelled IsMeant Replays opening now (script_of serves.turns) (answers_of serves.turns)
 
@@ -96,9 +96,9 @@ module _ {S E : Type 0} {spelled : E → List ℕ} {IsMeant : E → Type 0} {Rep
         (goes_on opening mid new h.events k.events (answers_of turns) t.answer h.replayed k.replayed);
   }
 
-  pub stands : (opening : S) (pending : List ℕ) (input before : Option (List ℕ)) → Replays opening [] opening []
-      → Standing spelled IsMeant Replays opening opening pending pending input input before before
-  stands opening pending input before none =
+  pub stands : (opening : S) (pending : List ℕ) (input before : Option (List ℕ)) (read : ℕ) → Replays opening [] opening []
+      → Standing spelled IsMeant Replays opening opening pending pending input input before before read read
+  stands opening pending input before read none =
       let here : Leads spelled IsMeant Replays opening opening [] [] =
       record { events = []; asked = record { spelled = refl; meant = All-nil IsMeant }; replayed = none } in
       let P : List Turn → Type 0 = λ us. Prints spelled IsMeant Replays opening (script_of us) (answers_of us) in
@@ -107,7 +107,8 @@ module _ {S E : Type 0} {spelled : E → List ℕ} {IsMeant : E → Type 0} {Rep
           turns = [];
           more = [];
           heard = append-nil pending;
-          read = Consumes-nil input;
+          read_on = Consumes-nil input;
+          counted = omega arith;
           answers = record { lines = tt; in_turn = λ n. subst P (sym (take_none n)) (opening, here) };
           written = Appends-nil before;
         };
@@ -115,19 +116,25 @@ module _ {S E : Type 0} {spelled : E → List ℕ} {IsMeant : E → Type 0} {Rep
         here = here;
       }
 
-  module _ {opening now : S} {pending left line next : List ℕ} {input rest fresh before mid : Option (List ℕ)} {read all : ℕ}
-      (h : Standing spelled IsMeant Replays opening now pending left input rest before mid) (k : Hears left line next rest fresh read all) where
+  module _ {opening now : S} {pending left line next : List ℕ} {input rest fresh before mid : Option (List ℕ)} {start read all : ℕ}
+      (h : Standing spelled IsMeant Replays opening now pending left input rest before mid start read) (k : Hears left line next rest fresh read all) where
     heard : pending ++ (h.serves.more ++ k.more) ≡ script_of h.serves.turns ++ (line ++ next)
     heard = sym (append_assoc pending h.serves.more k.more) ∙ ap (λ xs. xs ++ k.more) h.serves.heard
         ∙ append_assoc (script_of h.serves.turns) left k.more ∙ ap (λ xs. script_of h.serves.turns ++ xs) k.parts
 
+    counted : all ≡ start + length (h.serves.more ++ k.more)
+    counted =
+        let both : length (h.serves.more ++ k.more) ≡ length h.serves.more + length k.more = length-append h.serves.more k.more in
+        omega (arith, both, h.serves.counted, k.counted)
+
     -- nothing more is heard
-    pub serves_end : line ≡ [] → next ≡ [] → Serves (Prints spelled IsMeant Replays opening) pending [] input fresh before mid
+    pub serves_end : line ≡ [] → next ≡ [] → Serves (Prints spelled IsMeant Replays opening) pending [] input fresh before mid start all
     serves_end none last = record {
       turns = h.serves.turns;
       more = h.serves.more ++ k.more;
       heard = heard ∙ ap₂ (λ (xs ys : List ℕ). script_of h.serves.turns ++ (xs ++ ys)) none last;
-      read = Consumes-trans input rest fresh h.serves.more k.more h.serves.read k.consumed;
+      read_on = Consumes-trans input rest fresh h.serves.more k.more h.serves.read_on k.consumed;
+      counted = counted;
       answers = h.serves.answers;
       written = h.serves.written;
     }
@@ -139,7 +146,7 @@ module _ {S E : Type 0} {spelled : E → List ℕ} {IsMeant : E → Type 0} {Rep
       leads : Leads spelled IsMeant Replays opening new (script_of answered) (answers_of answered)
       leads = leads_more goes_on opening now new h.serves.turns (record { line = line; answer = said.answer }) h.ended h.here said.leads
 
-      serves_more : AreLines answered → Serves (Prints spelled IsMeant Replays opening) pending next input fresh before after
+      serves_more : AreLines answered → Serves (Prints spelled IsMeant Replays opening) pending next input fresh before after start all
       serves_more lines =
           let t : Turn = record { line = line; answer = said.answer } in
           let P : List Turn → Type 0 = λ us. Prints spelled IsMeant Replays opening (script_of us) (answers_of us) in
@@ -147,7 +154,8 @@ module _ {S E : Type 0} {spelled : E → List ℕ} {IsMeant : E → Type 0} {Rep
             turns = answered;
             more = h.serves.more ++ k.more;
             heard = heard ∙ sym (append_assoc (script_of h.serves.turns) line next) ∙ ap (λ xs. xs ++ next) (sym (script_more h.serves.turns t));
-            read = Consumes-trans input rest fresh h.serves.more k.more h.serves.read k.consumed;
+            read_on = Consumes-trans input rest fresh h.serves.more k.more h.serves.read_on k.consumed;
+            counted = counted;
             answers = record {
               lines = lines;
               in_turn = λ n. elim (take_more h.serves.turns t n) [
@@ -160,7 +168,7 @@ module _ {S E : Type 0} {spelled : E → List ℕ} {IsMeant : E → Type 0} {Rep
           }
 
       -- the line is answered
-      pub stands_more : IsEnded line → Standing spelled IsMeant Replays opening new pending next input fresh before after
+      pub stands_more : IsEnded line → Standing spelled IsMeant Replays opening new pending next input fresh before after start all
       unfolding serves_more
       stands_more ended =
           let all : AreEnded answered = All-append (λ (t : Turn). IsEnded t.line) h.serves.turns (record { line = line; answer = said.answer } ∷ []) h.ended
@@ -168,6 +176,6 @@ module _ {S E : Type 0} {spelled : E → List ℕ} {IsMeant : E → Type 0} {Rep
           record { serves = serves_more (all_lines answered all); ended = all; here = leads }
 
       -- so is the last one, which has no end
-      pub serves_last : IsLine line → line ≢ [] → next ≡ [] → Serves (Prints spelled IsMeant Replays opening) pending [] input fresh before after
-      serves_last last some none = subst (λ (xs : List ℕ). Serves (Prints spelled IsMeant Replays opening) pending xs input fresh before after) none
+      pub serves_last : IsLine line → line ≢ [] → next ≡ [] → Serves (Prints spelled IsMeant Replays opening) pending [] input fresh before after start all
+      serves_last last some none = subst (λ (xs : List ℕ). Serves (Prints spelled IsMeant Replays opening) pending xs input fresh before after start all) none
           (serves_more (last_line h.serves.turns (record { line = line; answer = said.answer }) h.ended last some))

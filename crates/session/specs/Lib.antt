@@ -1,4 +1,5 @@
 pub mod Hearing
 pub mod Laws
 pub mod Networks
+pub mod Session
 pub mod Turns

@@ -1,5 +1,5 @@
 -- A session: the lines of a script as they come, and what each is answered.
-use Rattle.std.specs.Prelude.{◌≡◌, ◌≢◌, ◌⊎◌, ◌++◌, ℕ, List, [], ◌∷◌, Option, take}
+use Rattle.std.specs.Prelude.{◌≡◌, ◌≢◌, ◌⊎◌, ◌++◌, ◌+◌, ℕ, List, [], ◌∷◌, Option, length, take}
 use Rattle.std.specs.Io.KnownBytes.{Appends, Consumes}
 use Rattle.std.specs.List.{flat_map}
 use Rattle.script.specs.Input.{ended_line}
@@ -33,12 +33,14 @@ pub record AnswersInTurn (Prints : List ℕ → List ℕ → Type 0) (turns : Li
   pub lines : AreLines turns
   pub in_turn : (n : ℕ) → Prints (script_of (take n turns)) (answers_of (take n turns))
 
--- what was read earlier and what is read now are these lines and what is left, and the lines are answered in turn
-pub record Serves (Prints : List ℕ → List ℕ → Type 0) (pending left : List ℕ) (input rest before after : Option (List ℕ)) : Type 0 where
+-- what was read earlier and what is read now are these lines and what is left, and the lines are answered in turn. Of the input so many
+-- octets were read before, and so many in all
+pub record Serves (Prints : List ℕ → List ℕ → Type 0) (pending left : List ℕ) (input rest before after : Option (List ℕ)) (read all : ℕ) : Type 0 where
   pub turns : List Turn
   pub more : List ℕ
   pub heard : pending ++ more ≡ script_of turns ++ left
-  pub read : Consumes input rest more
+  pub read_on : Consumes input rest more
+  pub counted : all ≡ read + length more
   pub answers : AnswersInTurn Prints turns
   pub written : Appends before after (session_of turns)
 

@@ -1,6 +1,7 @@
 //! Answering the lines of a reader, one after the other.
 
-ghost use Rattle.std.specs.Prelude.{◌≡◌, ◌≢◌, ◌≤◌, ◌↔◌, [], Err, IfErr, OnOk, false, length, true};
+ghost use Rattle.std.specs.Prelude.{◌≡◌, ◌≢◌, ◌≤◌, ◌↔◌, [], Err, IfErr, OnOk, false, length, true, ℕ};
+ghost use Rattle.std.specs.Io.KnownBytes.{IsAtEnd};
 ghost use Rattle.session.specs.Turns.{IsAnswered, Prints, Serves};
 
 use crate::hearing::hear;
@@ -32,8 +33,8 @@ pub fn answer_lines<E: ScriptEvent, S: Stage<E, W>, R: Source, W: Output>(
     requires short { read ≤ MAX_INPUT }
 
     // all lines are answered in turn, to the end of the input
-    ensures served { OnOk result (Serves (Prints E.spelled E.is_meant S.replays stage.old) pending.old.items [] (R.remaining reader.old) (R.remaining reader.new) (W.contents writer.old) (W.contents writer.new)) }
-    ensures ended { OnOk result (R.ended reader.new ≡ true) }
+    ensures served { OnOk result ((all : ℕ) × (all ≤ MAX_INPUT) × Serves (Prints E.spelled E.is_meant S.replays stage.old) pending.old.items [] (R.remaining reader.old) (R.remaining reader.new) (W.contents writer.old) (W.contents writer.new) read all) }
+    ensures end { OnOk result (IsAtEnd (R.remaining reader.new)) }
     ensures handed { OnOk result (W.flushed writer.new ≡ true) }
     ensures cannot_read { (result ≡ Err ScriptFault.CannotRead) ↔ (R.failed reader.new ≡ true) }
     ensures cannot_write { (result ≡ Err ScriptFault.CannotWrite) ↔ (W.failed writer.new ≡ true) }

@@ -1,6 +1,7 @@
 //! Hearing the lines of a reader.
 
 ghost use Rattle.std.specs.Prelude.{◌≡◌, ◌≢◌, ◌≤◌, ◌↔◌, ◌++◌, Err, IfErr, IfOk, MatchOption, false, length, true};
+ghost use Rattle.std.specs.Io.KnownBytes.{IsAtEnd};
 ghost use Rattle.session.specs.Hearing.{EndsAt, Hears, IsHeard, IsLine};
 
 use command_line::{ScriptFault, Source};
@@ -45,6 +46,7 @@ pub fn hear<R: Source, W: Output>(
     requires handed { W.flushed _writer.now ≡ true }
     ensures hears { IfOk result (λ h. Hears pending.old.items h.line.items pending.new.items (R.remaining reader.old) (R.remaining reader.new) read h.read) }
     ensures heard { IfOk result (λ h. IsHeard h.ended h.line.items pending.new.items (R.ended reader.new)) }
+    ensures end { IfOk result (λ h. h.ended ≡ false → IsAtEnd (R.remaining reader.new)) }
     ensures short { IfOk result (λ h. h.read ≤ MAX_INPUT) }
     ensures fault { IfErr result (λ f. f ≢ ScriptFault.CannotWrite) }
     ensures failed { (result ≡ Err ScriptFault.CannotRead) ↔ (R.failed reader.new ≡ true) }

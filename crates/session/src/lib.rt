@@ -9,12 +9,15 @@
 #![tactic(auto)]
 
 mod answering;
+mod head;
 mod hearing;
 pub mod law;
 mod networks;
+mod running;
 mod stage;
 
 pub use answering::answer_lines;
 pub use hearing::{Heard, hear};
 pub use networks::Bare;
+pub use running::run_session;
 pub use stage::Stage;

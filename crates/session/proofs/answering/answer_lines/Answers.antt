@@ -11,7 +11,7 @@ lines-init g c = (
   c.requires.handed,
   c.requires.short,
   omega (arith, c.requires.pending),
-  stands c.args.stage.now c.args.pending.now.items (g.R.Source.remaining c.args.reader.now) (g.W.Output.contents c.args.writer.now) c.opens.ensures,
+  stands c.args.stage.now c.args.pending.now.items (g.R.Source.remaining c.args.reader.now) (g.W.Output.contents c.args.writer.now) c.args.read c.opens.ensures,
 )
 
 pub answer-requires-clause-short : goal.answer-requires-clause-short
@@ -26,18 +26,22 @@ pub returns-then-is_empty-clause-served : goal.returns-then-is_empty-clause-serv
 returns-then-is_empty-clause-served g c =
     let none : length c.in_ok-heard.heard.line.items ≡ 0 = search rules in
     let end = nothing c.in_ok-heard.heard.ended c.in_ok-heard.heard.line.items c.hear.new.pending.items (g.R.Source.ended c.hear.new.reader) c.in_ok-heard.ensures.heard none in
-    serves_end c.lines.invariant.6 c.in_ok-heard.ensures.hears end.0 end.1
+    (c.in_ok-heard.heard.read, c.in_ok-heard.ensures.short, serves_end c.lines.invariant.6 c.in_ok-heard.ensures.hears end.0 end.1)
 
-pub returns-then-is_empty-clause-ended : goal.returns-then-is_empty-clause-ended
-returns-then-is_empty-clause-ended g c =
+pub returns-then-is_empty-clause-end : goal.returns-then-is_empty-clause-end
+returns-then-is_empty-clause-end g c =
     let none : length c.in_ok-heard.heard.line.items ≡ 0 = search rules in
+    c.in_ok-heard.ensures.end
     (nothing c.in_ok-heard.heard.ended c.in_ok-heard.heard.line.items c.hear.new.pending.items (g.R.Source.ended c.hear.new.reader) c.in_ok-heard.ensures.heard none).2
 
 pub returns-then-not-heard-clause-served : goal.returns-then-not-heard-clause-served
 returns-then-not-heard-clause-served g c =
     let some : c.in_ok-heard.heard.line.items ≢ [] = search rules in
-    let heard = rw c.if-not-heard.true at c.in_ok-heard.ensures.heard in
-    serves_last c.lines.invariant.6 c.in_ok-heard.ensures.hears c.goes_on.ensures (rw c.deref.ensures.value at c.in_ok-answer.ensures.answered) heard.0 some heard.1
+    let heard = rw c.if-not-heard.true at c.in_ok-heard.ensures.heard in (
+      c.in_ok-heard.heard.read,
+      c.in_ok-heard.ensures.short,
+      serves_last c.lines.invariant.6 c.in_ok-heard.ensures.hears c.goes_on.ensures (rw c.deref.ensures.value at c.in_ok-answer.ensures.answered) heard.0 some heard.1,
+    )
 
 pub lines-preserved : goal.lines-preserved
 lines-preserved g c =

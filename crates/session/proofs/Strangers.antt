@@ -1,0 +1,159 @@
+-- A session among strangers.
+use Rattle.std.proofs.Common.{◌≡◌, ◌≤◌, ◌∙◌, ℕ, Bool, true, List, [], ◌++◌, Option, Result, Ok, Err, OnOk, Some, ap, codes, false, refl, reverse, subst, sym, take}
+use Rattle.std.proofs.lemmas.List.{append-nil}
+use Rattle.interface.specs.Calls.{Calls}
+use Rattle.interface.specs.Host.{Host}
+use Rattle.leader1822.specs.Boxes.{Boxes, plain_calls}
+use Rattle.net_sim.specs.Carriers.{shown}
+use Rattle.net_sim.specs.MixedWorlds.{MixedState, opening_mixed}
+use Rattle.replay.specs.declared.print.Detail.TheVariants.{Texts}
+use Rattle.subnet.specs.Calls.{Kept}
+use Rattle.subnet.specs.Working.{subnet_calls}
+use Rattle.topology.specs.Mixed.{MixedFields}
+use Rattle.topology.specs.declared.network.CarrierKind.{CarrierKind}
+use Rattle.topology.specs.declared.network.CarrierKind.TheVariants as kind
+use Rattle.world_replay.proofs.lemmas.Gained.{mixed_refusal_gained, replays_show}
+use Rattle.world_replay.specs.Kinds.{HappensBy, ReplaysBy, mixed_kind}
+use Rattle.world_replay.specs.Output as lines
+use Rattle.world_script.specs.Mixed.{IsMixedEvent, mixed_spelling}
+use Rattle.command_line.specs.Carriers.{plain_of, subnet_of}
+use Rattle.command_line.specs.Mixed.{MixedReplaysOver}
+use Rattle.command_line.specs.Events.{Raw, World}
+use Rattle.command_line.specs.Replayed.{ReplaysOver}
+use Rattle.headline.specs.Promise.{KeepsPromise}
+use Rattle.interface.proofs.lemmas.{safe_messages}
+use Rattle.net_sim.specs.World.{WorldState, opening_world}
+use Rattle.replay.proofs.lemmas as raw_proofs
+use Rattle.replay.specs.Output as raw_lines
+use Rattle.replay.specs.Replay as raw
+use Rattle.script.specs.Spelling.{IsEvent, spelling}
+use Rattle.topology.specs.Topology.{TopologyFields}
+use Rattle.world_replay.proofs.lemmas.Gained.{refusal_gained}
+use Rattle.world_replay.specs.Replay.{world_kind}
+use Rattle.world_script.specs.WorldSpelling.{IsWorldEvent, world_spelling}
+use Rattle.session.specs.Networks.{KeepsAll, KeepsRun, ReplaysWith}
+use Rattle.session.specs.Session.{MixedPrints, MixedPrintsOn, PrintsFrom, PrintsOn}
+use Rattle.session.specs.Turns.{Leads, Prints, Serves, answers_of, script_of}
+
+-- what answers print, read otherwise
+pub serves_as : {T F : Type 0} {P Q : List ℕ → List ℕ → Type 0} (pending left : List ℕ) (input rest before after : Option (List ℕ)) (read : ℕ)
+    (r : Result T F) → ((script said : List ℕ) → P script said → Q script said)
+    → OnOk r ((all : ℕ) × (all ≤ 268435456) × Serves P pending left input rest before after read all)
+    → OnOk r ((all : ℕ) × (all ≤ 268435456) × Serves Q pending left input rest before after read all)
+serves_as pending left input rest before after read (Err e) other h = tt
+serves_as pending left input rest before after read (Ok x) other (all, short, h) = (
+  all,
+  short,
+  record {
+    turns = h.turns;
+    more = h.more;
+    heard = h.heard;
+    read_on = h.read_on;
+    counted = h.counted;
+    answers = record { lines = h.answers.lines; in_turn = λ n. other (script_of (take n h.turns)) (answers_of (take n h.turns)) (h.answers.in_turn n) };
+    written = h.written;
+  },
+)
+
+pub mixed_prints : {C : Type 0} (calls : Calls C) (strangers : List Host) (carrier : C) (opening : MixedState C)
+    → opening ≡ opening_mixed (shown calls) carrier strangers → (script said : List ℕ)
+    → Prints mixed_spelling IsMixedEvent (ReplaysWith (HappensBy (mixed_kind (shown calls))) (lines.shown_text Texts) (KeepsAll calls)) opening script said
+    → MixedPrints calls strangers carrier script said
+mixed_prints {C} calls strangers carrier opening is script said (last, h) =
+    let from : ReplaysBy (mixed_kind (shown calls)) (opening_mixed (shown calls) carrier strangers) h.events last h.replayed.0 =
+    subst (λ (w : MixedState C). ReplaysBy (mixed_kind (shown calls)) w h.events last h.replayed.0) is h.replayed.1 in
+    let gains = replays_show (mixed_kind (shown calls)) mixed_refusal_gained (opening_mixed (shown calls) carrier strangers) h.events last h.replayed.0 from in (
+      h.events,
+      h.asked,
+      record {
+        shown = h.replayed.0;
+        lives = last.world.kept.book.lives;
+        shows = record {
+          last = last;
+          replayed = from;
+          booked = record { crossed = gains.crossed ∙ append-nil (reverse (lines.crossings_of h.replayed.0)); told = gains.told; said = gains.said };
+          left = refl;
+          among = h.replayed.3.0;
+          toward = h.replayed.3.1;
+        };
+        written = ap (λ xs. xs ++ codes "end\n") h.replayed.2;
+      },
+    )
+
+-- over the carrier that a topology names
+pub plain_prints : (t : MixedFields) (b : Boxes) (named : List Host) → t.network.carrier ≡ kind.Plain → b ≡ plain_of t.network → named ≡ t.strangers
+    → (script said : List ℕ) → MixedPrints plain_calls named b script said → MixedPrintsOn t script said
+plain_prints t b named is at same script said h = (
+  h.0,
+  h.1,
+  subst (λ (k : CarrierKind). MixedReplaysOver k t false Texts h.0 (Some []) (Some (said ++ codes "end\n"))) (sym is) (rw (← at, ← same) h.2),
+)
+
+pub subnet_prints : (t : MixedFields) (k : Kept) (named : List Host) → t.network.carrier ≡ kind.Subnet → k ≡ subnet_of t.network → named ≡ t.strangers
+    → (script said : List ℕ) → MixedPrints subnet_calls named k script said → MixedPrintsOn t script said
+subnet_prints t k named is at same script said h = (
+  h.0,
+  h.1,
+  subst (λ (c : CarrierKind). MixedReplaysOver c t false Texts h.0 (Some []) (Some (said ++ codes "end\n"))) (sym is) (rw (← at, ← same) h.2),
+)
+
+-- ---- without strangers
+
+pub raw_prints : {C : Type 0} (calls : Calls C) (carrier : C) → (calls.seen carrier).log ≡ [] → (script said : List ℕ) (last : C)
+    (h : Leads spelling IsEvent (ReplaysWith (raw.Happens calls) (raw_lines.shown_text Texts) (KeepsRun calls)) carrier last script said)
+    → PrintsFrom calls carrier true script said
+raw_prints calls carrier empty script said last h = (
+  Raw h.events,
+  h.asked,
+  record {
+    shown = h.replayed.0;
+    shows = record {
+      last = last;
+      replayed = h.replayed.1;
+      crossed = raw_proofs.replays_show calls carrier last h.events h.replayed.0 h.replayed.1 ∙ ap (λ log. reverse (raw_lines.crossings_of h.replayed.0) ++ log) empty
+          ∙ append-nil (reverse (raw_lines.crossings_of h.replayed.0));
+      messages = safe_messages (calls.seen last).hosts (calls.seen last).log h.replayed.3;
+      run = h.replayed.3;
+    };
+    written = ap (λ xs. xs ++ codes "end\n") h.replayed.2;
+  },
+)
+
+pub world_prints : {C : Type 0} (calls : Calls C) (carrier : C) (opening : WorldState C) → opening ≡ opening_world (shown calls) carrier → (script said : List ℕ)
+    → Prints world_spelling IsWorldEvent (ReplaysWith (HappensBy (world_kind (shown calls))) (lines.shown_text Texts) (KeepsPromise calls.seen)) opening script said
+    → PrintsFrom calls carrier false script said
+world_prints {C} calls carrier opening is script said (last, h) =
+    let from : ReplaysBy (world_kind (shown calls)) (opening_world (shown calls) carrier) h.events last h.replayed.0 =
+    subst (λ (w : WorldState C). ReplaysBy (world_kind (shown calls)) w h.events last h.replayed.0) is h.replayed.1 in
+    let gains = replays_show (world_kind (shown calls)) refusal_gained (opening_world (shown calls) carrier) h.events last h.replayed.0 from in (
+      World h.events,
+      h.asked,
+      record {
+        shown = h.replayed.0;
+        lives = last.kept.book.lives;
+        shows = record {
+          last = last;
+          replayed = from;
+          booked = record { crossed = gains.crossed ∙ append-nil (reverse (lines.crossings_of h.replayed.0)); told = gains.told; said = gains.said };
+          left = refl;
+          promise = h.replayed.3;
+        };
+        written = ap (λ xs. xs ++ codes "end\n") h.replayed.2;
+      },
+    )
+
+pub plain_on : (t : TopologyFields) (b : Boxes) (named : Bool) → t.carrier ≡ kind.Plain → b ≡ plain_of t → named ≡ t.raw
+    → (script said : List ℕ) → PrintsFrom plain_calls b named script said → PrintsOn t script said
+plain_on t b named is at same script said h = (
+  h.0,
+  rw (← same) h.1,
+  subst (λ (k : CarrierKind). ReplaysOver k t false Texts h.0 (Some []) (Some (said ++ codes "end\n"))) (sym is) (rw (← at) h.2),
+)
+
+pub subnet_on : (t : TopologyFields) (k : Kept) (named : Bool) → t.carrier ≡ kind.Subnet → k ≡ subnet_of t → named ≡ t.raw
+    → (script said : List ℕ) → PrintsFrom subnet_calls k named script said → PrintsOn t script said
+subnet_on t k named is at same script said h = (
+  h.0,
+  rw (← same) h.1,
+  subst (λ (c : CarrierKind). ReplaysOver c t false Texts h.0 (Some []) (Some (said ++ codes "end\n"))) (sym is) (rw (← at) h.2),
+)

@@ -1,0 +1,213 @@
+//! A whole session: the head of an input, and then its lines.
+
+ghost use Rattle.std.specs.Prelude.{◌≡◌, ◌≤◌, ◌↔◌, [], codes, Err, IfErr, IfSome, None, OnOk, false, length, true, ℕ};
+ghost use Rattle.std.specs.Io.KnownBytes.{Appends, IsAtEnd};
+ghost use Rattle.net_sim.specs.MixedWorlds.{absent_in};
+ghost use Rattle.session.specs.Session.{IsSession, MixedPrints, MixedPrintsOn, PrintsFrom, PrintsOn};
+ghost use Rattle.session.specs.Turns.{Serves};
+
+use crate::answering::answer_lines;
+use crate::head::read_head;
+use crate::networks::Bare;
+use command_line::{
+    Input, MixedInput, ScriptFault, Source, read_input, read_mixed_input, subnet_of,
+};
+use interface::{Carrier, HostAddr};
+use leader1822::PlainBoxes;
+use net_sim::{MixedWorld, StrangersFault, World};
+use replay::Output;
+use script::MAX_INPUT;
+use std::alloc::Global;
+use topology::{CarrierKind, MixedTopology, Topology};
+
+/// Answers the lines of a script over the carrier that a topology with strangers names.
+///
+/// Errors: as in [`answer_lines`].
+fn serve_strangers<R: Source, W: Output>(
+    alloc: Global,
+    topology: &MixedTopology,
+    reader: &mut R,
+    pending: &mut Vec<u8>,
+    read: usize,
+    writer: &mut W,
+) -> Result<(), ScriptFault>
+    requires reads { R.failed reader.old ≡ false }
+    requires more { R.ended reader.old ≡ false }
+    requires writes { W.failed writer.old ≡ false }
+    requires handed { W.flushed writer.old ≡ true }
+    requires pending { length pending.old.items ≤ read }
+    requires short { read ≤ MAX_INPUT }
+    ensures served { OnOk result ((all : ℕ) × (all ≤ MAX_INPUT) × Serves (MixedPrintsOn topology.now) pending.old.items [] (R.remaining reader.old) (R.remaining reader.new) (W.contents writer.old) (W.contents writer.new) read all) }
+    ensures end { OnOk result (IsAtEnd (R.remaining reader.new)) }
+    ensures cannot_read { (result ≡ Err ScriptFault.CannotRead) ↔ (R.failed reader.new ≡ true) }
+    ensures cannot_write { (result ≡ Err ScriptFault.CannotWrite) ↔ (W.failed writer.new ≡ true) }
+{
+    let network = topology.network();
+    let strangers = topology.strangers();
+    match network.carrier() {
+        CarrierKind::Plain => {
+            let hosts = network.hosts(alloc)?;
+            let carrier = PlainBoxes::new(alloc, hosts);
+            serve_mixed(alloc, carrier, strangers, reader, pending, read, writer)
+        }
+        CarrierKind::Subnet => {
+            let carrier = subnet_of(alloc, network)?;
+            serve_mixed(alloc, carrier, strangers, reader, pending, read, writer)
+        }
+    }
+}
+
+/// Answers the lines of a script over a carrier in which these hosts are strangers.
+///
+/// Errors: as in [`answer_lines`].
+fn serve_mixed<C: Carrier, R: Source, W: Output>(
+    alloc: Global,
+    carrier: C,
+    strangers: &[HostAddr],
+    reader: &mut R,
+    pending: &mut Vec<u8>,
+    read: usize,
+    writer: &mut W,
+) -> Result<(), ScriptFault>
+    requires unused { (C.calls.seen carrier).log ≡ [] }
+    requires running { (C.calls.seen carrier).stopped ≡ false }
+    requires there { absent_in (C.calls.seen carrier).hosts strangers.now ≡ None }
+    requires reads { R.failed reader.old ≡ false }
+    requires more { R.ended reader.old ≡ false }
+    requires writes { W.failed writer.old ≡ false }
+    requires handed { W.flushed writer.old ≡ true }
+    requires pending { length pending.old.items ≤ read }
+    requires short { read ≤ MAX_INPUT }
+    ensures served { OnOk result ((all : ℕ) × (all ≤ MAX_INPUT) × Serves (MixedPrints C.calls strangers.now carrier) pending.old.items [] (R.remaining reader.old) (R.remaining reader.new) (W.contents writer.old) (W.contents writer.new) read all) }
+    ensures end { OnOk result (IsAtEnd (R.remaining reader.new)) }
+    ensures cannot_read { (result ≡ Err ScriptFault.CannotRead) ↔ (R.failed reader.new ≡ true) }
+    ensures cannot_write { (result ≡ Err ScriptFault.CannotWrite) ↔ (W.failed writer.new ≡ true) }
+{
+    let mut world = match MixedWorld::new(alloc, carrier, strangers) {
+        Ok(world) => world,
+        Err(StrangersFault::OutOfMemory) => return Err(ScriptFault::OutOfMemory),
+        Err(StrangersFault::NoSuch(_)) => return Err(ScriptFault::BadTopology),
+    };
+    answer_lines(alloc, &mut world, reader, pending, read, writer)
+}
+
+/// Answers the lines of a script over the carrier that a topology without strangers names.
+///
+/// Errors: as in [`answer_lines`].
+fn serve_network<R: Source, W: Output>(
+    alloc: Global,
+    network: &Topology,
+    reader: &mut R,
+    pending: &mut Vec<u8>,
+    read: usize,
+    writer: &mut W,
+) -> Result<(), ScriptFault>
+    requires reads { R.failed reader.old ≡ false }
+    requires more { R.ended reader.old ≡ false }
+    requires writes { W.failed writer.old ≡ false }
+    requires handed { W.flushed writer.old ≡ true }
+    requires pending { length pending.old.items ≤ read }
+    requires short { read ≤ MAX_INPUT }
+    ensures served { OnOk result ((all : ℕ) × (all ≤ MAX_INPUT) × Serves (PrintsOn network.now) pending.old.items [] (R.remaining reader.old) (R.remaining reader.new) (W.contents writer.old) (W.contents writer.new) read all) }
+    ensures end { OnOk result (IsAtEnd (R.remaining reader.new)) }
+    ensures cannot_read { (result ≡ Err ScriptFault.CannotRead) ↔ (R.failed reader.new ≡ true) }
+    ensures cannot_write { (result ≡ Err ScriptFault.CannotWrite) ↔ (W.failed writer.new ≡ true) }
+{
+    let raw = network.is_raw();
+    match network.carrier() {
+        CarrierKind::Plain => {
+            let hosts = network.hosts(alloc)?;
+            let carrier = PlainBoxes::new(alloc, hosts);
+            serve_over(alloc, carrier, raw, reader, pending, read, writer)
+        }
+        CarrierKind::Subnet => {
+            let carrier = subnet_of(alloc, network)?;
+            serve_over(alloc, carrier, raw, reader, pending, read, writer)
+        }
+    }
+}
+
+/// Answers the lines of a script over a carrier at its opening, without host programs or with them.
+///
+/// Errors: as in [`answer_lines`].
+fn serve_over<C: Carrier, R: Source, W: Output>(
+    alloc: Global,
+    carrier: C,
+    raw: bool,
+    reader: &mut R,
+    pending: &mut Vec<u8>,
+    read: usize,
+    writer: &mut W,
+) -> Result<(), ScriptFault>
+    requires unused { (C.calls.seen carrier).log ≡ [] }
+    requires running { (C.calls.seen carrier).stopped ≡ false }
+    requires reads { R.failed reader.old ≡ false }
+    requires more { R.ended reader.old ≡ false }
+    requires writes { W.failed writer.old ≡ false }
+    requires handed { W.flushed writer.old ≡ true }
+    requires pending { length pending.old.items ≤ read }
+    requires short { read ≤ MAX_INPUT }
+    ensures served { OnOk result ((all : ℕ) × (all ≤ MAX_INPUT) × Serves (PrintsFrom C.calls carrier raw) pending.old.items [] (R.remaining reader.old) (R.remaining reader.new) (W.contents writer.old) (W.contents writer.new) read all) }
+    ensures end { OnOk result (IsAtEnd (R.remaining reader.new)) }
+    ensures cannot_read { (result ≡ Err ScriptFault.CannotRead) ↔ (R.failed reader.new ≡ true) }
+    ensures cannot_write { (result ≡ Err ScriptFault.CannotWrite) ↔ (W.failed writer.new ≡ true) }
+{
+    if raw {
+        let mut bare = Bare { carrier };
+        answer_lines(alloc, &mut bare, reader, pending, read, writer)
+    } else {
+        let mut world = World::new(alloc, carrier)?;
+        answer_lines(alloc, &mut world, reader, pending, read, writer)
+    }
+}
+
+/// Runs a session: it reads a topology and the marker line `%`, hears the lines of a script to the end of the input,
+/// answers each before it hears the next, and writes a last line `end`.
+///
+/// Errors: as in [`answer_lines`]; `BadTopology` where no marker line with its end comes, or what precedes it describes
+/// no topology.
+pub fn run_session<R: Source, W: Output>(
+    alloc: Global,
+    reader: &mut R,
+    writer: &mut W,
+) -> Result<(), ScriptFault>
+    requires reads { R.failed reader.old ≡ false }
+    requires more { R.ended reader.old ≡ false }
+    requires writes { W.failed writer.old ≡ false }
+
+    // the lines of the script are answered in turn, and that is written
+    ensures session { OnOk result (IfSome (R.remaining reader.old) (λ octets. IsSession octets (W.contents writer.old) (W.contents writer.new))) }
+    ensures flushed { OnOk result (W.flushed writer.new ≡ true) }
+    ensures cannot_read { (result ≡ Err ScriptFault.CannotRead) ↔ (R.failed reader.new ≡ true) }
+    ensures cannot_write { (result ≡ Err ScriptFault.CannotWrite) ↔ (W.failed writer.new ≡ true) }
+{
+    writer.flush()?;
+    let mut pending = Vec::new(alloc);
+    let head = read_head(alloc, reader, &*writer, &mut pending)?;
+    match read_input(alloc, &head.octets) {
+        Ok(Input { network, .. }) => {
+            serve_network(alloc, &network, reader, &mut pending, head.read, writer)?;
+            write_end(writer)
+        }
+        Err(ScriptFault::BadTopology) => {
+            let MixedInput { network, .. } = read_mixed_input(alloc, &head.octets)?;
+            serve_strangers(alloc, &network, reader, &mut pending, head.read, writer)?;
+            write_end(writer)
+        }
+        Err(fault) => Err(fault),
+    }
+}
+
+/// Writes the last line, and hands on all.
+///
+/// Errors: `CannotWrite`.
+fn write_end<W: Output>(writer: &mut W) -> Result<(), ScriptFault>
+    requires { W.failed writer.old ≡ false }
+    ensures written { OnOk result (Appends (W.contents writer.old) (W.contents writer.new) (codes "end\n")) }
+    ensures flushed { OnOk result (W.flushed writer.new ≡ true) }
+    ensures fault { IfErr result (λ f. f ≡ ScriptFault.CannotWrite) }
+    ensures failed { (result ≡ Err ScriptFault.CannotWrite) ↔ (W.failed writer.new ≡ true) }
+{
+    writer.write_all(b"end\n")?;
+    Ok(writer.flush()?)
+}
