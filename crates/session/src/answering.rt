@@ -2,6 +2,7 @@
 
 ghost use Rattle.std.specs.Prelude.{◌≡◌, ◌≢◌, ◌≤◌, ◌↔◌, [], Err, IfErr, OnOk, false, length, true, ℕ};
 ghost use Rattle.std.specs.Io.KnownBytes.{IsAtEnd};
+ghost use Rattle.command_line.specs.Steps.{IsFollowFault};
 ghost use Rattle.session.specs.Turns.{IsAnswered, Prints, Serves};
 
 use crate::hearing::hear;
@@ -36,6 +37,8 @@ pub fn answer_lines<E: ScriptEvent, S: Stage<E, W>, R: Source, W: Output>(
     ensures served { OnOk result ((all : ℕ) × (all ≤ MAX_INPUT) × Serves (Prints E.spelled E.is_meant S.replays stage.old) pending.old.items [] (R.remaining reader.old) (R.remaining reader.new) (W.contents writer.old) (W.contents writer.new) read all) }
     ensures end { OnOk result (IsAtEnd (R.remaining reader.new)) }
     ensures handed { OnOk result (W.flushed writer.new ≡ true) }
+    ensures kept { IfErr result (λ f. f ≢ ScriptFault.CannotWrite → f ≢ ScriptFault.OutOfMemory → W.flushed writer.new ≡ true) }
+    ensures options { IfErr result (λ f. f ≢ ScriptFault.BadOptions) }
     ensures cannot_read { (result ≡ Err ScriptFault.CannotRead) ↔ (R.failed reader.new ≡ true) }
     ensures cannot_write { (result ≡ Err ScriptFault.CannotWrite) ↔ (W.failed writer.new ≡ true) }
 {
@@ -73,7 +76,8 @@ fn answer<E: ScriptEvent, S: Stage<E, W>, W: Output>(
     requires writes { W.failed writer.old ≡ false }
     ensures answered { OnOk result (IsAnswered E.spelled E.is_meant S.replays stage.old stage.new line.now (W.contents writer.old) (W.contents writer.new)) }
     ensures handed { OnOk result (W.flushed writer.new ≡ true) }
-    ensures fault { IfErr result (λ f. f ≢ ScriptFault.CannotRead) }
+    ensures fault { IfErr result IsFollowFault }
+    ensures kept { IfErr result (λ f. f ≢ ScriptFault.CannotWrite → f ≢ ScriptFault.OutOfMemory → writer.new ≡ writer.old) }
     ensures failed { (result ≡ Err ScriptFault.CannotWrite) ↔ (W.failed writer.new ≡ true) }
 {
     match read_events::<E>(alloc, line) {

@@ -39,6 +39,7 @@ pub(crate) fn read_head<R: Source, W: Output>(
     ensures short { IfOk result (λ h. h.read ≤ MAX_INPUT) }
     ensures going { IfOk result (λ h. R.ended reader.new ≡ false) }
     ensures fault { IfErr result (λ f. f ≢ ScriptFault.CannotWrite) }
+    ensures options { IfErr result (λ f. f ≢ ScriptFault.BadOptions) }
     ensures failed { (result ≡ Err ScriptFault.CannotRead) ↔ (R.failed reader.new ≡ true) }
 {
     let mut octets = Vec::new(alloc);

@@ -1,7 +1,8 @@
 //! Hearing the lines of a reader.
 
-ghost use Rattle.std.specs.Prelude.{◌≡◌, ◌≢◌, ◌≤◌, ◌↔◌, ◌++◌, Err, IfErr, IfOk, MatchOption, false, length, true};
+ghost use Rattle.std.specs.Prelude.{◌≡◌, ◌≤◌, ◌↔◌, ◌++◌, Err, IfErr, IfOk, MatchOption, false, length, true};
 ghost use Rattle.std.specs.Io.KnownBytes.{IsAtEnd};
+ghost use Rattle.command_line.specs.Steps.{IsReadFault};
 ghost use Rattle.session.specs.Hearing.{EndsAt, Hears, IsHeard, IsLine};
 
 use command_line::{ScriptFault, Source};
@@ -48,7 +49,7 @@ pub fn hear<R: Source, W: Output>(
     ensures heard { IfOk result (λ h. IsHeard h.ended h.line.items pending.new.items (R.ended reader.new)) }
     ensures end { IfOk result (λ h. h.ended ≡ false → IsAtEnd (R.remaining reader.new)) }
     ensures short { IfOk result (λ h. h.read ≤ MAX_INPUT) }
-    ensures fault { IfErr result (λ f. f ≢ ScriptFault.CannotWrite) }
+    ensures fault { IfErr result IsReadFault }
     ensures failed { (result ≡ Err ScriptFault.CannotRead) ↔ (R.failed reader.new ≡ true) }
 {
     if let Some(count) = line_end(pending) {

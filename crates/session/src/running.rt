@@ -1,6 +1,6 @@
 //! A whole session: the head of an input, and then its lines.
 
-ghost use Rattle.std.specs.Prelude.{◌≡◌, ◌≤◌, ◌↔◌, [], codes, Err, IfErr, IfSome, None, OnOk, false, length, true, ℕ};
+ghost use Rattle.std.specs.Prelude.{◌≡◌, ◌≢◌, ◌≤◌, ◌↔◌, [], codes, Err, IfErr, IfSome, None, OnOk, false, length, true, ℕ};
 ghost use Rattle.std.specs.Io.KnownBytes.{Appends, IsAtEnd};
 ghost use Rattle.net_sim.specs.MixedWorlds.{absent_in};
 ghost use Rattle.session.specs.Session.{IsSession, MixedPrints, MixedPrintsOn, PrintsFrom, PrintsOn};
@@ -39,6 +39,8 @@ fn serve_strangers<R: Source, W: Output>(
     requires short { read ≤ MAX_INPUT }
     ensures served { OnOk result ((all : ℕ) × (all ≤ MAX_INPUT) × Serves (MixedPrintsOn topology.now) pending.old.items [] (R.remaining reader.old) (R.remaining reader.new) (W.contents writer.old) (W.contents writer.new) read all) }
     ensures end { OnOk result (IsAtEnd (R.remaining reader.new)) }
+    ensures kept { IfErr result (λ f. f ≢ ScriptFault.CannotWrite → f ≢ ScriptFault.OutOfMemory → W.flushed writer.new ≡ true) }
+    ensures options { IfErr result (λ f. f ≢ ScriptFault.BadOptions) }
     ensures cannot_read { (result ≡ Err ScriptFault.CannotRead) ↔ (R.failed reader.new ≡ true) }
     ensures cannot_write { (result ≡ Err ScriptFault.CannotWrite) ↔ (W.failed writer.new ≡ true) }
 {
@@ -80,6 +82,8 @@ fn serve_mixed<C: Carrier, R: Source, W: Output>(
     requires short { read ≤ MAX_INPUT }
     ensures served { OnOk result ((all : ℕ) × (all ≤ MAX_INPUT) × Serves (MixedPrints C.calls strangers.now carrier) pending.old.items [] (R.remaining reader.old) (R.remaining reader.new) (W.contents writer.old) (W.contents writer.new) read all) }
     ensures end { OnOk result (IsAtEnd (R.remaining reader.new)) }
+    ensures kept { IfErr result (λ f. f ≢ ScriptFault.CannotWrite → f ≢ ScriptFault.OutOfMemory → W.flushed writer.new ≡ true) }
+    ensures options { IfErr result (λ f. f ≢ ScriptFault.BadOptions) }
     ensures cannot_read { (result ≡ Err ScriptFault.CannotRead) ↔ (R.failed reader.new ≡ true) }
     ensures cannot_write { (result ≡ Err ScriptFault.CannotWrite) ↔ (W.failed writer.new ≡ true) }
 {
@@ -110,6 +114,8 @@ fn serve_network<R: Source, W: Output>(
     requires short { read ≤ MAX_INPUT }
     ensures served { OnOk result ((all : ℕ) × (all ≤ MAX_INPUT) × Serves (PrintsOn network.now) pending.old.items [] (R.remaining reader.old) (R.remaining reader.new) (W.contents writer.old) (W.contents writer.new) read all) }
     ensures end { OnOk result (IsAtEnd (R.remaining reader.new)) }
+    ensures kept { IfErr result (λ f. f ≢ ScriptFault.CannotWrite → f ≢ ScriptFault.OutOfMemory → W.flushed writer.new ≡ true) }
+    ensures options { IfErr result (λ f. f ≢ ScriptFault.BadOptions) }
     ensures cannot_read { (result ≡ Err ScriptFault.CannotRead) ↔ (R.failed reader.new ≡ true) }
     ensures cannot_write { (result ≡ Err ScriptFault.CannotWrite) ↔ (W.failed writer.new ≡ true) }
 {
@@ -149,6 +155,8 @@ fn serve_over<C: Carrier, R: Source, W: Output>(
     requires short { read ≤ MAX_INPUT }
     ensures served { OnOk result ((all : ℕ) × (all ≤ MAX_INPUT) × Serves (PrintsFrom C.calls carrier raw) pending.old.items [] (R.remaining reader.old) (R.remaining reader.new) (W.contents writer.old) (W.contents writer.new) read all) }
     ensures end { OnOk result (IsAtEnd (R.remaining reader.new)) }
+    ensures kept { IfErr result (λ f. f ≢ ScriptFault.CannotWrite → f ≢ ScriptFault.OutOfMemory → W.flushed writer.new ≡ true) }
+    ensures options { IfErr result (λ f. f ≢ ScriptFault.BadOptions) }
     ensures cannot_read { (result ≡ Err ScriptFault.CannotRead) ↔ (R.failed reader.new ≡ true) }
     ensures cannot_write { (result ≡ Err ScriptFault.CannotWrite) ↔ (W.failed writer.new ≡ true) }
 {
@@ -178,6 +186,8 @@ pub fn run_session<R: Source, W: Output>(
     // the lines of the script are answered in turn, and that is written
     ensures session { OnOk result (IfSome (R.remaining reader.old) (λ octets. IsSession octets (W.contents writer.old) (W.contents writer.new))) }
     ensures flushed { OnOk result (W.flushed writer.new ≡ true) }
+    ensures kept { IfErr result (λ f. f ≢ ScriptFault.CannotWrite → f ≢ ScriptFault.OutOfMemory → W.flushed writer.new ≡ true) }
+    ensures options { IfErr result (λ f. f ≢ ScriptFault.BadOptions) }
     ensures cannot_read { (result ≡ Err ScriptFault.CannotRead) ↔ (R.failed reader.new ≡ true) }
     ensures cannot_write { (result ≡ Err ScriptFault.CannotWrite) ↔ (W.failed writer.new ≡ true) }
 {
