@@ -37,9 +37,10 @@ task_of (word ∷ []) =
     if bytes_eq word (codes "--log") then Some task.Log
     else (if bytes_eq word (codes "--trace") then Some task.Trace
     else (if bytes_eq word (codes "--audit") then Some task.Audit
+    else (if bytes_eq word (codes "--live") then Some task.Live
     else (if bytes_eq word (codes "--help") then Some task.Help
     else (if bytes_eq word (codes "--version") then Some task.Version
-    else None))))
+    else None)))))
 task_of (word ∷ next ∷ words) = None
 
 -- how much is printed of a message, where its text is asked for and where it isn't

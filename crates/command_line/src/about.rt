@@ -20,6 +20,7 @@ Replays a script on a network, and prints what its hosts see.
     arpasim --log < INPUT
     arpasim --trace < INPUT
     arpasim --audit < LOG
+    arpasim --live < INPUT
     arpasim --help
     arpasim --version
 
@@ -31,6 +32,7 @@ INPUT is a topology, a line `%` and a script; LOG is what --log prints.
   --log      prints only the log of the book that the replay leaves
   --trace    prints only what happens inside the network, one JSON object a line
   --audit    reads a log in place of an input, and says whether its book is safe
+  --live     answers each line of the script as it comes, with what --texts prints of it and an empty line
   --help     prints this
   --version  prints the version of the program
 

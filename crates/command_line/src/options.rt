@@ -33,6 +33,8 @@ pub enum Task {
     Trace,
     /// The audit of a log.
     Audit,
+    /// A session: a replay of each line as it comes.
+    Live,
     /// How the program is called.
     Help,
     /// The version of the program.
@@ -41,7 +43,7 @@ pub enum Task {
 
 impl Task {
     /// Returns what the words after the program's name ask for, where they are one word: `--log`, `--trace`, `--audit`,
-    /// `--help` or `--version`.
+    /// `--live`, `--help` or `--version`.
     pub fn of(words: &[String]) -> Option<Task>
         ensures { result ≡ task_of (map string_bytes words.now) }
     {
@@ -54,6 +56,8 @@ impl Task {
             Some(Task::Trace)
         } else if words[0].as_str() == "--audit" {
             Some(Task::Audit)
+        } else if words[0].as_str() == "--live" {
+            Some(Task::Live)
         } else if words[0].as_str() == "--help" {
             Some(Task::Help)
         } else if words[0].as_str() == "--version" {

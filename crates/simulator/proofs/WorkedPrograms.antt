@@ -9,7 +9,7 @@ use Rattle.command_line.specs.Mixed.{MixedReplaysOver}
 use Rattle.book_log.specs.Log.{Book, handed_line, life_line, log_lines, logged_line, strangers_text, text_of_lines}
 use Rattle.topology.specs.declared.network.CarrierKind.TheVariants as kind
 use Rattle.command_line.specs.MixedLogs.{LoggedEither, MixedLogsOver}
-use Rattle.simulator.specs.Program.{Closes, audited_as, finished_as}
+use Rattle.simulator.specs.Program.{Closes, LeavesUntouched, audited_as, finished_as}
 use Rattle.simulator.specs.WorkedSides.{Never, drained, no_options, only_check, out_of_memory, unread, wrote}
 use Rattle.command_line.specs.declared.auditing.AuditFault.TheVariants as log
 use Rattle.command_line.specs.declared.fault.ScriptFault.TheVariants as script
@@ -166,8 +166,8 @@ held_back h = elim (h.handed_on refl) [
   | inr none ↦ none
 ]
 
-pub left_written : (line : ℕ) → Closes (Err (fault.Script (script.BadLine line))) false false true ⊥ → ⊥
-left_written line h = h.untouched (λ e. cc)
+pub left_written : (line : ℕ) → LeavesUntouched (Err (fault.Script (script.BadLine line))) ⊥ → ⊥
+left_written line h = h (λ e. cc)
 
 -- ---- failures
 

@@ -18,6 +18,7 @@ use Rattle.command_line.specs.declared.fault.ScriptFault.TheVariants as script
 use Rattle.command_line.specs.declared.options.Options.{Options}
 use Rattle.command_line.specs.declared.options.Task.{Task}
 use Rattle.command_line.specs.declared.options.Task.TheVariants as task
+use Rattle.session.specs.Session.{IsSession}
 use Rattle.simulator.specs.declared.program.Done.{Done}
 use Rattle.simulator.specs.declared.program.Done.TheVariants as did
 use Rattle.simulator.specs.declared.program.ProgramFault.{ProgramFault}
@@ -95,6 +96,11 @@ pub record EndsTrace (s : Sides) (r : Result (Unit {0}) ScriptFault) : Type 0 wh
   pub ran_in_part : r ≡ Err script.OutOfMemory → Keeps s.before s.after ⊎ TracedEitherInPart s.before s.after
   pub first_part : r ≡ Err script.OutOfMemory → IfSome s.input (λ octets. Keeps s.before s.after ⊎ TraceStopsEither octets s.before s.after)
 
+-- the lines of an input are answered in turn, to its end
+pub record EndsLive (s : Sides) (r : Result (Unit {0}) ScriptFault) : Type 0 where
+  pub session : OnOk r (IfSome s.input (λ octets. IsSession octets s.before s.after))
+  pub options_read : IfErr r (λ f. f ≢ script.BadOptions)
+
 -- a log is audited and what the audit says is written, or the first fault is given. Unless a read fails or memory runs out, all of it is read; where
 -- memory runs out nothing is written
 pub record EndsAudit (s : Sides) (r : Result Verdict AuditFault) : Type 0 where
@@ -126,6 +132,8 @@ EndsTask (Some task.Log) options s r = (ended : Result (Unit {0}) ScriptFault) �
 EndsTask (Some task.Trace) options s r =
     (ended : Result (Unit {0}) ScriptFault) × (written : Option (List ℕ)) × HandsOn ended written s.after r × EndsTrace (record s { after = written }) ended
 EndsTask (Some task.Audit) options s r = (ended : Result Verdict AuditFault) × (r ≡ audited_as ended) × EndsAudit s ended
+EndsTask (Some task.Live) options s r =
+    (ended : Result (Unit {0}) ScriptFault) × (written : Option (List ℕ)) × HandsOn ended written s.after r × EndsLive (record s { after = written }) ended
 EndsTask (Some task.Help) options s r = Answers HELP.now s r
 EndsTask (Some task.Version) options s r = Answers version_text s r
 EndsTask None (Some options) s r =
@@ -144,12 +152,15 @@ abbrev pub TellsUnwritten : Result Done ProgramFault → Type 0
 TellsUnwritten r = (r ≡ Err (fault.Script script.CannotWrite)) ⊎ (r ≡ Err (fault.Audit log.CannotWrite))
 
 -- however it ends: a failed read is reported, and a failed write, and neither where none failed. Where no write failed all that was written is handed
--- on, if anything was; and a fault with another status than 3 leaves nothing written
+-- on, if anything was
 pub record Closes (r : Result Done ProgramFault) (unread unwritten flushed : Bool) (Untouched : Type 0) : Type 0 where
   pub cannot_read : TellsUnread r ↔ (unread ≡ true)
   pub cannot_write : TellsUnwritten r ↔ (unwritten ≡ true)
   pub handed_on : unwritten ≡ false → (flushed ≡ true) ⊎ Untouched
-  pub untouched : IfErr r (λ f. exit_status r ≢ 3 → Untouched)
+
+-- a fault with another status than 3 leaves nothing written
+abbrev pub LeavesUntouched : Result Done ProgramFault → Type 0 → Type 0
+LeavesUntouched r Untouched = IfErr r (λ f. exit_status r ≢ 3 → Untouched)
 
 -- ---- what standard error says
 

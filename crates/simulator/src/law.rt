@@ -4,7 +4,7 @@
 ghost use Rattle.std.specs.Prelude.{◌≡◌, ℕ, Bool, true, false, List, [], ◌∷◌, length};
 ghost use Rattle.std.specs.Prelude.{Ok, Err, Some, None, codes};
 ghost use Rattle.simulator.specs.Laws.{OneProgram, OneTrace};
-ghost use Rattle.simulator.specs.Program.{Closes, EndsTask, Sides, exit_status};
+ghost use Rattle.simulator.specs.Program.{Closes, EndsTask, LeavesUntouched, Sides, exit_status};
 ghost use Rattle.simulator.specs.Recorded.{PrintsTrace, recorded_text, unforgotten};
 ghost use Rattle.command_line.specs.Audits.{kept};
 ghost use Rattle.simulator.specs.WorkedSides.{Never, starts};
@@ -69,7 +69,7 @@ pub fn worked_programs()
 
     // what was written is held back when memory runs out, and something is written before a bad line is found
     ensures held_back { Closes out_of_memory false false false ⊥ → ⊥ }
-    ensures left_written { (line : ℕ) → Closes (Err (fault.Script (script.BadLine line))) false false true ⊥ → ⊥ }
+    ensures left_written { (line : ℕ) → LeavesUntouched (Err (fault.Script (script.BadLine line))) ⊥ → ⊥ }
 {}
 
 /// Ends that report no failure, or a wrong one.

@@ -1,8 +1,8 @@
 //! The whole program: what the words of its command line have it do, and how it ends.
 
-ghost use Rattle.std.specs.Prelude.{◌≡◌, ◌≢◌, ◌⊎◌, None, Err, false, true, map, string_bytes};
+ghost use Rattle.std.specs.Prelude.{◌≡◌, ◌≢◌, ◌⊎◌, None, Some, Err, false, true, map, string_bytes};
 ghost use Rattle.command_line.specs.Options.{options_in, task_of};
-ghost use Rattle.simulator.specs.Program.{Closes, EndsProgram, EndsTask, Handed, HandsOn, Sides};
+ghost use Rattle.simulator.specs.Program.{Closes, EndsProgram, EndsTask, Handed, HandsOn, LeavesUntouched, Sides};
 ghost use Rattle.simulator.specs.Program.{audited_as, exit_status, finished_as, is_answered, sides};
 
 use crate::tracing::run_trace;
@@ -11,6 +11,7 @@ use command_line::{
     run_log, run_script, write_help, write_version,
 };
 use replay::{Output, WriteFailed};
+use session::run_session;
 use std::alloc::Global;
 use std::fmt;
 use thiserror::Error;
@@ -62,10 +63,10 @@ pub fn exit_status(outcome: Result<Done, ProgramFault>) -> u8
 }
 
 /// Does what the words after the program's name ask for: it replays an input and writes what it shows, its log or its
-/// trace, or audits a log. How it is called and its version it says at once, and reads nothing.
+/// trace, answers each line of an input as it comes, or audits a log. How it is called and its version it says at once, and reads nothing.
 ///
 /// Errors: `BadOptions` for words that ask for nothing, with nothing read and nothing written; else as [`run_script`],
-/// [`run_log`], [`run_trace`] and [`run_audit`]. What was written before memory ran out is handed on.
+/// [`run_log`], [`run_trace`], [`run_session`] and [`run_audit`]. What was written before memory ran out is handed on.
 pub fn run_program<R: Source, W: Output>(
     alloc: Global,
     words: &[String],
@@ -88,6 +89,9 @@ pub fn run_program<R: Source, W: Output>(
 
     // where a read or a write fails it is reported, and nowhere else; and what was written is handed on
     ensures closes { Closes result (R.failed reader.new) (W.failed writer.new) (W.flushed writer.new) (writer.new ≡ writer.old) }
+
+    // a fault with another status than 3 leaves nothing written, but in a session
+    ensures untouched { task_of (map string_bytes words.now) ≢ Some Task.Live → LeavesUntouched result (writer.new ≡ writer.old) }
 {
     match Task::of(words) {
         Some(Task::Log) => finished(run_log(alloc, reader, writer)),
@@ -96,6 +100,10 @@ pub fn run_program<R: Source, W: Output>(
             hand_on(ended, writer)
         }
         Some(Task::Audit) => audited(run_audit(alloc, reader, writer)),
+        Some(Task::Live) => {
+            let ended = run_session(alloc, reader, writer);
+            hand_on(ended, writer)
+        }
         Some(Task::Help) => finished(write_help(writer)),
         Some(Task::Version) => finished(write_version(writer)),
         None => replay_words(alloc, words, reader, writer),
@@ -117,6 +125,7 @@ fn replay_words<R: Source, W: Output>(
     ensures ends { EndsTask None (options_in words.now) (sides (R.remaining reader.old) (R.remaining reader.new) (R.failed reader.new) (W.contents writer.old) (W.contents writer.new)) result }
     ensures refused { options_in words.now ≡ None → (reader.new ≡ reader.old) × (writer.new ≡ writer.old) }
     ensures closes { Closes result (R.failed reader.new) (W.failed writer.new) (W.flushed writer.new) (writer.new ≡ writer.old) }
+    ensures untouched { LeavesUntouched result (writer.new ≡ writer.old) }
 {
     match Options::read(alloc, words) {
         Ok(options) => {
