@@ -1,6 +1,7 @@
 pub mod Common
 mod InCalm
 mod Jobs
+mod Names
 mod OneProgram
 mod Recorded
 mod Traces

@@ -2,5 +2,6 @@ pub mod Traced
 pub mod MixedTraced
 pub mod Recorded
 pub mod Program
+pub mod Named
 pub mod WorkedSides
 pub mod Laws

@@ -1,5 +1,6 @@
 -- Words for worked rows of the whole program: what its reader and its writer show, and ends that it doesn't have.
-use Rattle.std.specs.Prelude.{true, false, List, [], ◌∷◌, ℕ, Option, Some, Result, Err, codes}
+use Rattle.std.specs.Prelude.{◌≡◌, true, false, List, [], ◌∷◌, ℕ, Option, Some, Result, Err, codes}
+use Rattle.simulator.specs.Named.{input_of, others_of}
 use Rattle.simulator.specs.Program.{EndsTask, Sides, sides}
 use Rattle.command_line.specs.declared.fault.ScriptFault.TheVariants as script
 use Rattle.command_line.specs.declared.options.Options.{Options}
@@ -34,6 +35,10 @@ out_of_memory = Err (fault.Script script.OutOfMemory)
 -- the task never ends so, whatever else the words are
 abbrev pub Never : Task → Sides → Result Done ProgramFault → Type 0
 Never task s r = (options : Option Options) → EndsTask (Some task) options s r → ⊥
+
+-- these words name this input, and those are left
+abbrev pub Names : List (List ℕ) → List ℕ → List (List ℕ) → Type 0
+Names words name others = (input_of words ≡ Some name) × (others_of words ≡ others)
 
 -- the output of a host that starts
 abbrev pub starts : List ℕ

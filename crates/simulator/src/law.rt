@@ -4,10 +4,11 @@
 ghost use Rattle.std.specs.Prelude.{◌≡◌, ℕ, Bool, true, false, List, [], ◌∷◌, length};
 ghost use Rattle.std.specs.Prelude.{Ok, Err, Some, None, codes};
 ghost use Rattle.simulator.specs.Laws.{OneProgram, OneTrace};
+ghost use Rattle.simulator.specs.Named.{input_of};
 ghost use Rattle.simulator.specs.Program.{Closes, EndsTask, LeavesUntouched, Sides, exit_status};
 ghost use Rattle.simulator.specs.Recorded.{PrintsTrace, recorded_text, unforgotten};
 ghost use Rattle.command_line.specs.Audits.{kept};
-ghost use Rattle.simulator.specs.WorkedSides.{Never, starts};
+ghost use Rattle.simulator.specs.WorkedSides.{Names, Never, starts};
 ghost use Rattle.simulator.specs.WorkedSides.{drained, no_options, only_check, out_of_memory, unread, wrote};
 ghost use Rattle.command_line.specs.declared.auditing.AuditFault.TheVariants as unlogged;
 ghost use Rattle.command_line.specs.declared.fault.ScriptFault.TheVariants as script;
@@ -70,6 +71,28 @@ pub fn worked_programs()
     // what was written is held back when memory runs out, and something is written before a bad line is found
     ensures held_back { Closes out_of_memory false false false ⊥ → ⊥ }
     ensures left_written { (line : ℕ) → LeavesUntouched (Err (fault.Script (script.BadLine line))) ⊥ → ⊥ }
+{}
+
+/// What words name as the input, and which are left for what is asked.
+pub fn worked_names()
+    // nothing is named, or `-`: standard input
+    ensures standard { input_of (codes "--book" ∷ []) ≡ Some (codes "-") }
+    ensures hyphen { Names (codes "--trace" ∷ codes "-" ∷ []) (codes "-") (codes "--trace" ∷ []) }
+
+    // a file before the options, between them and behind them
+    ensures before { Names (codes "net" ∷ codes "--book" ∷ []) (codes "net") (codes "--book" ∷ []) }
+    ensures between { Names (codes "--book" ∷ codes "a-b" ∷ codes "--texts" ∷ []) (codes "a-b") (codes "--book" ∷ codes "--texts" ∷ []) }
+    ensures behind { Names (codes "--audit" ∷ codes "x" ∷ []) (codes "x") (codes "--audit" ∷ []) }
+
+    // two names are none, whichever they are
+    ensures two { input_of (codes "a" ∷ codes "--book" ∷ codes "b" ∷ []) ≡ None }
+    ensures same { input_of (codes "a" ∷ codes "a" ∷ []) ≡ None }
+    ensures both { input_of (codes "-" ∷ codes "a" ∷ []) ≡ None }
+
+    // an empty word, one that begins with a hyphen, and two hyphens name nothing, and are refused as words
+    ensures empty { Names ([] ∷ []) (codes "-") ([] ∷ []) }
+    ensures short { Names (codes "-b" ∷ []) (codes "-") (codes "-b" ∷ []) }
+    ensures hyphens { Names (codes "--" ∷ codes "a" ∷ []) (codes "a") (codes "--" ∷ []) }
 {}
 
 /// Ends that report no failure, or a wrong one.
