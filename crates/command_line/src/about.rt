@@ -16,15 +16,16 @@ pub const VERSION: &str = "1.2.0-dev";
 pub const HELP: &str = "\
 Replays a script on a network, and prints what its hosts see.
 
-    arpasim [--book] [--check] [--texts] < INPUT
-    arpasim --log < INPUT
-    arpasim --trace < INPUT
-    arpasim --audit < LOG
-    arpasim --live < INPUT
+    arpasim [--book] [--check] [--texts] [INPUT]
+    arpasim --log [INPUT]
+    arpasim --trace [INPUT]
+    arpasim --audit [LOG]
+    arpasim --live [INPUT]
     arpasim --help
     arpasim --version
 
-INPUT is a topology, a line `%` and a script; LOG is what --log prints.
+INPUT is a file that has a topology, a line `%` and a script; LOG one that has what --log prints. Without a file, and
+where it is -, standard input is read.
 
   --book     prints the lives of connections before the last line
   --check    reads the input, replays nothing and prints `ok`
