@@ -66,6 +66,26 @@ ROWS: list[tuple[list[str], str, int, str, list[str]]] = [
 ]
 
 
+# the same of the program itself, which gives no cure: words, standard input, status, how the output begins, and standard error
+OF_THE_PROGRAM: list[tuple[list[str], str, int, str, str]] = [
+    ([FIRST], "", 0, "out 0/1 0/2 5 24\n", ""),
+    (["--texts", FIRST], "bad", 0, "out 0/1 0/2 5 24 414243\n", ""),
+    ([FIRST, "--texts"], "", 0, "out 0/1 0/2 5 24 414243\n", ""),
+    (["-", "--texts"], FIRST, 0, "out 0/1 0/2 5 24 414243\n", ""),
+    (["/dev/stdin"], FIRST, 0, "out 0/1 0/2 5 24\n", ""),
+    (["--log", FIRST], "", 0, "out 0/1 0/2 5 24 414243\n", ""),
+    (["--audit", "bad"], FIRST, 2, "", "arpasim: bad log line 1"),
+    (["bad"], FIRST, 2, "", "arpasim: bad script line 2"),
+    (["nosuch"], FIRST, 1, "", "arpasim: cannot read"),
+    (["--check", "folder"], FIRST, 1, "", "arpasim: cannot read"),
+    (["nosuch", "--quiet"], FIRST, 1, "", "arpasim: bad arguments"),
+    (["bad", "none"], FIRST, 1, "", "arpasim: bad arguments"),
+    ([FIRST, "-"], FIRST, 1, "", "arpasim: bad arguments"),
+    (["", FIRST], FIRST, 1, "", "arpasim: bad arguments"),
+    (["--help", "nosuch"], "", 0, "Replays a script", ""),
+]
+
+
 class Named(unittest.TestCase):
     def test_each_way_says_what_the_table_has(self) -> None:
         with tempfile.TemporaryDirectory() as room:
@@ -76,6 +96,16 @@ class Named(unittest.TestCase):
                 for row in ROWS:
                     with self.subTest(way=name, words=row[0]):
                         self.said(way, room, row)
+
+    def test_the_program_itself_takes_a_name(self) -> None:
+        with tempfile.TemporaryDirectory() as room:
+            Path(f"{room}/bad").write_text(BAD, encoding="utf-8")
+            os.mkdir(f"{room}/folder")
+            for words, given, status, begins, said in OF_THE_PROGRAM:
+                with self.subTest(words=words), open(os.path.join(room, given) if given else os.devnull, "rb") as file:
+                    ran = subprocess.run([found().path, *words], stdin=file, capture_output=True, text=True, cwd=room, check=False)
+                    self.assertEqual((ran.returncode, ran.stderr.removesuffix("\n")), (status, said))
+                    self.assertTrue(ran.stdout.startswith(begins))
 
     def said(self, way: Way, room: str, row: tuple[list[str], str, int, str, list[str]]) -> None:
         """One row, tried one way."""

@@ -1,8 +1,8 @@
 //! A plain program that does what `arpasim` does, written from the rules without contracts and proofs, so that the proved program
 //! can be compared with it: `rustc -O --edition 2021 tools/plain/main.rs -o FILE`.
 //!
-//! It reads a topology and a script from standard input, replays the script, and prints what the hosts see. Of the options it has
-//! `--book`, `--check` and `--texts`, and `--search` of its own (search.rs). It keeps what the proved program keeps: all that
+//! It reads a topology and a script from standard input, or from the file that a word names, replays the script, and prints what
+//! the hosts see. Of the options it has `--book`, `--check` and `--texts`, and `--search` of its own (search.rs). It keeps what the proved program keeps: all that
 //! crossed with its texts, what users were told, what services reported, and the lives of connections with their bits.
 //!
 //! It leaves out
@@ -38,6 +38,7 @@ use boxes::Boxes;
 use carrier::Carrier;
 use printing::Printer;
 use script::Event;
+use std::fs::File;
 use std::io::Read;
 use std::process::ExitCode;
 use subnet::Subnet;
@@ -72,11 +73,15 @@ fn main() -> ExitCode {
 fn run() -> Result<(), Fault> {
     let words: Vec<String> = std::env::args().skip(1).collect();
     if words.first().is_some_and(|it| it == "--search") {
-        return search::run(&words[1..], &read_input()?).map_err(|why| Fault(1, why));
+        return search::run(&words[1..], &read_input("-")?).map_err(|why| Fault(1, why));
+    }
+    let (names, words): (Vec<String>, Vec<String>) = words.into_iter().partition(|it| names_input(it));
+    if names.len() > 1 {
+        return Err(Fault(1, "bad arguments".into()));
     }
     let options = read_options(words)?;
     let bad_topology = || Fault(1, "bad topology".into());
-    let input = read_input()?;
+    let input = read_input(names.first().map_or("-", String::as_str))?;
     let (document, script) = split(&input).ok_or_else(bad_topology)?;
     let topology = Topology::read(document).ok_or_else(bad_topology)?;
     let events = script::read(script, topology.is_raw).map_err(|line| Fault(2, format!("bad script line {line}")))?;
@@ -127,11 +132,20 @@ fn read_options(words: Vec<String>) -> Result<Options, Fault> {
     Ok(options)
 }
 
-/// Reads standard input, which may not be too long.
-fn read_input() -> Result<Vec<u8>, Fault> {
+/// Whether a word names the input: `-` does, and each word that does not begin with it.
+fn names_input(word: &str) -> bool {
+    word == "-" || !word.is_empty() && !word.starts_with('-')
+}
+
+/// Reads the input of a name, which may not be too long: `-` is standard input, and any other name that of a file.
+fn read_input(name: &str) -> Result<Vec<u8>, Fault> {
+    let cannot_read = |_| Fault(1, "cannot read".into());
+    let opened: Box<dyn Read> = match name {
+        "-" => Box::new(std::io::stdin().lock()),
+        _ => Box::new(File::open(name).map_err(cannot_read)?),
+    };
     let mut input = Vec::new();
-    let read = std::io::stdin().lock().take(MOST_OCTETS as u64 + 1).read_to_end(&mut input);
-    read.map_err(|_| Fault(1, "cannot read".into()))?;
+    opened.take(MOST_OCTETS as u64 + 1).read_to_end(&mut input).map_err(cannot_read)?;
     if input.len() > MOST_OCTETS {
         Err(Fault(1, "input too long".into()))
     } else {

@@ -1,4 +1,4 @@
-"""Runs an input by the independent model of the rules, without the program: tools/model [--book] [--check] [--texts] < FILE
+"""Runs an input by the independent model of the rules, without the program: tools/model [--book] [--check] [--texts] [FILE]
 
 With --log it prints the log, with --trace the trace, and with --audit it judges a log. With --cases FOLDER it runs each file of a
 folder, with the options of NAME.args, and compares what it prints with NAME.stdout. Of TOML it reads the plain spelling that the
@@ -15,7 +15,7 @@ from pathlib import Path
 from dorydate import ending
 from dorydate.model.inputs import BAD_TOPOLOGY
 from dorydate.model.log import ends_log
-from dorydate.model.runs import End, expected, network_is_good
+from dorydate.model.runs import BAD_ARGUMENTS, CANNOT_READ, End, asked, expected, network_is_good
 from dorydate.model.topology import network_of
 from dorydate.model.trace import ends_trace
 from dorydate.model.trace_world import ends_world
@@ -41,6 +41,19 @@ def ends(octets: bytes, options: Sequence[str]) -> End:
     return expected(options, network, script)
 
 
+def ends_named(words: Sequence[str]) -> End:
+    """How the program has to end on the input that these words name."""
+    named = asked(words)
+    if named is None:
+        return BAD_ARGUMENTS
+    name, options = named
+    try:
+        octets = sys.stdin.buffer.read() if name == "-" else Path(name).read_bytes()
+    except OSError:
+        return CANNOT_READ
+    return ends(octets, options)
+
+
 def read(path: Path) -> bytes:
     """The octets of a file, none where there is no such file."""
     return path.read_bytes() if path.exists() else b""
@@ -50,8 +63,8 @@ def check_cases(folder: str) -> int:
     """Whether a case of a folder prints something else than its file says."""
     wrong, names = 0, [it.with_suffix("") for it in sorted(Path(folder).glob("*.stdout"))]
     for name in names:
-        options = read(name.with_name(f"{name.name}.args")).decode().split()
-        status, output, said = ends(read(name), options)
+        named = asked(read(name.with_name(f"{name.name}.args")).decode().split())
+        status, output, said = ends(read(name), named[1]) if named else BAD_ARGUMENTS
         if output != read(name.with_name(f"{name.name}.stdout")).decode():
             wrong += 1
             print(f"model: {name} ends with {status} {said.strip()} and prints\n{output}")
@@ -63,10 +76,10 @@ def main() -> int:
     """The exit status."""
     words = argparse.ArgumentParser("tools/model", description=__doc__, allow_abbrev=False)
     words.add_argument("--cases", nargs="+", metavar="FOLDER", help="run stored inputs")
-    asked, options = words.parse_known_args()
-    if asked.cases:
-        return max(check_cases(folder) for folder in asked.cases)
-    status, output, said = ends(sys.stdin.buffer.read(), options)
+    given, asked_words = words.parse_known_args()
+    if given.cases:
+        return max(check_cases(folder) for folder in given.cases)
+    status, output, said = ends_named(asked_words)
     print(output, end="")
     print(said, end="", file=sys.stderr)
     return status

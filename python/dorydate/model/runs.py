@@ -22,6 +22,8 @@ from dorydate.model.world import World
 Place = Union[Carrier, World]  # a raw network, or one with hosts' programs
 End = tuple[int, str, str]  # how a run ends: its status, its output and its words
 OF_CROSSINGS = ("out", "in", "answer", "down", "up")
+BAD_ARGUMENTS: End = (1, "", "arpasim: bad arguments\n")
+CANNOT_READ: End = (1, "", "arpasim: cannot read\n")
 
 
 def network_is_good(network: Topology, runs: Collection[str] = ()) -> bool:
@@ -74,10 +76,22 @@ def log_of(place: Place) -> list[Crossing]:
     return place.carrier.log if isinstance(place, World) else place.log
 
 
+def names_input(word: str) -> bool:
+    """Whether a word names the input: `-` is standard input, and a word that doesn't begin with it a file."""
+    return word == "-" or word[:1] not in ("", "-")
+
+
+def asked(words: Sequence[str]) -> tuple[str, list[str]] | None:
+    """The name of the input and the other words; None where two name it."""
+    names = [word for word in words if names_input(word)]
+    others = [word for word in words if not names_input(word)]
+    return ((names or ["-"])[0], others) if len(names) <= 1 else None
+
+
 def expected(options: Sequence[str], network: Topology, lines: Iterable[str], runs: Collection[str] = EVERYTHING) -> End:
     """How the program ends on a network and the lines of a script."""
     if any(word not in ("--book", "--check", "--texts") or options.count(word) > 1 for word in options):
-        return 1, "", "arpasim: bad arguments\n"
+        return BAD_ARGUMENTS
     if not network_is_good(network, runs):
         return 1, "", "arpasim: bad topology\n"
     events = []
