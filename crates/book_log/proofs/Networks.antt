@@ -222,7 +222,7 @@ is_fault text left strangers fault.OutOfMemory names ran = record {
   rest = ran.rest;
   parted = parted_behind text left strangers ran.before (ended_line ran.line ++ ran.rest) names.parted ran.parted;
   begins = begins_named strangers names.named ran.before ran.begins;
-  wants = elim ran.wants [ | inl octets ↦ inl octets | inr begins ↦ inr (begins_named [] tt (ran.line ∷ []) begins) ];
+  wants = elim ran.wants [ inl octets ↦ inl octets | inr begins ↦ inr (begins_named [] tt (ran.line ∷ []) begins) ];
 }
 
 -- memory runs out for a stranger

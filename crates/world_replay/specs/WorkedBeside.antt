@@ -4,18 +4,18 @@ use Rattle.std.specs.Prelude.{◌≡◌, false, List, None, Ok, Err, Result}
 use Rattle.interface.specs.Calls.{Calls, Seen, ShowsOffer, ShowsTake}
 use Rattle.interface.specs.declared.carrier.CarrierFault.TheVariants as fault
 use Rattle.interface.specs.declared.message.HostMessage.{HostMessage}
-use Rattle.net_sim.specs.MixedWorlds.{MixedEvent, MixedRunGives, MixedState, MixedStepGives}
+use Rattle.net_sim.specs.MixedWorlds.{MixedRunGives, MixedState, MixedStepGives}
 use Rattle.net_sim.specs.Worked.{any_carrier}
 use Rattle.net_sim.specs.WorkedMixed.{beside_third}
 use Rattle.net_sim.specs.World.{WorldFault}
 use Rattle.net_sim.specs.declared.event.Event.{Event}
-use Rattle.net_sim.specs.declared.mixed.MixedEvent.TheVariants.{Any, Out}
+use Rattle.net_sim.specs.declared.event.Event.TheVariants.{Out}
 use Rattle.world_script.specs.declared.event.MixedWorldEvent.{MixedWorldEvent}
 use Rattle.world_script.specs.declared.event.MixedWorldEvent.TheVariants.{Happen}
 
 -- what a script may ask for in any world, and what a stranger says
 abbrev pub event : Event → MixedWorldEvent
-event e = Happen (Any e)
+event e = Happen e
 
 abbrev pub saying : HostMessage → MixedWorldEvent
 saying m = Happen (Out m)
@@ -31,12 +31,12 @@ abbrev pub tired_carrier : Calls Seen
 tired_carrier = record any_carrier { offers = λ old m r new. (r ≡ Err fault.OutOfMemory) × ShowsOffer old m r new }
 
 -- an event is answered so, and nothing but the carrier changes
-abbrev pub AnswersAs : Calls Seen → MixedEvent → Result (Unit {0}) WorldFault → Type 0
+abbrev pub AnswersAs : Calls Seen → Event → Result (Unit {0}) WorldFault → Type 0
 AnswersAs calls e answer =
     (r : Result (Unit {0}) WorldFault) (new : MixedState Seen) → MixedStepGives calls beside_third e r new
     → (r ≡ answer) × (new.world ≡ record beside_third.world { carrier = new.world.carrier })
 
 -- a list of events ends so
-abbrev pub EndsAs : Calls Seen → List MixedEvent → Result (Unit {0}) WorldFault → Type 0
+abbrev pub EndsAs : Calls Seen → List Event → Result (Unit {0}) WorldFault → Type 0
 EndsAs calls events answer =
     (r : Result (Unit {0}) WorldFault) (new : MixedState Seen) → MixedRunGives calls beside_third events r new → r ≡ answer

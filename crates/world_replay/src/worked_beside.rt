@@ -5,9 +5,8 @@ ghost use Rattle.std.specs.Prelude.{◌∷◌, [], Err, Ok};
 ghost use Rattle.interface.specs.declared.carrier.CarrierFault.TheVariants as fault;
 ghost use Rattle.interface.specs.declared.crossing.Crossing.TheVariants as crossing;
 ghost use Rattle.net_sim.specs.Worked.{any_carrier, message};
-ghost use Rattle.net_sim.specs.declared.event.Event.TheVariants.{Offer, Server, Take, Typed, User};
+ghost use Rattle.net_sim.specs.declared.event.Event.TheVariants.{Offer, Out, Server, Take, Typed, User};
 ghost use Rattle.net_sim.specs.declared.event.WorldFault.TheVariants.{Carrier, HasProgram, NoProgram};
-ghost use Rattle.net_sim.specs.declared.mixed.MixedEvent.TheVariants.{Any, Out};
 ghost use Rattle.sockets.specs.Worked.{first, second, third};
 ghost use Rattle.world_replay.specs.Output.{Crossed, Refused};
 ghost use Rattle.world_replay.specs.WorkedBeside.{AnswersAs, EndsAs, closed_carrier, empty_carrier, event, saying, tired_carrier};
@@ -28,10 +27,10 @@ pub fn worked_asked()
 /// What a carrier answers a stranger is what the world answers.
 pub fn worked_answered()
     // it has nothing for it, and it doesn't take its message
-    ensures nothing { AnswersAs empty_carrier (Any (Take third)) (Ok tt) }
+    ensures nothing { AnswersAs empty_carrier (Take third) (Ok tt) }
     ensures blocked { AnswersAs closed_carrier (Out hail) (Err (Carrier fault.Blocked)) }
 
     // a list of events ends where memory runs out, and not where a message is refused
-    ensures memory { EndsAs tired_carrier (Out hail ∷ Any (Offer third) ∷ []) (Err (Carrier fault.OutOfMemory)) }
-    ensures refused { EndsAs closed_carrier (Out hail ∷ Any (Offer third) ∷ []) (Ok tt) }
+    ensures memory { EndsAs tired_carrier (Out hail ∷ Offer third ∷ []) (Err (Carrier fault.OutOfMemory)) }
+    ensures refused { EndsAs closed_carrier (Out hail ∷ Offer third ∷ []) (Ok tt) }
 {}

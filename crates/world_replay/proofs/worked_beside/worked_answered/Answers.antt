@@ -1,6 +1,6 @@
 use Rattle.world_replay.proofs.Common.{◌≡◌, [], ◌∷◌, List, Option, None, Some, Result, Ok, Err, ap₂, refl, subst, sym, Seen}
 use Rattle.world_replay.proofs.Common.{MatchBool, MixedState, WorldFault, WorldState, FetchEnds, OutEnds, Passes}
-use Rattle.world_replay.proofs.Common.{NoProgram, Carrier, Any, Offer, Host, third, stops}
+use Rattle.world_replay.proofs.Common.{NoProgram, Carrier, Offer, Host, third, stops}
 use Rattle.interface.specs.declared.carrier.CarrierFault.{CarrierFault}
 use Rattle.interface.specs.declared.carrier.CarrierFault.TheVariants as fault
 use Rattle.interface.specs.declared.crossing.Inbound.{Inbound}
@@ -46,10 +46,10 @@ after f answer r mid new Rest is h =
 -- the stranger is asked for nothing, whatever the carrier is by then, and nothing follows
 goes_on : (c : Seen) (mid : MixedState Seen) (r : Result (Unit {0}) WorldFault) (new : MixedState Seen)
     → mid ≡ record { world = record world { carrier = c }; strangers = beside_third.strangers }
-    → MixedRuns closed_carrier mid (Any (Offer third) ∷ []) r new → r ≡ Ok tt
+    → MixedRuns closed_carrier mid (Offer third ∷ []) r new → r ≡ Ok tt
 goes_on c mid r new is h =
-    let runs : MixedRuns closed_carrier (record { world = record world { carrier = c }; strangers = beside_third.strangers }) (Any (Offer third) ∷ []) r new =
-    subst (λ (s : MixedState Seen). MixedRuns closed_carrier s (Any (Offer third) ∷ []) r new) is h in
+    let runs : MixedRuns closed_carrier (record { world = record world { carrier = c }; strangers = beside_third.strangers }) (Offer third ∷ []) r new =
+    subst (λ (s : MixedState Seen). MixedRuns closed_carrier s (Offer third ∷ []) r new) is h in
     let (answer, next, step, rest) = runs in
     (after NoProgram answer r next new (MixedRuns closed_carrier next [] r new) step.0 rest).0
 
@@ -63,11 +63,11 @@ returns-clause-blocked g r new ((a, c, call, ends), same) =
 pub returns-clause-memory : goal.returns-clause-memory
 returns-clause-memory g r new (answer, mid, ((a, c, call, ends), same), rest) =
     let p = passes fault.OutOfMemory a c answer mid.world call.0 ends in
-    (after (Carrier fault.OutOfMemory) answer r mid new (MixedRuns tired_carrier mid (Any (Offer third) ∷ []) r new) p.0 rest).0
+    (after (Carrier fault.OutOfMemory) answer r mid new (MixedRuns tired_carrier mid (Offer third ∷ []) r new) p.0 rest).0
 
 pub returns-clause-refused : goal.returns-clause-refused
 returns-clause-refused g r new (answer, mid, ((a, c, call, ends), same), rest) =
     let p = passes fault.Blocked a c answer mid.world call.0 ends in
     goes_on c mid r new
     (ap₂ (λ (w : WorldState Seen) (hosts : List Host). record { world = w; strangers = hosts }) p.1 same)
-    (after (Carrier fault.Blocked) answer r mid new (MixedRuns closed_carrier mid (Any (Offer third) ∷ []) r new) p.0 rest)
+    (after (Carrier fault.Blocked) answer r mid new (MixedRuns closed_carrier mid (Offer third ∷ []) r new) p.0 rest)
