@@ -15,7 +15,7 @@ use Rattle.topology.specs.declared.network.CarrierKind.TheVariants as kind
 use Rattle.world_replay.proofs.lemmas.Gained.{mixed_refusal_gained, replays_show}
 use Rattle.world_replay.specs.Kinds.{HappensBy, ReplaysBy, mixed_kind}
 use Rattle.world_replay.specs.Output as lines
-use Rattle.world_script.specs.Mixed.{IsMixedEvent, mixed_spelling}
+use Rattle.world_script.specs.Mixed.{IsEventAmong, mixed_spelling}
 use Rattle.command_line.specs.Carriers.{plain_of, subnet_of}
 use Rattle.command_line.specs.Mixed.{MixedReplaysOver}
 use Rattle.command_line.specs.Events.{Raw, World}
@@ -57,7 +57,7 @@ serves_as pending left input rest before after read (Ok x) other (all, short, h)
 
 pub mixed_prints : {C : Type 0} (calls : Calls C) (strangers : List Host) (carrier : C) (opening : MixedState C)
     → opening ≡ opening_mixed (shown calls) carrier strangers → (script said : List ℕ)
-    → Prints mixed_spelling IsMixedEvent (ReplaysWith (HappensBy (mixed_kind (shown calls))) (lines.shown_text Texts) (KeepsAll calls)) opening script said
+    → Prints mixed_spelling IsEventAmong (ReplaysWith (HappensBy (mixed_kind (shown calls))) (lines.shown_text Texts) (KeepsAll calls)) opening script said
     → MixedPrints calls strangers carrier script said
 mixed_prints {C} calls strangers carrier opening is script said (last, h) =
     let from : ReplaysBy (mixed_kind (shown calls)) (opening_mixed (shown calls) carrier strangers) h.events last h.replayed.0 =
