@@ -28,13 +28,13 @@ headless_by l text d (Open x) e = ap (λ (o : Option DataHeader). (arrived_if l 
 
 module _ (name : ℕ → ℕ → ℕ) (link l : ℕ) (text : List Bool) (d : DeskState) where
   data_by : (r : Receiver) → HasReceiver name link d.entries r → (o : Option DataHeader) → header_of text ≡ o → (v : Bool) → (l == link) ≡ v → Received name link (data_received link l text o) (data_taken l text d).entries r
-  data_by r h None e v t = (tt, subst (λ (es : List Entry). HasReceiver name link es r) (sym (headless_by l text d (receiver_on l d) e)) h)
+  data_by r h None e v t = (tt, subst (λ (es : List Entry). HasReceiver name link es r) (sym (headless_by l text d _ e)) h)
   data_by r h (Some x) e true t =
       rw t ((tt, tt), subst (λ (n : ℕ). HasReceiver name link (data_taken n text d).entries (receivers.moved (receivers.Take x.size (data_of (data_bits x) text)) r)) (sym (eqb-true l link t)) (data_receives name link text x d r e h))
   data_by r h (Some x) e false t = rw t (tt, subst (λ (xs : List Entry). AreReceiver name xs r) (sym (receiver_elsewhere link l text d t)) h)
 
   pub takes_data : (r : Receiver) → HasReceiver name link d.entries r → Received name link (data_received link l text (header_of text)) (data_taken l text d).entries r
-  takes_data r h = data_by r h (header_of text) refl (l == link) refl
+  takes_data r h = data_by r h _ refl _ refl
 
   -- of the ends only counters change
   abbrev Kept : (List Entry → Type 0) → Found → Type 0
@@ -50,7 +50,7 @@ module _ (name : ℕ → ℕ → ℕ) (link l : ℕ) (text : List Bool) (d : Des
   kept_data : (P : List Entry → Type 0) → P d.entries → ((n : ℕ) → P (changed_first (receives_on l) (spent n) d.entries)) → (w : Found) → Kept P w
   kept_data P p f Unconnected = p
   kept_data P p f Ending = p
-  kept_data P p f (Open x) = kept_by P p f x (header_of text)
+  kept_data P p f (Open x) = kept_by P p f x _
 
   pub data_sent : (s : Sender) → HasSender name link d.entries s → AreKnown name d.entries s → Sent name link [] (data_taken l text d).entries s
   data_sent s h k = record {
@@ -62,7 +62,7 @@ module _ (name : ℕ → ℕ → ℕ) (link l : ℕ) (text : List Bool) (d : Des
   pub data_sound : AreSound name d.entries → AreSound name (data_taken l text d).entries
   data_sound sound =
       kept_data (AreSound name) sound
-      (λ n. sound_some name (receives_on l) (spent n) d.entries sound (λ x. refl) (λ x t f. counted_formed (spent n x).allocation x f (link_there l x.link (both (is_receiving x) (is_link l x.link) t).1))) (receiver_on l d)
+      (λ n. sound_some name (receives_on l) (spent n) d.entries sound (λ x. refl) (λ x t f. counted_formed (spent n x).allocation x f (link_there l x.link (both (is_receiving x) (is_link l x.link) t).1))) _
 
 -- ---- bytes that go out
 
@@ -75,7 +75,7 @@ linked_sends busy e t = by (is_receiving e) (is_some e.link) refl refl where
   by : (u v : Bool) → is_receiving e ≡ u → is_some e.link ≡ v → (is_receiving e ≡ false) × (is_some e.link ≡ true)
   by true v i j = absurd (let r : false ≡ true = rw i at t in cc)
   by false true i j = (i, j)
-  by false false i j = absurd (by_open (is_open e) refl) where
+  by false false i j = absurd (by_open _ refl) where
     by_open : (w : Bool) → is_open e ≡ w → ⊥
     by_open true o = let r : false ≡ true = rw (i, o, j) at t in absurd (cc)
     by_open false o = let r : false ≡ true = rw (i, o) at t in absurd (cc)
@@ -97,7 +97,7 @@ module _ (name : ℕ → ℕ → ℕ) (link : ℕ) (peer : Host) (stamp : ℕ) (
   pub bytes_out : (s : Sender) → HasSender name link q.entries s → AreKnown name q.entries s → Sent name link (bytes_sent name link e size count) (parcel_gone peer stamp q.busy (Bytes e size count) (desk_of q listening)).entries s
   bytes_out s h k = by (sends_on link e) refl where
     known : AreKnown name (changed_first (may_send_on q.busy (link_of e.link)) (bits_gone (size * count)) q.entries) s
-    known = known_idle name (may_send_on q.busy (link_of e.link)) (bits_gone (size * count)) s q.entries (record { own = λ x. refl; foreign = λ x. refl; size = λ x. refl; closing = λ x. refl }) k
+    known = known_idle name _ _ s q.entries (record { own = λ x. refl; foreign = λ x. refl; size = λ x. refl; closing = λ x. refl }) k
 
     by : (v : Bool) → sends_on link e ≡ v → Sent name link (bytes_sent name link e size count) (parcel_gone peer stamp q.busy (Bytes e size count) (desk_of q listening)).entries s
     by true on =
@@ -108,22 +108,22 @@ module _ (name : ℕ → ℕ → ℕ) (link : ℕ) (peer : Host) (stamp : ℕ) (
           known = known_moved;
         }) where
           known_moved : AreKnown name (changed_first (may_send_on q.busy (link_of e.link)) (bits_gone (size * count)) q.entries) (senders.moved (senders.Send (named name e) size (take (size * count) e.bits)) s)
-          known_moved = known_same name (changed_first (may_send_on q.busy (link_of e.link)) (bits_gone (size * count)) q.entries) s (senders.moved (senders.Send (named name e) size (take (size * count) e.bits)) s) refl refl known
+          known_moved = known_same name (changed_first (may_send_on q.busy (link_of e.link)) (bits_gone (size * count)) q.entries) s _ refl refl known
     by false off =
-        rw off (record { may = tt; has = subst (λ (xs : List Entry). AreSender name xs s) (sym (away (may_send_on q.busy (link_of e.link)) (sends_on link) (bits_gone (size * count)) e q.entries off off (next_is q e size count next))) h; known = known })
+        rw off (record { may = tt; has = subst (λ (xs : List Entry). AreSender name xs s) (sym (away _ _ _ e q.entries off off (next_is q e size count next))) h; known = known })
 
   pub bytes_received : (r : Receiver) → HasReceiver name link q.entries r → HasReceiver name link (parcel_gone peer stamp q.busy (Bytes e size count) (desk_of q listening)).entries r
   bytes_received r h =
       subst (λ (xs : List Entry). AreReceiver name xs r)
-      (sym (apart (may_send_on q.busy (link_of e.link)) (receives_on link) (bits_gone (size * count)) q.entries (λ x t. (off x t, off x t)))) h where
+      (sym (apart _ _ _ q.entries (λ x t. (off x t, off x t)))) h where
         off : (x : Entry) → may_send_on q.busy (link_of e.link) x ≡ true → receives_on link x ≡ false
-        off x t = not_received link x (sent_is (link_of e.link) x (sends_there q.busy (link_of e.link) x t))
+        off x t = not_received link x (sent_is _ x (sends_there q.busy _ x t))
 
   pub bytes_sound : AreSound name q.entries → AreSound name (parcel_gone peer stamp q.busy (Bytes e size count) (desk_of q listening)).entries
   bytes_sound sound =
-      sound_some name (may_send_on q.busy (link_of e.link)) (bits_gone (size * count)) q.entries sound (λ x. refl) (λ x t f. (let p : (may_send q.busy x ≡ true) × ((link_of x.link == link_of e.link) ≡ true)
+      sound_some name _ _ q.entries sound (λ x. refl) (λ x t f. (let p : (may_send q.busy x ≡ true) × ((link_of x.link == link_of e.link) ≡ true)
       = both (may_send q.busy x) (link_of x.link == link_of e.link) t in
-      sent_formed x (counted_formed (counters.spent x.allocation (size * count)) x f (linked_sends q.busy x p.0).1))) where
+      sent_formed x (counted_formed _ x f (linked_sends q.busy x p.0).1))) where
         sent_formed : (x : Entry) → IsFormed (record x { allocation = counters.spent x.allocation (size * count) }) → IsFormed (bits_gone (size * count) x)
         sent_formed x f = record { live = f.live; told = f.told; linked = f.linked; unlinked = f.unlinked; sized = f.sized; ungranted = f.ungranted; shut = f.shut }
 
@@ -137,7 +137,7 @@ module _ (name : ℕ → ℕ → ℕ) (link : ℕ) (busy : List ℕ) (d : DeskSt
   settled_received r h = ending.settled_keeps name link busy d.entries r h
 
   pub settled_sound : AreSound name d.entries → AreSound name (settled busy d).entries
-  settled_sound sound = record { formed = formed_settled busy d.entries sound.formed; apart = subst AreApart (sym (numbers_mapped name (shut_one busy) d.entries (λ x. refl))) sound.apart }
+  settled_sound sound = record { formed = formed_settled busy d.entries sound.formed; apart = subst AreApart (sym (numbers_mapped name _ d.entries (λ x. refl))) sound.apart }
 
 -- the sender of the link is notified before
 module _ (name : ℕ → ℕ → ℕ) (link : ℕ) (busy : List ℕ) (d : DeskState) (l : ℕ) where

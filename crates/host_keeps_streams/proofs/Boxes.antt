@@ -21,16 +21,16 @@ module _ (name : ℕ → ℕ → ℕ) (busy : List ℕ) where
 
   safe_closed : (out : Bool) (c : ℕ) (ys : List Entry) (t : Sender) → AllSafe out ys t → AllSafe out ys (senders.moved (senders.Close c) t)
   safe_closed out c [] t a = tt
-  safe_closed out c (y ∷ ys) t a = ((λ m e o. a.0 m (goes_some c t.shut t.end (named name y) e) o), safe_closed out c ys t a.1)
+  safe_closed out c (y ∷ ys) t a = ((λ m e o. a.0 m (goes_some c t.shut t.end _ e) o), safe_closed out c ys t a.1)
 
   keep_step : (out : Bool) (y : Entry) (ys : List Entry) (t : Sender) → AllSafe out (y ∷ ys) t → ((u : Sender) → AllSafe out ys u → KeepBox out (closes name busy ys) u) → (b : Bool) → (must_close busy y && not (is_receiving y)) ≡ b
       → KeepBox out (closes name busy (y ∷ ys)) t
-  keep_step out y ys t a rest true m = rw m ((λ e o. a.0 m e o), rest (senders.moved (senders.Close (named name y)) t) (safe_closed out (named name y) ys t a.1))
+  keep_step out y ys t a rest true m = rw m ((λ e o. a.0 m e o), rest (senders.moved (senders.Close (named name y)) t) (safe_closed out _ ys t a.1))
   keep_step out y ys t a rest false m = rw m (rest t a.1)
 
   keep_closes : (out : Bool) (ys : List Entry) (t : Sender) → AllSafe out ys t → KeepBox out (closes name busy ys) t
   keep_closes out [] t a = tt
-  keep_closes out (y ∷ ys) t a = keep_step out y ys t a (keep_closes out ys) (must_close busy y && not (is_receiving y)) refl
+  keep_closes out (y ∷ ys) t a = keep_step out y ys t a (keep_closes out ys) _ refl
 
   module _ (link : ℕ) where
     -- each of them is among all, and has another number than those on the link if it isn't on it
@@ -55,14 +55,14 @@ module _ (name : ℕ → ℕ → ℕ) (busy : List ℕ) where
     all_off [] p = tt
     all_off (y ∷ ys) p =
         let same : (named name y == named name y) ≡ true = eq-eqb (named name y) (named name y) refl in
-        (rw same refl, (λ o. rw o (among_filter name (named name y) (sends_on link) ys p.0)), off_more y ys ys p.0 (all_off ys p.1))
+        (rw same refl, (λ o. rw o (among_filter name _ _ ys p.0)), off_more y ys ys p.0 (all_off ys p.1))
 
     -- one that closes and is the law's end is on the link, and has its answer
     answered_link : (y : Entry) → is_link link y.link ≡ true → is_answered busy y.link ≡ true → is_busy busy link ≡ false
     answered_link y on answered = by y.link on answered where
       by : (o : Option ℕ) → is_link link o ≡ true → is_answered busy o ≡ true → is_busy busy link ≡ false
       by None e f = absurd (cc)
-      by (Some l) e f = let same : l ≡ link = eqb-true l link e in not_is (is_busy busy link) (subst (λ (n : ℕ). not (is_busy busy n) ≡ true) same f)
+      by (Some l) e f = let same : l ≡ link = eqb-true l link e in not_is _ (subst (λ (n : ℕ). not (is_busy busy n) ≡ true) same f)
 
     drained_answered : (y : Entry) → is_receiving y ≡ false → is_drained busy y ≡ true → is_answered busy y.link ≡ true
     drained_answered y i t = let r : (length y.bits == 0 && is_answered busy y.link) ≡ true = rw i at t in (both (length y.bits == 0) (is_answered busy y.link) r).1
@@ -88,14 +88,14 @@ module _ (name : ℕ → ℕ → ℕ) (busy : List ℕ) where
       here false away x one end =
           let apart : is_among (named name y) (numbers name (x ∷ [])) ≡ false = subst (λ (xs : List Entry). is_among (named name y) (numbers name xs) ≡ false) one (off away) in
           let same : named name x ≡ named name y = some_is (named name x) (named name y) (sym end ∙ e) in
-          absurd (not_like (named name x) (named name y) (or_parts (named name x == named name y) false apart).0 same)
+          absurd (not_like _ _ (or_parts (named name x == named name y) false apart).0 same)
 
       by : (xs : List Entry) → filter (sends_on link) es ≡ xs → is_busy busy link ≡ false
       by [] one = none (subst (λ (xs : List Entry). AreSender name xs s) one h)
       by (x ∷ []) one =
           let a : AreSender name (x ∷ []) s = subst (λ (xs : List Entry). AreSender name xs s) one h in
           elim a [
-            | inl i ↦ here (sends_on link y) refl x one i.end
+            | inl i ↦ here _ refl x one i.end
             | inr n ↦ none n.none
           ]
       by (x ∷ z ∷ zs) one = absurd (subst (λ (xs : List Entry). AreSender name xs s) one h)
@@ -106,4 +106,4 @@ module _ (name : ℕ → ℕ → ℕ) (busy : List ℕ) where
 
     -- whatever closes may
     pub settled_box : (es : List Entry) (s : Sender) → HasSender name link es s → AreKnown name es s → AreApart (numbers name es) → KeepBox (is_busy busy link) (closes name busy es) s
-    settled_box es s h k p = keep_closes (is_busy busy link) es s (safe_all es s h es k (all_off es p))
+    settled_box es s h k p = keep_closes _ es s (safe_all es s h es k (all_off es p))

@@ -23,7 +23,7 @@ keep_open out false c s = tt
 
 keep_end : (out : Bool) (c : ℕ) (o : Option ℕ) (ms : List senders.Move) (s : Sender) → KeepBox out ms s → KeepBox out (of_end c o ms) s
 keep_end out c None ms s k = tt
-keep_end out c (Some own) ms s k = keep_if out (own == c) ms s k
+keep_end out c (Some own) ms s k = keep_if out _ ms s k
 
 -- a request that is refused closes before it opens
 refused_by : (out : Bool) (c : ℕ) (s : Sender) → (s.end ≡ Some c → ⊥) → (o : Option ℕ) → s.end ≡ o → (senders.begins c o s).end ≡ Some c → (senders.begins c o s).opened ≡ true → out ≡ false
@@ -36,17 +36,17 @@ refused_box out false c s new = ((λ e o. absurd (new e)), tt)
 
 rts_box : (out v : Bool) (c : ℕ) (s : Sender) → (l : Option Listener) (o : Option Entry) → (o ≡ None → s.end ≡ Some c → ⊥) → KeepBox out (rts_sent v c l o) s
 rts_box out v c s None None new = refused_box out v c s (new refl)
-rts_box out v c s (Some l) None new = (tt, keep_rts out v c (senders.moved (senders.Ask c l.size) s))
+rts_box out v c s (Some l) None new = (tt, keep_rts out v c _)
 rts_box out v c s l (Some e) new = by (is_some e.partner) where
   by : (u : Bool) → KeepBox out (if u then [] else hears_rts v c ++ sent_open (v && is_some e.asked) c) s
   by true = tt
-  by false = keep_both out (hears_rts v c) (sent_open (v && is_some e.asked) c) s (keep_rts out v c s) (keep_open out (v && is_some e.asked) c (all_sent (hears_rts v c) s))
+  by false = keep_both out _ _ s (keep_rts out v c s) (keep_open out _ c _)
 
 module _ (name : ℕ → ℕ → ℕ) (link : ℕ) (peer : Host) (q : PairState) (listening : List Listener) (sound : AreSound name q.entries) (s : Sender) (h : HasSender name link q.entries s) (k : AreKnown name q.entries s) (new : AllNewSent name q.entries s) where
   rts_by : (own foreign l : ℕ) (v : Bool)
       → KeepBox (is_busy q.busy link) (if v then [] else rts_sent (l == link) (name own foreign) (listener_on own listening) (entry_at own foreign q.entries)) s
   rts_by own foreign l true = tt
-  rts_by own foreign l false = rts_box (is_busy q.busy link) (l == link) (name own foreign) s (listener_on own listening) (entry_at own foreign q.entries) (λ e. (new own foreign e).unheard)
+  rts_by own foreign l false = rts_box _ _ _ s _ _ (λ e. (new own foreign e).unheard)
 
   hears_box : (stamp said : ℕ) (c : Command) → KeepBox (is_busy q.busy link) (sent_at name link (Hears stamp said c) q listening s) s
   hears_box stamp said (command.Rts receive send l) = rts_by send receive l (list_any (sends_on l) q.entries)
@@ -58,8 +58,8 @@ module _ (name : ℕ → ℕ → ℕ) (link : ℕ) (peer : Host) (q : PairState)
   asked_box : (out : Bool) (o : Option Entry) → KeepBox out (asked_sent name link s o) s
   asked_box out None = tt
   asked_box out (Some e) =
-      keep_if out (sends_on link e) (of_end (named name e) s.end (sent_open (is_some e.partner) (named name e))) s
-      (keep_end out (named name e) s.end (sent_open (is_some e.partner) (named name e)) s (keep_open out (is_some e.partner) (named name e) s))
+      keep_if out _ _ s
+      (keep_end out _ s.end _ s (keep_open out _ _ s))
 
   says_box : (out : Bool) (c : Command) → KeepBox out (sent_out name link c q.entries s) s
   says_box out (command.Rts receive send l) = asked_box out (entry_at receive send q.entries)
@@ -68,10 +68,10 @@ module _ (name : ℕ → ℕ → ℕ) (link : ℕ) (peer : Host) (q : PairState)
 
   bytes_box : (e : Entry) (z n : ℕ) → next_of q ≡ Some (Bytes e z n) → (v : Bool) → sends_on link e ≡ v → KeepBox (is_busy q.busy link) (if v then senders.Send (named name e) z (take (z * n) e.bits) ∷ [] else []) s
   bytes_box e z n next true on =
-      let may : MaySend q e z n = (what_goes q (Bytes e z n) next).1 in
+      let may : MaySend q e z n = (what_goes q _ next).1 in
       let linked : e.link ≡ Some link = link_is link e.link (both (not (is_receiving e)) (is_link link e.link) on).1 in
       let answered : not (is_busy q.busy link) ≡ true = subst (λ (o : Option ℕ). is_answered q.busy o ≡ true) linked may.answered in
-      (not_is (is_busy q.busy link) answered, tt)
+      (not_is _ answered, tt)
   bytes_box e z n next false on = tt
 
   told_box : (l : ℕ) (v : Bool) → KeepBox (is_busy (freed l q).busy link) ((if v then senders.Told ∷ [] else []) ++ closes name (freed l q).busy q.entries) s
@@ -80,9 +80,9 @@ module _ (name : ℕ → ℕ → ℕ) (link : ℕ) (peer : Host) (q : PairState)
 
   pub call_box : (c : Call) → IsAllowed link c q s → KeepBox (is_out link c q) (sent_at name link c q listening s) s
   call_box (Hears stamp said c) a = hears_box stamp said c
-  call_box (Says stamp c) a = says_box (is_busy q.busy link) c
-  call_box (Sends stamp e z n) a = bytes_box e z n a (sends_on link e) refl
-  call_box (Answered l) a = told_box l (l == link)
+  call_box (Says stamp c) a = says_box _ c
+  call_box (Sends stamp e z n) a = bytes_box e z n a _ refl
+  call_box (Answered l) a = told_box l _
   call_box (OpensSender own foreign z) a = (tt, tt)
   call_box (Closes socket e) a = closes_box name link socket q e a.0 s h k sound
   call_box c a = tt

@@ -50,7 +50,7 @@ module _ (number : ℕ → ℕ → ℕ → ℕ) (tells : IsTelling number) where
   ] where
     first : (named (name_of number gone) y == number own foreign g) ≡ true → (is_there own foreign (y ∷ ys) ≡ true) × (gone own foreign ≡ g)
     first e =
-        let same : number y.own y.foreign (gone y.own y.foreign) ≡ number own foreign g = eqb-true (named (name_of number gone) y) (number own foreign g) e in
+        let same : number y.own y.foreign _ ≡ number own foreign g = eqb-true (named (name_of number gone) y) (number own foreign g) e in
         let a : y.own ≡ own = tells.own y.own y.foreign (gone y.own y.foreign) own foreign g same in
         let b : y.foreign ≡ foreign = tells.foreign y.own y.foreign (gone y.own y.foreign) own foreign g same in
         let c : gone y.own y.foreign ≡ g = tells.gone y.own y.foreign (gone y.own y.foreign) own foreign g same in
@@ -89,10 +89,10 @@ module _ (number : ℕ → ℕ → ℕ → ℕ) (tells : IsTelling number) where
     ahead_out : (own foreign g : ℕ) → IsAhead (gone_by es after gone) after own foreign g → Meets (name_of number gone) es after (number own foreign g) → ⊥
     ahead_out own foreign g a (inl t) =
         let k : (is_there own foreign es ≡ true) × (gone own foreign ≡ g) = among_is gone own foreign g es t in
-        too_big (gone own foreign) g k.1 ((ahead_before own foreign g a).one k.0)
+        too_big _ g k.1 ((ahead_before own foreign g a).one k.0)
     ahead_out own foreign g a (inr t) =
         let k : (is_there own foreign after ≡ true) × (gone own foreign ≡ g) = among_is gone own foreign g after t in
-        too_big (gone own foreign) g k.1 (subst (λ (n : ℕ). suc n ≤ g) (same_gone own foreign k.0) (a.one k.0))
+        too_big _ g k.1 (subst (λ (n : ℕ). suc n ≤ g) (same_gone own foreign k.0) (a.one k.0))
 
     abbrev AreThere : List Entry → List Entry → Type 0
     AreThere all [] = Unit {0}
@@ -135,17 +135,17 @@ module _ (number : ℕ → ℕ → ℕ → ℕ) (tells : IsTelling number) where
   free_number : (gone : ℕ → ℕ → ℕ) (own foreign : ℕ) (es : List Entry) → entry_at own foreign es ≡ None → is_among (name_of number gone own foreign) (numbers (name_of number gone) es) ≡ false
   free_number gone own foreign es e = by (is_among (name_of number gone own foreign) (numbers (name_of number gone) es)) refl where
     by : (v : Bool) → is_among (name_of number gone own foreign) (numbers (name_of number gone) es) ≡ v → is_among (name_of number gone own foreign) (numbers (name_of number gone) es) ≡ false
-    by true t = absurd (unlike (is_there own foreign es) (among_is gone own foreign (gone own foreign) es t).0 (none_there own foreign es e))
+    by true t = absurd (unlike (is_there own foreign es) (among_is gone own foreign _ es t).0 (none_there own foreign es e))
     by false t = t
 
   all_new_received : (gone : ℕ → ℕ → ℕ) (es : List Entry) (r : Receiver) → UnknownAhead gone es r → AllNewReceived (name_of number gone) es r
   all_new_received gone es r u own foreign e =
-      let k : IsUnknown (number own foreign (gone own foreign)) r = u own foreign (gone own foreign) (next_ahead gone own foreign es e) in
+      let k : IsUnknown (number own foreign _) r = u own foreign (gone own foreign) (next_ahead gone own foreign es e) in
       record { free = free_number gone own foreign es e; unasked = k.unasked; untold = k.untold; unheard = k.unheard }
 
   all_new_sent : (gone : ℕ → ℕ → ℕ) (es : List Entry) (s : Sender) → UnsaidAhead gone es s → AllNewSent (name_of number gone) es s
   all_new_sent gone es s u own foreign e =
-      let k : IsUnsaid (number own foreign (gone own foreign)) s = u own foreign (gone own foreign) (next_ahead gone own foreign es e) in
+      let k : IsUnsaid (number own foreign _) s = u own foreign (gone own foreign) (next_ahead gone own foreign es e) in
       record { free = free_number gone own foreign es e; untold = k.untold; unclosed = k.unclosed; unheard = k.unheard }
 
   -- ---- all that holds at a moment
@@ -178,17 +178,17 @@ module _ (number : ℕ → ℕ → ℕ → ℕ) (tells : IsTelling number) where
 
     pub step_holds : Holds link (gone_by q.entries (ends_by peer c q listening) gone) (ends_by peer c q listening) (all_received (received_at (name_of number gone) link c q listening) r) (all_sent (sent_at (name_of number gone) link c q listening s) s)
     step_holds =
-        let same : numbers (name_of number (gone_by q.entries (ends_by peer c q listening) gone)) (ends_by peer c q listening) ≡ numbers (name_of number gone) (ends_by peer c q listening)
+        let same : numbers (name_of number _) (ends_by peer c q listening) ≡ numbers (name_of number gone) (ends_by peer c q listening)
         = same_numbers gone q.entries (ends_by peer c q listening) in
         record {
-          sound = sound_renamed (name_of number gone) (name_of number (gone_by q.entries (ends_by peer c q listening) gone)) (ends_by peer c q listening) same
+          sound = sound_renamed (name_of number gone) (name_of number _) _ same
               (call_sound (name_of number gone) link peer q listening h.sound (λ own foreign e. free_number gone own foreign q.entries e) s c allowed);
-          received = received_renamed (name_of number gone) (name_of number (gone_by q.entries (ends_by peer c q listening) gone)) link (ends_by peer c q listening) (all_received (received_at (name_of number gone) link c q listening) r) same step_received.1;
-          sent = sent_renamed (name_of number gone) (name_of number (gone_by q.entries (ends_by peer c q listening) gone)) link (ends_by peer c q listening) (all_sent (sent_at (name_of number gone) link c q listening s) s) same
+          received = received_renamed (name_of number gone) (name_of number _) link _ _ same step_received.1;
+          sent = sent_renamed (name_of number gone) (name_of number _) link _ _ same
               (record { here = step_sent.has; known = step_sent.known });
-          unknown = λ own foreign g a. still_unknown (Meets (name_of number gone) q.entries (ends_by peer c q listening)) (number own foreign g) (ahead_out gone q.entries (ends_by peer c q listening) own foreign g a)
+          unknown = λ own foreign g a. still_unknown (Meets (name_of number gone) q.entries (ends_by peer c q listening)) (number own foreign g) (ahead_out gone q.entries _ own foreign g a)
               (received_at (name_of number gone) link c q listening) r (call_meets (name_of number gone) link peer q listening c) (h.unknown own foreign g (ahead_before gone q.entries (ends_by peer c q listening) own foreign g a));
-          unsaid = λ own foreign g a. still_unsaid (Meets (name_of number gone) q.entries (ends_by peer c q listening)) (number own foreign g) (ahead_out gone q.entries (ends_by peer c q listening) own foreign g a)
+          unsaid = λ own foreign g a. still_unsaid (Meets (name_of number gone) q.entries (ends_by peer c q listening)) (number own foreign g) (ahead_out gone q.entries _ own foreign g a)
               (sent_at (name_of number gone) link c q listening s) s (call_met (name_of number gone) link s peer q listening c) (h.unsaid own foreign g (ahead_before gone q.entries (ends_by peer c q listening) own foreign g a));
         }
 
@@ -225,7 +225,7 @@ module _ (number : ℕ → ℕ → ℕ → ℕ) (tells : IsTelling number) where
 -- ---- such a number
 
 pair_zero : (a b d : ℕ) → paired 0 b ≡ paired (suc a) d → ⊥
-pair_zero a b d e = absurd (omega (arith, odd b (paired a d) e)) where
+pair_zero a b d e = absurd (omega (arith, odd b _ e)) where
   odd : (b x : ℕ) → 2 * b + 1 ≡ 2 * x → 1 ≤ 0
   odd b x e = omega (arith, e)
 
@@ -234,7 +234,7 @@ paired_parts zero b zero d e = (refl, omega (arith, e))
 paired_parts zero b (suc c) d e = absurd (pair_zero c b d e)
 paired_parts (suc a) b zero d e = absurd (pair_zero a d b (sym e))
 paired_parts (suc a) b (suc c) d e =
-    let half : paired a b ≡ paired c d = halves (paired a b) (paired c d) e in
+    let half : paired a b ≡ paired c d = halves _ _ e in
     let rest : (a ≡ c) × (b ≡ d) = paired_parts a b c d half in
     (ap suc rest.0, rest.1) where
       halves : (x y : ℕ) → 2 * x ≡ 2 * y → x ≡ y
@@ -242,7 +242,7 @@ paired_parts (suc a) b (suc c) d e =
 
 pub numbered_tells : IsTelling numbered
 numbered_tells = record {
-  own = λ a b g c d h e. (paired_parts a (paired b g) c (paired d h) e).0;
-  foreign = λ a b g c d h e. (paired_parts b g d h (paired_parts a (paired b g) c (paired d h) e).1).0;
-  gone = λ a b g c d h e. (paired_parts b g d h (paired_parts a (paired b g) c (paired d h) e).1).1;
+  own = λ a b g c d h e. (paired_parts a _ c _ e).0;
+  foreign = λ a b g c d h e. (paired_parts b g d h (paired_parts a _ c _ e).1).0;
+  gone = λ a b g c d h e. (paired_parts b g d h (paired_parts a _ c _ e).1).1;
 }

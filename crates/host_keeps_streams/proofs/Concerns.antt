@@ -106,8 +106,8 @@ module _ (P : ℕ → Type 0) (c : ℕ) (out : P c → ⊥) where
 
   word_sent : (w : words.Word) (s : Sender) → ConcernsSent P (senders.Hear w) → IsUnsaid c s → IsUnsaid c (senders.hears w s)
   word_sent (words.Rts k) s p u = begun k s.end s p u
-  word_sent (words.All k m n) s p u = counted (λ a. counters.granted a m n) s.end s u
-  word_sent (words.Gvb k m n) s p u = counted (λ a. counters.given_back a m n) s.end s u
+  word_sent (words.All k m n) s p u = counted _ s.end s u
+  word_sent (words.Gvb k m n) s p u = counted _ s.end s u
   word_sent (words.Cls k) s p u = shut k s.end s u
   word_sent (words.Str k z) s p u = u
   word_sent (words.Ret k m n) s p u = u

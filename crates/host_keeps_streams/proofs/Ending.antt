@@ -43,15 +43,15 @@ module _ (name : ℕ → ℕ → ℕ) (link : ℕ) where
   -- ends that are due, on any link, close
   pub settled_keeps : (busy : List ℕ) (es : List Entry) (r : Receiver) → HasReceiver name link es r → HasReceiver name link (map (shut_one busy) es) r
   settled_keeps busy es r h =
-      subst (λ (xs : List Entry). AreReceiver name xs r) (sym (filter_map (receives_on link) (shut_one busy) es (λ e. refl) ∙ still_settled name busy (filter (receives_on link) es) r h)) h
+      subst (λ (xs : List Entry). AreReceiver name xs r) (sym (filter_map _ _ es (λ e. refl) ∙ still_settled name busy _ r h)) h
 
   pub swept_keeps : (es : List Entry) (r : Receiver) → HasReceiver name link es r → HasReceiver name link (filter stays es) r
   swept_keeps es r h =
-      subst (λ (xs : List Entry). AreReceiver name xs r) (sym (filter_both (receives_on link) stays es ∙ still_swept name (filter (receives_on link) es) r h)) h
+      subst (λ (xs : List Entry). AreReceiver name xs r) (sym (filter_both (receives_on link) stays es ∙ still_swept name _ r h)) h
 
   away_keeps : (test : Entry → Bool) (change : Entry → Entry) (e : Entry) (es : List Entry) (r : Receiver) → find test es ≡ Some e → receives_on link e ≡ false → receives_on link (change e) ≡ false → HasReceiver name link es r
       → HasReceiver name link (changed_first test change es) r
-  away_keeps test change e es r found off after h = subst (λ (xs : List Entry). AreReceiver name xs r) (sym (away test (receives_on link) change e es off after found)) h
+  away_keeps test change e es r found off after h = subst (λ (xs : List Entry). AreReceiver name xs r) (sym (away test _ change e es off after found)) h
 
   -- ---- the user closes
 
@@ -72,7 +72,7 @@ module _ (name : ℕ → ℕ → ℕ) (link : ℕ) where
 
   pub close_elsewhere : (socket : ℕ) (q : PairState) (e : Entry) (r : Receiver) → find (is_mine_on socket) q.entries ≡ Some e → receives_on link e ≡ false → HasReceiver name link q.entries r → HasReceiver name link (closed_end socket q).entries r
   close_elsewhere socket q e r found off h =
-      settled_keeps q.busy (changed_first (is_mine_on socket) called_off q.entries) r (away_keeps (is_mine_on socket) called_off e q.entries r found off off h)
+      settled_keeps q.busy (changed_first (is_mine_on socket) called_off q.entries) r (away_keeps _ called_off e q.entries r found off off h)
 
   -- ---- the partner closes
 
@@ -93,18 +93,18 @@ module _ (name : ℕ → ℕ → ℕ) (link : ℕ) where
       × AreReceiver name (heard_list e v) (all_received (receivers.Hear (words.Cls (name e.own e.foreign)) ∷ received_close v (name e.own e.foreign)) r)
   heard_by e r i closing.No same = (
     (tt, ((i.end, i.closed ∙ ap has_cls same), tt)),
-    record { end = i.end; opened = i.opened; closed = refl; over = for_here (name e.own e.foreign) true r.over; size = i.size; allocation = i.allocation; due = refl; live = refl },
+    record { end = i.end; opened = i.opened; closed = refl; over = for_here _ true r.over; size = i.size; allocation = i.allocation; due = refl; live = refl },
   )
   heard_by e r i closing.Due same = (
     (tt, ((i.end, i.closed ∙ ap has_cls same), tt)),
-    record { end = i.end; opened = i.opened; closed = refl; over = for_here (name e.own e.foreign) true r.over; size = i.size; allocation = i.allocation; due = refl; live = refl },
+    record { end = i.end; opened = i.opened; closed = refl; over = for_here _ true r.over; size = i.size; allocation = i.allocation; due = refl; live = refl },
   )
   heard_by e r i closing.Queued same = (
     (tt, tt),
-    record { end = i.end; opened = i.opened; closed = i.closed ∙ ap has_cls same; over = for_here (name e.own e.foreign) true r.over; size = i.size; allocation = i.allocation; due = refl; live = refl },
+    record { end = i.end; opened = i.opened; closed = i.closed ∙ ap has_cls same; over = for_here _ true r.over; size = i.size; allocation = i.allocation; due = refl; live = refl },
   )
   heard_by e r i closing.Sent same =
-      ((tt, ((i.end, i.closed ∙ ap has_cls same, for_here (name e.own e.foreign) true r.over), tt)), refl)
+      ((tt, ((i.end, i.closed ∙ ap has_cls same, for_here _ true r.over), tt)), refl)
 
   pub cls_receives : (peer : Host) (busy : List ℕ) (stamp own foreign : ℕ) (d : DeskState) (e : Entry) (r : Receiver) → entry_at own foreign d.entries ≡ Some e → receives_on link e ≡ true → e.partner_closed ≡ false → HasReceiver name link d.entries r
       → MayAllReceive (receivers.Hear (words.Cls (name e.own e.foreign)) ∷ received_close e.closing (name e.own e.foreign)) r
@@ -133,11 +133,11 @@ module _ (name : ℕ → ℕ → ℕ) (link : ℕ) where
     by true t = rw t h
     by false t =
         rw t (swept_keeps (map (shut_one busy) (changed_first (is_at own foreign) closed_by_partner d.entries)) r
-        (settled_keeps busy (changed_first (is_at own foreign) closed_by_partner d.entries) r (away_keeps (is_at own foreign) closed_by_partner e d.entries r found (off e refl) (off e refl) h)))
+        (settled_keeps busy (changed_first (is_at own foreign) closed_by_partner d.entries) r (away_keeps _ closed_by_partner e d.entries r found (off e refl) (off e refl) h)))
 
   pub cls_elsewhere : (peer : Host) (busy : List ℕ) (stamp own foreign : ℕ) (d : DeskState) (r : Receiver) → ((e : Entry) → entry_at own foreign d.entries ≡ Some e → receives_on link e ≡ false) → HasReceiver name link d.entries r
       → HasReceiver name link (desk_taken peer busy stamp (command.Cls foreign own) d).entries r
-  cls_elsewhere peer busy stamp own foreign d r off h = cls_off peer busy own foreign d r h (entry_at own foreign d.entries) refl off
+  cls_elsewhere peer busy stamp own foreign d r off h = cls_off peer busy own foreign d r h _ refl off
 
   -- ---- the own CLS goes out
 
@@ -152,7 +152,7 @@ module _ (name : ℕ → ℕ → ℕ) (link : ℕ) where
       × HasReceiver name link (command_gone peer stamp (command.Cls own foreign) d).entries (all_received (received_gone e.partner_closed (name e.own e.foreign)) r)
   gone_receives peer stamp own foreign d e r found on closed h =
       let k : IsReceiver (name e.own e.foreign) e r × (filter (receives_on link) (changed_first (is_at own foreign) cls_sent d.entries) ≡ cls_sent e ∷ [])
-      = own_receiver name link (is_at own foreign) cls_sent e d.entries r found on on h in
+      = own_receiver name link _ cls_sent e d.entries r found on on h in
       let done : MayAllReceive (received_gone e.partner_closed (name e.own e.foreign)) r × AreReceiver name (filter stays (cls_sent e ∷ [])) (all_received (received_gone e.partner_closed (name e.own e.foreign)) r)
       = gone_by e r k.0 closed e.partner_closed refl in (
         done.0,
@@ -163,4 +163,4 @@ module _ (name : ℕ → ℕ → ℕ) (link : ℕ) where
   pub gone_elsewhere : (peer : Host) (stamp own foreign : ℕ) (d : DeskState) (e : Entry) (r : Receiver) → entry_at own foreign d.entries ≡ Some e → receives_on link e ≡ false → HasReceiver name link d.entries r
       → HasReceiver name link (command_gone peer stamp (command.Cls own foreign) d).entries r
   gone_elsewhere peer stamp own foreign d e r found off h =
-      swept_keeps (changed_first (is_at own foreign) cls_sent d.entries) r (away_keeps (is_at own foreign) cls_sent e d.entries r found off off h)
+      swept_keeps (changed_first (is_at own foreign) cls_sent d.entries) r (away_keeps _ cls_sent e d.entries r found off off h)

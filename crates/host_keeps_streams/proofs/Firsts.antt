@@ -62,7 +62,7 @@ none_gone false c = tt
 none_answers : (link c : ℕ) (l : Option Listener) (free : Option ℕ) → NoCloses (answers_str link c l free)
 none_answers link c None free = tt
 none_answers link c (Some l) None = tt
-none_answers link c (Some l) (Some other) = none_if (other == link) (receivers.Ask c ∷ []) (tt, tt)
+none_answers link c (Some l) (Some other) = none_if _ (receivers.Ask c ∷ []) (tt, tt)
 
 by_partner : (v : Bool) (ms : List receivers.Move) → NoCloses ms → NoCloses (if v then [] else ms)
 by_partner true ms n = tt
@@ -70,15 +70,15 @@ by_partner false ms n = n
 
 none_str : (link c z : ℕ) (l : Option Listener) (free : Option ℕ) (o : Option Entry) → NoCloses (str_received link c z l free o)
 none_str link c z l free None = (tt, none_answers link c l free)
-none_str link c z l free (Some e) = by_partner (is_some e.partner) (receivers.Hear (Str c z) ∷ received_open (receives_on link e && is_some e.asked) c) (tt, none_open (receives_on link e && is_some e.asked) c)
+none_str link c z l free (Some e) = by_partner _ (receivers.Hear (Str c z) ∷ received_open (receives_on link e && is_some e.asked) c) (tt, none_open _ c)
 
 none_asked : (name : ℕ → ℕ → ℕ) (link : ℕ) (o : Option Entry) → NoCloses (asked_received name link o)
 none_asked name link None = tt
-none_asked name link (Some e) = none_if (receives_on link e) (received_open (is_some e.partner) (named name e)) (none_open (is_some e.partner) (named name e))
+none_asked name link (Some e) = none_if (receives_on link e) _ (none_open _ _)
 
 none_closed : (name : ℕ → ℕ → ℕ) (link : ℕ) (o : Option Entry) → NoCloses (closed_received name link o)
 none_closed name link None = tt
-none_closed name link (Some e) = none_if (receives_on link e) (received_gone e.partner_closed (named name e)) (none_gone e.partner_closed (named name e))
+none_closed name link (Some e) = none_if _ _ (none_gone e.partner_closed _)
 
 none_out : (name : ℕ → ℕ → ℕ) (link : ℕ) (c : Command) (es : List Entry) → NoCloses (received_out name link c es)
 none_out name link (command.Rts receive send l) es = none_asked name link (entry_at receive send es)
@@ -95,7 +95,7 @@ none_data link l text (Some h) = by (l == link) refl where
 
 none_asks : (link c : ℕ) (free : Option ℕ) → NoCloses (asks_for link c free)
 none_asks link c None = tt
-none_asks link c (Some other) = none_if (other == link) (receivers.Ask c ∷ []) (tt, tt)
+none_asks link c (Some other) = none_if _ (receivers.Ask c ∷ []) (tt, tt)
 
 -- ---- an end that hears a CLS says its own after it
 
@@ -118,7 +118,7 @@ first_cls : (link c : ℕ) (o : Option Entry) (r : Receiver) → (all_received (
 first_cls link c None r = refl
 first_cls link c (Some e) r = by (is_receiving e && not e.partner_closed) where
   by : (v : Bool) → (all_received (if v then receivers.Hear (Cls c) ∷ closes_on link c e else []) r).first ≡ r.first
-  by true = first_cls_on link c e (receivers.hears (Cls c) r) (for_here c true r.over)
+  by true = first_cls_on link c e _ (for_here c true r.over)
   by false = refl
 
 first_by : (name : ℕ → ℕ → ℕ) (link said : ℕ) (c : Command) (d : DeskState) (r : Receiver) → (all_received (received_by name link said c d) r).first ≡ r.first
@@ -143,7 +143,7 @@ first_said n c r = by (r.over n) where
 first_on : (name : ℕ → ℕ → ℕ) (link c socket : ℕ) (e : Entry) (r : Receiver) → (all_received (on_link link e (receivers.Close (named name e) ∷ [])) r).first c ≡ true → (r.first c ≡ true) ⊎ IsClosing name link c (Closes socket e)
 first_on name link c socket e r = by (receives_on link e) refl where
   by : (v : Bool) → receives_on link e ≡ v → (all_received (if v then receivers.Close (named name e) ∷ [] else []) r).first c ≡ true → (r.first c ≡ true) ⊎ IsClosing name link c (Closes socket e)
-  by true t f = elim (first_said (named name e) c r f) [
+  by true t f = elim (first_said _ c r f) [
     | inl before ↦ inl before
     | inr same ↦ inr (t, same)
   ]
@@ -172,7 +172,7 @@ first_call name link c x q listening r f = inl f
 pub closed_first : (number : ℕ → ℕ → ℕ → ℕ) (peer : Host) (link c : ℕ) (ms : List Moment) → (receiver_now number peer link ms).first c ≡ true → HasClosed number peer link c ms
 closed_first number peer link c [] f = let both : false ≡ true = f in absurd (cc)
 closed_first number peer link c (m ∷ ms) f =
-    elim (first_call (name_now number peer ms) link c m.call m.pair m.listening (receiver_now number peer link ms) f) [
+    elim (first_call _ link c m.call m.pair m.listening _ f) [
       | inl earlier ↦ inr (closed_first number peer link c ms earlier)
       | inr here ↦ inl here
     ]

@@ -155,7 +155,7 @@ nearly e f = record { told = f.told; linked = f.linked; unlinked = f.unlinked; s
 
 shut_formed : (busy : List ℕ) (e : Entry) → IsNearly e → (is_receiving e ≡ false → e.link ≡ None → e.partner_closed ≡ true → has_cls (shut_one busy e).closing ≡ true) → stays (shut_one busy e) ≡ true → IsFormed (shut_one busy e)
 shut_formed busy e f shut live = record {
-  live = not_is (is_over (shut_one busy e)) live;
+  live = not_is _ live;
   told = f.told;
   linked = f.linked;
   unlinked = f.unlinked;
@@ -177,7 +177,7 @@ closed_without busy e sends none closing.Queued same = rw same refl
 closed_without busy e sends none closing.Sent same = rw same refl
 
 formed_closed : (busy : List ℕ) (e : Entry) → IsFormed e → stays (shut_one busy (closed_by_partner e)) ≡ true → IsFormed (shut_one busy (closed_by_partner e))
-formed_closed busy e f live = shut_formed busy (closed_by_partner e) (record { told = f.told; linked = f.linked; unlinked = f.unlinked; sized = f.sized; ungranted = f.ungranted }) (λ i n p. closed_without busy e i n e.closing refl) live
+formed_closed busy e f live = shut_formed busy _ (record { told = f.told; linked = f.linked; unlinked = f.unlinked; sized = f.sized; ungranted = f.ungranted }) (λ i n p. closed_without busy e i n e.closing refl) live
 
 settled_step : (busy : List ℕ) (x : Entry) (zs : List Entry) → (stays (shut_one busy x) ≡ true → IsFormed (shut_one busy x)) → AreFormed (filter stays zs) → (b : Bool) → stays (shut_one busy x) ≡ b → AreFormed (filter stays (shut_one busy x ∷ zs))
 settled_step busy x zs one rest true t = rw t (one t, rest)
@@ -188,13 +188,13 @@ settled_one busy y f live = shut_formed busy y (nearly y f) (λ i n p. still_clo
 
 formed_swept : (busy : List ℕ) (es : List Entry) → AreFormed es → AreFormed (filter stays (map (shut_one busy) es))
 formed_swept busy [] k = tt
-formed_swept busy (y ∷ ys) k = settled_step busy y (map (shut_one busy) ys) (settled_one busy y k.0) (formed_swept busy ys k.1) (stays (shut_one busy y)) refl
+formed_swept busy (y ∷ ys) k = settled_step busy y (map (shut_one busy) ys) (settled_one busy y k.0) (formed_swept busy ys k.1) _ refl
 
 closed_step : (busy : List ℕ) (test : Entry → Bool) (y : Entry) (ys : List Entry) → AreFormed (y ∷ ys) → AreFormed (filter stays (map (shut_one busy) (changed_first test closed_by_partner ys))) → (b : Bool) → test y ≡ b
     → AreFormed (filter stays (map (shut_one busy) (changed_first test closed_by_partner (y ∷ ys))))
 closed_step busy test y ys k rest true t =
-    rw t (settled_step busy (closed_by_partner y) (map (shut_one busy) ys) (formed_closed busy y k.0) (formed_swept busy ys k.1) (stays (shut_one busy (closed_by_partner y))) refl)
-closed_step busy test y ys k rest false t = rw t (settled_step busy y (map (shut_one busy) (changed_first test closed_by_partner ys)) (settled_one busy y k.0) rest (stays (shut_one busy y)) refl)
+    rw t (settled_step busy _ (map (shut_one busy) ys) (formed_closed busy y k.0) (formed_swept busy ys k.1) _ refl)
+closed_step busy test y ys k rest false t = rw t (settled_step busy y (map (shut_one busy) (changed_first test closed_by_partner ys)) (settled_one busy y k.0) rest _ refl)
 
 -- a CLS is heard, and all settle
 pub formed_shut : (busy : List ℕ) (test : Entry → Bool) (es : List Entry) → AreFormed es → AreFormed (filter stays (map (shut_one busy) (changed_first test closed_by_partner es)))

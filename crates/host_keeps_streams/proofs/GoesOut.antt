@@ -23,32 +23,32 @@ use Rattle.interface.proofs.lemmas.{and_none}
 
 -- an end that didn't close has said no CLS
 pub unsaid : HasSaid (command.Cls 16 33) (receiving_end 16 33 5 ∷ []) → ⊥
-unsaid said = let both : false ≡ true = said (receiving_end 16 33 5) refl in absurd (cc)
+unsaid said = let both : false ≡ true = said _ refl in absurd (cc)
 
 -- ---- receivers
 
 module _ (name : ℕ → ℕ → ℕ) (link : ℕ) (peer : Host) (stamp : ℕ) (d : DeskState) (r : Receiver) (h : HasReceiver name link d.entries r) (sound : AreSound name d.entries) where
   request_received : (own foreign : ℕ) (o : Option Entry) → entry_at own foreign d.entries ≡ o → Received name link (asked_received name link o) (request_gone peer stamp own foreign d).entries r
-  request_received own foreign None found = (tt, subst (λ (es : List Entry). HasReceiver name link es r) (sym (unchanged (is_at own foreign) (asked_at stamp) d.entries found)) h)
+  request_received own foreign None found = (tt, subst (λ (es : List Entry). HasReceiver name link es r) (sym (unchanged _ _ d.entries found)) h)
   request_received own foreign (Some e) found = by (receives_on link e) refl where
     by : (v : Bool) → receives_on link e ≡ v → Received name link (asked_received name link (Some e)) (request_gone peer stamp own foreign d).entries r
     by true on =
-        let f : IsFormed e = formed_found (is_at own foreign) e d.entries sound.formed found in
+        let f : IsFormed e = formed_found _ e d.entries sound.formed found in
         rw on (opening.rts_gone name link peer stamp own foreign 0 d e r found on (f.told (both (is_receiving e) (is_link link e.link) on).0 (link_there link e.link (both (is_receiving e) (is_link link e.link) on).1)) h)
-    by false off = rw off (tt, subst (λ (xs : List Entry). AreReceiver name xs r) (sym (away (is_at own foreign) (receives_on link) (asked_at stamp) e d.entries off off found)) h)
+    by false off = rw off (tt, subst (λ (xs : List Entry). AreReceiver name xs r) (sym (away _ _ _ e d.entries off off found)) h)
 
   closing_received : (own foreign : ℕ) (o : Option Entry) → entry_at own foreign d.entries ≡ o → HasSaid (command.Cls own foreign) d.entries → Received name link (closed_received name link o) (command_gone peer stamp (command.Cls own foreign) d).entries r
   closing_received own foreign None found said =
-      (tt, ending.swept_keeps name link (changed_first (is_at own foreign) cls_sent d.entries) r (subst (λ (es : List Entry). HasReceiver name link es r) (sym (unchanged (is_at own foreign) cls_sent d.entries found)) h))
+      (tt, ending.swept_keeps name link (changed_first (is_at own foreign) cls_sent d.entries) r (subst (λ (es : List Entry). HasReceiver name link es r) (sym (unchanged _ cls_sent d.entries found)) h))
   closing_received own foreign (Some e) found said = by (receives_on link e) refl where
     by : (v : Bool) → receives_on link e ≡ v → Received name link (closed_received name link (Some e)) (command_gone peer stamp (command.Cls own foreign) d).entries r
     by true on = rw on (ending.gone_receives name link peer stamp own foreign d e r found on (said e found) h)
     by false off = rw off (tt, ending.gone_elsewhere name link peer stamp own foreign d e r found off h)
 
   pub out_received : (c : Command) → HasSaid c d.entries → Received name link (received_out name link c d.entries) (command_gone peer stamp c d).entries r
-  out_received (command.Rts receive send l) said = request_received receive send (entry_at receive send d.entries) refl
-  out_received (command.Str send receive size) said = request_received send receive (entry_at send receive d.entries) refl
-  out_received (command.Cls own foreign) said = closing_received own foreign (entry_at own foreign d.entries) refl said
+  out_received (command.Rts receive send l) said = request_received receive send _ refl
+  out_received (command.Str send receive size) said = request_received send receive _ refl
+  out_received (command.Cls own foreign) said = closing_received own foreign _ refl said
   out_received c said = (tt, h)
 
 -- ---- senders
@@ -82,7 +82,7 @@ module _ (name : ℕ → ℕ → ℕ) (link stamp : ℕ) (e : Entry) (s : Sender
     inl (record { end = i.end; opened = sym p; shut = i.shut; closed = i.closed; size = i.size; allocation = i.allocation; live = i.live }),
   )
   opens_by i false p =
-      let before : s.opened ≡ false = i.opened ∙ ap (λ (v : Bool). is_some e.asked && v) p ∙ and_none (is_some e.asked) in
+      let before : s.opened ≡ false = i.opened ∙ ap (λ (v : Bool). is_some e.asked && v) p ∙ and_none _ in
       (tt, inl (record { end = i.end; opened = before ∙ sym p; shut = i.shut; closed = i.closed; size = i.size; allocation = i.allocation; live = i.live }))
 
   open_is : IsSender (named name e) e s → Opens (of_end (named name e) s.end (sent_open (is_some e.partner) (named name e)))
@@ -90,7 +90,7 @@ module _ (name : ℕ → ℕ → ℕ) (link stamp : ℕ) (e : Entry) (s : Sender
       let here : (named name e == named name e) ≡ true = eq-eqb (named name e) (named name e) refl in
       let moves : of_end (named name e) s.end (sent_open (is_some e.partner) (named name e)) ≡ sent_open (is_some e.partner) (named name e)
       = ap (λ (o : Option ℕ). of_end (named name e) o (sent_open (is_some e.partner) (named name e))) i.end ∙ (rw here refl) in
-      subst Opens (sym moves) (opens_by i (is_some e.partner) refl)
+      subst Opens (sym moves) (opens_by i _ refl)
 
   -- one whose CLS waits to go out stays closed
   leaves : IsLeaving e s → (t : Sender) → NoneOpen t → AreSender name (asked_at stamp e ∷ []) t
@@ -105,46 +105,46 @@ module _ (name : ℕ → ℕ → ℕ) (link stamp : ℕ) (e : Entry) (s : Sender
     by : (u w : Bool) → (own == named name e) ≡ u → Opens (of_end (named name e) (Some own) (sent_open w (named name e)))
     by true true t =
         let same : s.end ≡ Some (named name e) = end ∙ ap (λ (m : ℕ). Some m) (eqb-true own (named name e) t) in
-        rw t (((same, ap is_some k.size ∙ f.linked (sent_is link e on) linked), tt), leaves n (record s { opened = true }) (opened_none k n.closed same))
+        rw t (((same, ap is_some k.size ∙ f.linked (sent_is link e on) linked), tt), leaves n _ (opened_none k n.closed same))
     by true false t = rw t (tt, leaves n s n.none)
     by false w t = rw t (tt, leaves n s n.none)
 
   open_end : AreSender name (e ∷ []) s → IsKnown (named name e) e s → Opens (of_end (named name e) s.end (sent_open (is_some e.partner) (named name e)))
   open_end (inl i) k = open_is i
-  open_end (inr n) k = leaving_by n k (is_some e.partner) s.end refl
+  open_end (inr n) k = leaving_by n k _ s.end refl
 
 module _ (name : ℕ → ℕ → ℕ) (link : ℕ) (peer : Host) (stamp : ℕ) (d : DeskState) (s : Sender) (h : HasSender name link d.entries s) (known : AreKnown name d.entries s) (sound : AreSound name d.entries) where
   asked_known : (own foreign : ℕ) → AreKnown name (changed_first (is_at own foreign) (asked_at stamp) d.entries) s
-  asked_known own foreign = known_idle name (is_at own foreign) (asked_at stamp) s d.entries (record { own = λ x. refl; foreign = λ x. refl; size = λ x. refl; closing = λ x. refl }) known
+  asked_known own foreign = known_idle name _ _ s d.entries (record { own = λ x. refl; foreign = λ x. refl; size = λ x. refl; closing = λ x. refl }) known
 
   request_sent : (own foreign : ℕ) (o : Option Entry) → entry_at own foreign d.entries ≡ o → Sent name link (asked_sent name link s o) (request_gone peer stamp own foreign d).entries s
-  request_sent own foreign None found = subst (λ (es : List Entry). Sent name link [] es s) (sym (unchanged (is_at own foreign) (asked_at stamp) d.entries found)) (record { may = tt; has = h; known = known })
+  request_sent own foreign None found = subst (λ (es : List Entry). Sent name link [] es s) (sym (unchanged _ _ d.entries found)) (record { may = tt; has = h; known = known })
   request_sent own foreign (Some e) found = by (sends_on link e) refl where
     by : (v : Bool) → sends_on link e ≡ v → Sent name link (asked_sent name link s (Some e)) (request_gone peer stamp own foreign d).entries s
     by true on =
-        let f : IsFormed e = formed_found (is_at own foreign) e d.entries sound.formed found in
+        let f : IsFormed e = formed_found _ e d.entries sound.formed found in
         let k : AreSender name (e ∷ []) s × (filter (sends_on link) (changed_first (is_at own foreign) (asked_at stamp) d.entries) ≡ asked_at stamp e ∷ [])
-        = own_sender name link (is_at own foreign) (asked_at stamp) e d.entries s found on on h in
+        = own_sender name link _ _ e d.entries s found on on h in
         let done : MayAllSend (of_end (named name e) s.end (sent_open (is_some e.partner) (named name e))) s × AreSender name (asked_at stamp e ∷ []) (all_sent (of_end (named name e) s.end (sent_open (is_some e.partner) (named name e))) s)
-        = open_end name link stamp e s f on k.0 (known_found name (is_at own foreign) e d.entries s (sent_is link e on) known found) in
+        = open_end name link stamp e s f on k.0 (known_found name _ e d.entries s (sent_is link e on) known found) in
         rw on (record {
           may = done.0;
           has = subst (λ (xs : List Entry). AreSender name xs (all_sent (of_end (named name e) s.end (sent_open (is_some e.partner) (named name e))) s)) (sym k.1) done.1;
-          known = known_same name (changed_first (is_at own foreign) (asked_at stamp) d.entries) s (all_sent (of_end (named name e) s.end (sent_open (is_some e.partner) (named name e))) s)
+          known = known_same name _ s _
               (end_size (named name e) (is_some e.partner) s s.end) (end_closed (named name e) (is_some e.partner) s s.end) (asked_known own foreign);
         })
     by false off =
-        rw off (record { may = tt; has = subst (λ (xs : List Entry). AreSender name xs s) (sym (away (is_at own foreign) (sends_on link) (asked_at stamp) e d.entries off off found)) h; known = asked_known own foreign })
+        rw off (record { may = tt; has = subst (λ (xs : List Entry). AreSender name xs s) (sym (away _ _ _ e d.entries off off found)) h; known = asked_known own foreign })
 
   closing_known : (own foreign : ℕ) (o : Option Entry) → entry_at own foreign d.entries ≡ o → HasSaid (command.Cls own foreign) d.entries → AreKnown name (changed_first (is_at own foreign) cls_sent d.entries) s
-  closing_known own foreign None found said = subst (λ (es : List Entry). AreKnown name es s) (sym (unchanged (is_at own foreign) cls_sent d.entries found)) known
+  closing_known own foreign None found said = subst (λ (es : List Entry). AreKnown name es s) (sym (unchanged _ cls_sent d.entries found)) known
   closing_known own foreign (Some e) found said =
-      known_changed name (is_at own foreign) cls_sent e d.entries s s (λ n out. (refl, refl)) (record { own = λ x. refl; foreign = λ x. refl })
-      (λ i. (let one : IsKnown (named name e) e s = known_found name (is_at own foreign) e d.entries s i known found in record { size = one.size; closed = one.closed ∙ said e found })) sound.apart known found
+      known_changed name _ cls_sent e d.entries s s (λ n out. (refl, refl)) (record { own = λ x. refl; foreign = λ x. refl })
+      (λ i. (let one : IsKnown (named name e) e s = known_found name _ e d.entries s i known found in record { size = one.size; closed = one.closed ∙ said e found })) sound.apart known found
 
   closing_has : (own foreign : ℕ) (o : Option Entry) → entry_at own foreign d.entries ≡ o → HasSaid (command.Cls own foreign) d.entries → HasSender name link (command_gone peer stamp (command.Cls own foreign) d).entries s
   closing_has own foreign None found said =
-      subst (λ (es : List Entry). HasSender name link (filter stays es) s) (sym (unchanged (is_at own foreign) cls_sent d.entries found))
+      subst (λ (es : List Entry). HasSender name link (filter stays es) s) (sym (unchanged _ cls_sent d.entries found))
       (subst (λ (xs : List Entry). AreSender name xs s) (sym (still_list ∙ leaving.still_swept name link (filter (sends_on link) d.entries) s h)) h) where
         still_list : filter (sends_on link) (filter stays d.entries) ≡ filter stays (filter (sends_on link) d.entries)
         still_list = filter_both (sends_on link) stays d.entries
@@ -158,12 +158,12 @@ module _ (name : ℕ → ℕ → ℕ) (link : ℕ) (peer : Host) (stamp : ℕ) (
 
   pub out_sent : (c : Command) → HasSaid c d.entries → Sent name link (sent_out name link c d.entries s) (command_gone peer stamp c d).entries s
   out_sent command.Nop said = still
-  out_sent (command.Rts receive send l) said = request_sent receive send (entry_at receive send d.entries) refl
-  out_sent (command.Str send receive size) said = request_sent send receive (entry_at send receive d.entries) refl
+  out_sent (command.Rts receive send l) said = request_sent receive send _ refl
+  out_sent (command.Str send receive size) said = request_sent send receive _ refl
   out_sent (command.Cls own foreign) said = record {
     may = tt;
-    has = closing_has own foreign (entry_at own foreign d.entries) refl said;
-    known = known_filter name stays (changed_first (is_at own foreign) cls_sent d.entries) s (closing_known own foreign (entry_at own foreign d.entries) refl said);
+    has = closing_has own foreign _ refl said;
+    known = known_filter name stays _ s (closing_known own foreign _ refl said);
   }
   out_sent (command.All l m n) said = still
   out_sent c said = still
@@ -178,14 +178,14 @@ said_step x zs one rest true t = rw t (one t, rest)
 said_step x zs one rest false t = rw t rest
 
 said_formed : (e : Entry) → IsFormed e → stays (cls_sent e) ≡ true → IsFormed (cls_sent e)
-said_formed e f live = record { live = not_is (is_over (cls_sent e)) live; told = f.told; linked = f.linked; unlinked = f.unlinked; sized = f.sized; ungranted = f.ungranted; shut = λ i n p. refl }
+said_formed e f live = record { live = not_is _ live; told = f.told; linked = f.linked; unlinked = f.unlinked; sized = f.sized; ungranted = f.ungranted; shut = λ i n p. refl }
 
 swept_formed : (es : List Entry) → AreFormed es → AreFormed (filter stays es)
 swept_formed [] k = tt
 swept_formed (y ∷ ys) k = said_step y ys (λ t. k.0) (swept_formed ys k.1) (stays y) refl
 
 gone_step : (test : Entry → Bool) (y : Entry) (ys : List Entry) → AreFormed (y ∷ ys) → AreFormed (filter stays (changed_first test cls_sent ys)) → (b : Bool) → test y ≡ b → AreFormed (filter stays (changed_first test cls_sent (y ∷ ys)))
-gone_step test y ys k rest true t = rw t (said_step (cls_sent y) ys (said_formed y k.0) (swept_formed ys k.1) (stays (cls_sent y)) refl)
+gone_step test y ys k rest true t = rw t (said_step _ ys (said_formed y k.0) (swept_formed ys k.1) _ refl)
 gone_step test y ys k rest false t = rw t (said_step y (changed_first test cls_sent ys) (λ u. k.0) rest (stays y) refl)
 
 gone_formed : (test : Entry → Bool) (es : List Entry) → AreFormed es → AreFormed (filter stays (changed_first test cls_sent es))
@@ -194,15 +194,15 @@ gone_formed test (y ∷ ys) k = gone_step test y ys k (gone_formed test ys k.1) 
 
 module _ (name : ℕ → ℕ → ℕ) (peer : Host) (stamp : ℕ) (d : DeskState) (sound : AreSound name d.entries) where
   request_sound : (own foreign : ℕ) → AreSound name (request_gone peer stamp own foreign d).entries
-  request_sound own foreign = sound_some name (is_at own foreign) (asked_at stamp) d.entries sound (λ x. refl) (λ x t f. asked_formed stamp x f)
+  request_sound own foreign = sound_some name _ _ d.entries sound (λ x. refl) (λ x t f. asked_formed stamp x f)
 
   pub out_sound : (c : Command) → AreSound name (command_gone peer stamp c d).entries
   out_sound command.Nop = sound
   out_sound (command.Rts receive send l) = request_sound receive send
   out_sound (command.Str send receive size) = request_sound send receive
   out_sound (command.Cls own foreign) = record {
-    formed = gone_formed (is_at own foreign) d.entries sound.formed;
-    apart = apart_filter name stays (changed_first (is_at own foreign) cls_sent d.entries) (apart_changed name (is_at own foreign) cls_sent d.entries (λ x. refl) sound.apart);
+    formed = gone_formed _ d.entries sound.formed;
+    apart = apart_filter name stays _ (apart_changed name _ cls_sent d.entries (λ x. refl) sound.apart);
   }
   out_sound (command.All l m n) = sound
   out_sound c = sound

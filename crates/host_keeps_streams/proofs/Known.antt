@@ -51,14 +51,14 @@ module _ (name : ℕ → ℕ → ℕ) where
       let none : is_among (named name e) (numbers name ys) ≡ false = subst (λ (x : Entry). is_among (named name x) (numbers name ys) ≡ false) same n in
       let first : is_receiving (change e) ≡ false → IsKnown (named name (change e)) (change e) t
       = λ i. subst (λ (c : ℕ). IsKnown c (change e) t) (sym (ap (λ (o : ℕ). name o (change e).foreign) (a.own e) ∙ ap (λ (o : ℕ). name e.own o) (a.foreign e))) (new (ap (λ (o : ℕ). receives o) (sym (a.own e)) ∙ i)) in
-      rw h (subst (λ (x : Entry). is_receiving (change x) ≡ false → IsKnown (named name (change x)) (change x) t) (sym same) first, known_other (named name e) ys s t none away k.1) where
+      rw h (subst (λ (x : Entry). is_receiving (change x) ≡ false → IsKnown (named name (change x)) (change x) t) (sym same) first, known_other _ ys s t none away k.1) where
         receives : ℕ → Bool
         receives o = is_receiving (record e { own = o })
   changed_step test change e y ys s t away a new n rest k false h f =
       let r : find test ys ≡ Some e = rw h at f in
       let other : (named name y == named name e) ≡ false
       = ne_eqb (named name y) (named name e) (λ same. unlike (is_among (named name e) (numbers name ys)) (found_among name test e ys r) (ap (λ (c : ℕ). is_among c (numbers name ys)) (sym same) ∙ n)) in
-      rw h ((λ i. (record { size = (away (named name y) other).0 ∙ (k.0 i).size; closed = (away (named name y) other).1 ∙ (k.0 i).closed })), rest r)
+      rw h ((λ i. (record { size = (away _ other).0 ∙ (k.0 i).size; closed = (away _ other).1 ∙ (k.0 i).closed })), rest r)
 
   pub known_changed : (test : Entry → Bool) (change : Entry → Entry) (e : Entry) (es : List Entry) (s t : Sender) → Elsewhere (named name e) s t → IsApart change → (is_receiving e ≡ false → IsKnown (named name e) (change e) t)
       → AreApart (numbers name es) → AreKnown name es s → find test es ≡ Some e → AreKnown name (changed_first test change es) t
@@ -101,7 +101,7 @@ close_apart name c [] s n h = none_closed c s h
 close_apart name c (x ∷ []) s n (inl i) =
     let other : (named name x == c) ≡ false = (or_parts (named name x == c) false n).0 in
     inl (record {
-      end = ap (λ (o : Option ℕ). senders.goes c s.shut o) i.end ∙ goes_away c (named name x) s.shut other;
+      end = ap (λ (o : Option ℕ). senders.goes c s.shut o) i.end ∙ goes_away c _ s.shut other;
       opened = i.opened;
       shut = i.shut;
       closed = (rw other i.closed);

@@ -49,17 +49,17 @@ module _ (name : ℕ → ℕ → ℕ) (link : ℕ) where
   pub closes_one : (x : Entry) (s : Sender) → IsSender (name x.own x.foreign) x s → is_due x.closing ≡ true → (w : Bool) → x.partner_closed ≡ w
       → MayAllSend (senders.Close (name x.own x.foreign) ∷ []) s × AreSender name (record x { closing = closing.Queued } ∷ []) (senders.moved (senders.Close (name x.own x.foreign)) s)
   closes_one x s i due true t =
-      let none : senders.goes (name x.own x.foreign) s.shut s.end ≡ None = goes_none (name x.own x.foreign) s.shut s.end i.end (i.shut ∙ t) in (
+      let none : senders.goes (name x.own x.foreign) s.shut s.end ≡ None = goes_none _ s.shut s.end i.end (i.shut ∙ t) in (
         (i.closed ∙ due_open x.closing due, tt),
         inr (record { closed = refl; shut = t; live = refl; none = λ k f o. (let both : None ≡ Some k = sym none ∙ f in absurd (cc)) }),
       )
   closes_one x s i due false t = (
     (i.closed ∙ due_open x.closing due, tt),
     inl (record {
-      end = goes_on (name x.own x.foreign) s.shut s.end i.end (i.shut ∙ t);
+      end = goes_on _ s.shut s.end i.end (i.shut ∙ t);
       opened = i.opened;
       shut = i.shut;
-      closed = for_here (name x.own x.foreign) true s.closed;
+      closed = for_here _ true s.closed;
       size = i.size;
       allocation = i.allocation;
       live = refl;
@@ -82,29 +82,29 @@ module _ (name : ℕ → ℕ → ℕ) (link : ℕ) where
   settles busy es x s one h =
       let a : AreSender name (x ∷ []) s = subst (λ (xs : List Entry). AreSender name xs s) one h in
       let done : MayAllSend (sent_close (must_close busy x) (name x.own x.foreign)) s × AreSender name (map (shut_one busy) (x ∷ [])) (all_sent (sent_close (must_close busy x) (name x.own x.foreign)) s)
-      = settle_one busy x s a (must_close busy x) refl in (
+      = settle_one busy x s a _ refl in (
         done.0,
         subst (λ (xs : List Entry). AreSender name xs (all_sent (sent_close (must_close busy x) (name x.own x.foreign)) s))
-            (sym (filter_map (sends_on link) (shut_one busy) es (λ e. refl) ∙ ap (λ (xs : List Entry). map (shut_one busy) xs) one)) done.1,
+            (sym (filter_map _ _ es (λ e. refl) ∙ ap (λ (xs : List Entry). map (shut_one busy) xs) one)) done.1,
       )
 
   pub settles_none : (busy : List ℕ) (es : List Entry) (s : Sender) → filter (sends_on link) es ≡ [] → HasSender name link es s → HasSender name link (map (shut_one busy) es) s
   settles_none busy es s none h =
-      subst (λ (xs : List Entry). AreSender name xs s) (sym (filter_map (sends_on link) (shut_one busy) es (λ e. refl) ∙ ap (λ (xs : List Entry). map (shut_one busy) xs) none)) (subst (λ (xs : List Entry). AreSender name xs s) none h)
+      subst (λ (xs : List Entry). AreSender name xs s) (sym (filter_map _ _ es (λ e. refl) ∙ ap (λ (xs : List Entry). map (shut_one busy) xs) none)) (subst (λ (xs : List Entry). AreSender name xs s) none h)
 
   -- ---- the user closes
 
   pub close_sends : (socket : ℕ) (q : PairState) (e : Entry) (s : Sender) → find (is_mine_on socket) q.entries ≡ Some e → sends_on link e ≡ true → was_closed e ≡ false → HasSender name link q.entries s
       → MayAllSend (sent_close (must_close q.busy (called_off e)) (name e.own e.foreign)) s × HasSender name link (closed_end socket q).entries (all_sent (sent_close (must_close q.busy (called_off e)) (name e.own e.foreign)) s)
   close_sends socket q e s found on live h =
-      let k : AreSender name (e ∷ []) s × (filter (sends_on link) (changed_first (is_mine_on socket) called_off q.entries) ≡ called_off e ∷ []) = own_sender name link (is_mine_on socket) called_off e q.entries s found on on h in
+      let k : AreSender name (e ∷ []) s × (filter (sends_on link) (changed_first (is_mine_on socket) called_off q.entries) ≡ called_off e ∷ []) = own_sender name link _ called_off e q.entries s found on on h in
       let p : (is_called_off e.closing ≡ false) × (e.partner_closed ≡ false) = or_false (is_called_off e.closing) e.partner_closed live in
       let no : e.closing ≡ closing.No = not_called e.closing p.0 in
       let off : AreSender name (called_off e ∷ []) s = elim k.0 [
         | inl i ↦ inl (record { end = i.end; opened = i.opened; shut = i.shut; closed = i.closed ∙ called no; size = i.size; allocation = i.allocation; live = alive no })
         | inr n ↦ absurd (unlike e.partner_closed n.shut p.1)
       ] in
-      settles q.busy (changed_first (is_mine_on socket) called_off q.entries) (called_off e) s k.1 (subst (λ (xs : List Entry). AreSender name xs s) (sym k.1) off) where
+      settles q.busy (changed_first (is_mine_on socket) called_off q.entries) _ s k.1 (subst (λ (xs : List Entry). AreSender name xs s) (sym k.1) off) where
         called : e.closing ≡ closing.No → has_cls e.closing ≡ has_cls (called_off e).closing
         called same = rw same refl
 
@@ -137,7 +137,7 @@ module _ (name : ℕ → ℕ → ℕ) (link : ℕ) where
       → MayAllSend (senders.Close (name e.own e.foreign) ∷ []) (record s { shut = true })
       × AreSender name (record e { closing = closing.Queued; partner_closed = true; bits = [] } ∷ []) (senders.moved (senders.Close (name e.own e.foreign)) (record s { shut = true }))
   drained_by e s i unclosed =
-      let none : senders.goes (name e.own e.foreign) true s.end ≡ None = goes_none (name e.own e.foreign) true s.end i.end refl in
+      let none : senders.goes (name e.own e.foreign) true s.end ≡ None = goes_none _ true s.end i.end refl in
       ((unclosed, tt), inr (record { closed = refl; shut = refl; live = refl; none = λ k f o. (let both : None ≡ Some k = sym none ∙ f in absurd (cc)) }))
 
   waiting_by : (e : Entry) (s : Sender) → IsSender (name e.own e.foreign) e s → s.closed (name e.own e.foreign) ≡ false → AreSender name (record e { closing = closing.Due; partner_closed = true; bits = [] } ∷ []) (record s { shut = true })
@@ -145,16 +145,16 @@ module _ (name : ℕ → ℕ → ℕ) (link : ℕ) where
 
   heard_by : (e : Entry) (s : Sender) → IsSender (name e.own e.foreign) e s → (v : Closing) → e.closing ≡ v → (w : Bool) → Done e v w (senders.shuts (name e.own e.foreign) s.end s)
   heard_by e s i closing.No same false =
-      subst (λ (t : Sender). Done e closing.No false t) (sym (heard_unclosed (name e.own e.foreign) s i.end (i.closed ∙ ap has_cls same))) (tt, waiting_by e s i (i.closed ∙ ap has_cls same))
+      subst (λ (t : Sender). Done e closing.No false t) (sym (heard_unclosed _ s i.end (i.closed ∙ ap has_cls same))) (tt, waiting_by e s i (i.closed ∙ ap has_cls same))
   heard_by e s i closing.Due same false =
-      subst (λ (t : Sender). Done e closing.Due false t) (sym (heard_unclosed (name e.own e.foreign) s i.end (i.closed ∙ ap has_cls same))) (tt, waiting_by e s i (i.closed ∙ ap has_cls same))
+      subst (λ (t : Sender). Done e closing.Due false t) (sym (heard_unclosed _ s i.end (i.closed ∙ ap has_cls same))) (tt, waiting_by e s i (i.closed ∙ ap has_cls same))
   heard_by e s i closing.Queued same w =
-      subst (λ (t : Sender). Done e closing.Queued w t) (sym (heard_closed (name e.own e.foreign) s i.end (i.closed ∙ ap has_cls same)))
+      subst (λ (t : Sender). Done e closing.Queued w t) (sym (heard_closed _ s i.end (i.closed ∙ ap has_cls same)))
       (tt, inr (record { closed = refl; shut = refl; live = refl; none = λ k f o. absurd (cc) }))
   heard_by e s i closing.Sent same w =
-      subst (λ (t : Sender). Done e closing.Sent w t) (sym (heard_closed (name e.own e.foreign) s i.end (i.closed ∙ ap has_cls same))) (tt, λ k f. absurd (cc))
+      subst (λ (t : Sender). Done e closing.Sent w t) (sym (heard_closed _ s i.end (i.closed ∙ ap has_cls same))) (tt, λ k f. absurd (cc))
   heard_by e s i v same true =
-      subst (λ (t : Sender). Done e v true t) (sym (heard_unclosed (name e.own e.foreign) s i.end (i.closed ∙ ap has_cls same))) (drained_by e s i (i.closed ∙ ap has_cls same))
+      subst (λ (t : Sender). Done e v true t) (sym (heard_unclosed _ s i.end (i.closed ∙ ap has_cls same))) (drained_by e s i (i.closed ∙ ap has_cls same))
 
   pub cls_sends : (peer : Host) (busy : List ℕ) (stamp own foreign : ℕ) (d : DeskState) (e : Entry) (s : Sender) → entry_at own foreign d.entries ≡ Some e → sends_on link e ≡ true → e.partner_closed ≡ false → HasSender name link d.entries s
       → MayAllSend (senders.Hear (words.Cls (name e.own e.foreign)) ∷ sent_heard e.closing (is_answered busy e.link) (name e.own e.foreign)) s
@@ -178,7 +178,7 @@ module _ (name : ℕ → ℕ → ℕ) (link : ℕ) where
   -- ---- the own CLS goes out
 
   gone_by : (e : Entry) (s : Sender) → AreSender name (e ∷ []) s → has_cls e.closing ≡ true → (v : Bool) → e.partner_closed ≡ v → AreSender name (filter stays (cls_sent e ∷ [])) s
-  gone_by e s (inl i) closed true t = rw t (none_open (name e.own e.foreign) e s i closed)
+  gone_by e s (inl i) closed true t = rw t (none_open _ e s i closed)
   gone_by e s (inl i) closed false t =
       rw t (inl (record { end = i.end; opened = i.opened; shut = i.shut ∙ t; closed = i.closed ∙ closed; size = i.size; allocation = i.allocation; live = refl }))
   gone_by e s (inr n) closed true t = rw t n.none
@@ -187,7 +187,7 @@ module _ (name : ℕ → ℕ → ℕ) (link : ℕ) where
   pub gone_sends : (peer : Host) (stamp own foreign : ℕ) (d : DeskState) (e : Entry) (s : Sender) → entry_at own foreign d.entries ≡ Some e → sends_on link e ≡ true → has_cls e.closing ≡ true → HasSender name link d.entries s
       → HasSender name link (command_gone peer stamp (command.Cls own foreign) d).entries s
   gone_sends peer stamp own foreign d e s found on closed h =
-      let k : AreSender name (e ∷ []) s × (filter (sends_on link) (changed_first (is_at own foreign) cls_sent d.entries) ≡ cls_sent e ∷ []) = own_sender name link (is_at own foreign) cls_sent e d.entries s found on on h in
+      let k : AreSender name (e ∷ []) s × (filter (sends_on link) (changed_first (is_at own foreign) cls_sent d.entries) ≡ cls_sent e ∷ []) = own_sender name link _ cls_sent e d.entries s found on on h in
       subst (λ (xs : List Entry). AreSender name xs s) (sym (filter_both (sends_on link) stays (changed_first (is_at own foreign) cls_sent d.entries) ∙ ap (λ (xs : List Entry). filter stays xs) k.1))
       (gone_by e s k.0 closed e.partner_closed refl)
 
@@ -201,5 +201,5 @@ module _ (name : ℕ → ℕ → ℕ) (link : ℕ) where
       → HasSender name link (command_gone peer stamp (command.Cls own foreign) d).entries s
   gone_elsewhere peer stamp own foreign d e s found off h =
       subst (λ (xs : List Entry). AreSender name xs s)
-      (sym (filter_both (sends_on link) stays (changed_first (is_at own foreign) cls_sent d.entries) ∙ ap (λ (xs : List Entry). filter stays xs) (away (is_at own foreign) (sends_on link) cls_sent e d.entries off off found)
-      ∙ still_swept (filter (sends_on link) d.entries) s h)) h
+      (sym (filter_both (sends_on link) stays (changed_first (is_at own foreign) cls_sent d.entries) ∙ ap (λ (xs : List Entry). filter stays xs) (away _ _ cls_sent e d.entries off off found)
+      ∙ still_swept _ s h)) h

@@ -176,7 +176,7 @@ pub received_is : (link : ℕ) (e : Entry) → receives_on link e ≡ true → i
 received_is link e t = (both (is_receiving e) (is_link link e.link) t).0
 
 pub sent_is : (link : ℕ) (e : Entry) → sends_on link e ≡ true → is_receiving e ≡ false
-sent_is link e t = not_is (is_receiving e) (both (not (is_receiving e)) (is_link link e.link) t).0
+sent_is link e t = not_is _ (both (not (is_receiving e)) (is_link link e.link) t).0
 
 -- ---- one more end
 

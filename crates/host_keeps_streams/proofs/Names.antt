@@ -42,7 +42,7 @@ module _ (name : ℕ → ℕ → ℕ) where
       let same : y ≡ e = some_is y e r in
       let away : on y ≡ false = ap on same ∙ off in
       let none : is_among (named name e) (numbers name ys) ≡ false = subst (λ (z : Entry). is_among (named name z) (numbers name ys) ≡ false) same apart in
-      rw away (among_filter (named name e) on ys none)
+      rw away (among_filter _ on ys none)
   others_step test on e y ys off rest apart false true t o f =
       let r : find test ys ≡ Some e = rw t at f in
       let other : (named name y == named name e) ≡ false
@@ -56,7 +56,7 @@ module _ (name : ℕ → ℕ → ℕ) where
 
   -- some of them are apart too
   apart_step : (keep : Entry → Bool) (y : Entry) (ys : List Entry) → AreApart (numbers name (filter keep ys)) → is_among (named name y) (numbers name ys) ≡ false → (b : Bool) → keep y ≡ b → AreApart (numbers name (filter keep (y ∷ ys)))
-  apart_step keep y ys rest n true k = rw k (among_filter (named name y) keep ys n, rest)
+  apart_step keep y ys rest n true k = rw k (among_filter _ keep ys n, rest)
   apart_step keep y ys rest n false k = rw k rest
 
   pub apart_filter : (keep : Entry → Bool) (es : List Entry) → AreApart (numbers name es) → AreApart (numbers name (filter keep es))
@@ -76,7 +76,7 @@ module _ (name : ℕ → ℕ → ℕ) where
   apart_append [] e a n = (refl, tt)
   apart_append (y ∷ ys) e a n =
       let p : ((named name y == named name e) ≡ false) × (is_among (named name e) (numbers name ys) ≡ false) = or_parts (named name y == named name e) (is_among (named name e) (numbers name ys)) n in
-      (among_append (named name y) ys e a.0 (turned (named name y) (named name e) p.0), apart_append ys e a.1 p.1)
+      (among_append _ ys e a.0 (turned _ _ p.0), apart_append ys e a.1 p.1)
 
   -- a change that leaves the sockets leaves the numbers
   changed_step : (test : Entry → Bool) (change : Entry → Entry) (y : Entry) (ys : List Entry) → ((x : Entry) → named name (change x) ≡ named name x) → numbers name (changed_first test change ys) ≡ numbers name ys → (b : Bool) → test y ≡ b
@@ -108,32 +108,32 @@ module _ (name other : ℕ → ℕ → ℕ) where
   same_filter : (on : Entry → Bool) (es : List Entry) → numbers other es ≡ numbers name es → numbers other (filter on es) ≡ numbers name (filter on es)
   same_filter on [] e = refl
   same_filter on (y ∷ ys) e =
-      let p : (named other y ≡ named name y) × (numbers other ys ≡ numbers name ys) = same_tail (named other y) (named name y) (numbers other ys) (numbers name ys) e in
+      let p : (named other y ≡ named name y) × (numbers other ys ≡ numbers name ys) = same_tail _ _ _ _ e in
       same_step on y ys (same_filter on ys p.1) p.0 (on y) refl
 
   receiver_renamed : (xs : List Entry) (r : Receiver) → numbers other xs ≡ numbers name xs → AreReceiver name xs r → AreReceiver other xs r
   receiver_renamed [] r e h = h
-  receiver_renamed (x ∷ []) r e h = subst (λ (c : ℕ). IsReceiver c x r) (sym (same_tail (named other x) (named name x) [] [] e).0) h
+  receiver_renamed (x ∷ []) r e h = subst (λ (c : ℕ). IsReceiver c x r) (sym (same_tail _ _ [] [] e).0) h
   receiver_renamed (x ∷ y ∷ ys) r e h = h
 
   sender_renamed : (xs : List Entry) (s : Sender) → numbers other xs ≡ numbers name xs → AreSender name xs s → AreSender other xs s
   sender_renamed [] s e h = h
-  sender_renamed (x ∷ []) s e (inl i) = inl (subst (λ (c : ℕ). IsSender c x s) (sym (same_tail (named other x) (named name x) [] [] e).0) i)
+  sender_renamed (x ∷ []) s e (inl i) = inl (subst (λ (c : ℕ). IsSender c x s) (sym (same_tail _ _ [] [] e).0) i)
   sender_renamed (x ∷ []) s e (inr n) = inr n
   sender_renamed (x ∷ y ∷ ys) s e h = h
 
   known_renamed : (es : List Entry) (s : Sender) → numbers other es ≡ numbers name es → AreKnown name es s → AreKnown other es s
   known_renamed [] s e k = tt
   known_renamed (y ∷ ys) s e k =
-      let p : (named other y ≡ named name y) × (numbers other ys ≡ numbers name ys) = same_tail (named other y) (named name y) (numbers other ys) (numbers name ys) e in
+      let p : (named other y ≡ named name y) × (numbers other ys ≡ numbers name ys) = same_tail _ _ _ _ e in
       (λ i. subst (λ (c : ℕ). IsKnown c y s) (sym p.0) (k.0 i), known_renamed ys s p.1 k.1)
 
   -- the same ends are the law's by any names that are the same for them
   pub received_renamed : (link : ℕ) (es : List Entry) (r : Receiver) → numbers other es ≡ numbers name es → HasReceiver name link es r → HasReceiver other link es r
-  received_renamed link es r e h = receiver_renamed (filter (receives_on link) es) r (same_filter (receives_on link) es e) h
+  received_renamed link es r e h = receiver_renamed _ r (same_filter _ es e) h
 
   pub sent_renamed : (link : ℕ) (es : List Entry) (s : Sender) → numbers other es ≡ numbers name es → IsSending name link es s → IsSending other link es s
-  sent_renamed link es s e h = record { here = sender_renamed (filter (sends_on link) es) s (same_filter (sends_on link) es e) h.here; known = known_renamed es s e h.known }
+  sent_renamed link es s e h = record { here = sender_renamed _ s (same_filter _ es e) h.here; known = known_renamed es s e h.known }
 
   pub sound_renamed : (es : List Entry) → numbers other es ≡ numbers name es → AreSound name es → AreSound other es
   sound_renamed es e s = record { formed = s.formed; apart = subst AreApart (sym e) s.apart }

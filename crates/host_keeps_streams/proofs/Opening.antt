@@ -21,7 +21,7 @@ module _ (name : ℕ → ℕ → ℕ) (link : ℕ) where
     record { end = i.end; opened = sym t; closed = i.closed; over = i.over; size = i.size; allocation = i.allocation; due = i.due; live = i.live },
   )
   asked_by stamp e r i false t size =
-      let before : r.opened ≡ false = i.opened ∙ ap (λ (v : Bool). is_some e.asked && v) t ∙ and_none (is_some e.asked) in
+      let before : r.opened ≡ false = i.opened ∙ ap (λ (v : Bool). is_some e.asked && v) t ∙ and_none _ in
       (tt, record { end = i.end; opened = before ∙ sym t; closed = i.closed; over = i.over; size = i.size; allocation = i.allocation; due = i.due; live = i.live })
 
   pub rts_gone : (peer : Host) (stamp own foreign other : ℕ) (d : DeskState) (e : Entry) (r : Receiver) → entry_at own foreign d.entries ≡ Some e → receives_on link e ≡ true → (is_some e.partner ≡ true → is_some e.size ≡ true)
@@ -30,7 +30,7 @@ module _ (name : ℕ → ℕ → ℕ) (link : ℕ) where
       × HasReceiver name link (command_gone peer stamp (command.Rts own foreign other) d).entries (all_received (received_open (is_some e.partner) (name e.own e.foreign)) r)
   rts_gone peer stamp own foreign other d e r found on size h =
       let k : IsReceiver (name e.own e.foreign) e r × (filter (receives_on link) (changed_first (is_at own foreign) (asked_at stamp) d.entries) ≡ asked_at stamp e ∷ [])
-      = own_receiver name link (is_at own foreign) (asked_at stamp) e d.entries r found on on h in
+      = own_receiver name link _ _ e d.entries r found on on h in
       let done : MayAllReceive (received_open (is_some e.partner) (name e.own e.foreign)) r × IsReceiver (name e.own e.foreign) (asked_at stamp e) (all_received (received_open (is_some e.partner) (name e.own e.foreign)) r)
       = asked_by stamp e r k.0 (is_some e.partner) refl size in
       (done.0, subst (λ (xs : List Entry). AreReceiver name xs (all_received (received_open (is_some e.partner) (name e.own e.foreign)) r)) (sym k.1) done.1)
@@ -41,19 +41,19 @@ module _ (name : ℕ → ℕ → ℕ) (link : ℕ) where
       → MayAllReceive (receivers.Hear (words.Str (name e.own e.foreign) z) ∷ received_open v (name e.own e.foreign)) r
       × IsReceiver (name e.own e.foreign) (asked_with_size stamp z e) (all_received (receivers.Hear (words.Str (name e.own e.foreign) z) ∷ received_open v (name e.own e.foreign)) r)
   told_by stamp z e r i none true t =
-      let size : for (name e.own e.foreign) (Some z) r.size (name e.own e.foreign) ≡ Some z = for_here (name e.own e.foreign) (Some z) r.size in (
+      let size : for (name e.own e.foreign) (Some z) r.size (name e.own e.foreign) ≡ Some z = for_here _ (Some z) r.size in (
         (tt, ((i.end, ap is_some size), tt)),
         record { end = i.end; opened = ap (λ (v : Bool). v && true) (sym t); closed = i.closed; over = i.over; size = size; allocation = i.allocation; due = i.due; live = i.live },
       )
   told_by stamp z e r i none false t =
-      let before : r.opened ≡ false = i.opened ∙ ap (λ (v : Bool). is_some e.asked && v) none ∙ and_none (is_some e.asked) in (
+      let before : r.opened ≡ false = i.opened ∙ ap (λ (v : Bool). is_some e.asked && v) none ∙ and_none _ in (
         (tt, tt),
         record {
           end = i.end;
           opened = before ∙ ap (λ (v : Bool). v && true) (sym t);
           closed = i.closed;
           over = i.over;
-          size = for_here (name e.own e.foreign) (Some z) r.size;
+          size = for_here _ (Some z) r.size;
           allocation = i.allocation;
           due = i.due;
           live = i.live;
@@ -66,7 +66,7 @@ module _ (name : ℕ → ℕ → ℕ) (link : ℕ) where
       × HasReceiver name link (desk_taken peer busy stamp (command.Str foreign own z) d).entries (all_received (receivers.Hear (words.Str (name e.own e.foreign) z) ∷ received_open (is_some e.asked) (name e.own e.foreign)) r)
   str_heard peer busy stamp own foreign z d e r found on first h =
       let k : IsReceiver (name e.own e.foreign) e r × (filter (receives_on link) (changed_first (is_at own foreign) (asked_with_size stamp z) d.entries) ≡ asked_with_size stamp z e ∷ [])
-      = own_receiver name link (is_at own foreign) (asked_with_size stamp z) e d.entries r found on on h in
+      = own_receiver name link _ _ e d.entries r found on on h in
       let done : MayAllReceive (receivers.Hear (words.Str (name e.own e.foreign) z) ∷ received_open (is_some e.asked) (name e.own e.foreign)) r
       × IsReceiver (name e.own e.foreign) (asked_with_size stamp z e) (all_received (receivers.Hear (words.Str (name e.own e.foreign) z) ∷ received_open (is_some e.asked) (name e.own e.foreign)) r)
       = told_by stamp z e r k.0 first (is_some e.asked) refl in (
@@ -101,7 +101,7 @@ module _ (name : ℕ → ℕ → ℕ) (link : ℕ) where
   rts_heard peer busy stamp own foreign d e s found sends free none size closed told fresh open_end first =
       let on : sends_on link (asked_on_link stamp link e) ≡ true = (let there : (link == link) ≡ true = eq-eqb link link refl in rw (sends, there) refl) in
       let one : filter (sends_on link) (changed_first (is_at own foreign) (asked_on_link stamp link) d.entries) ≡ asked_on_link stamp link e ∷ []
-      = joins (is_at own foreign) (sends_on link) (asked_on_link stamp link) e d.entries on found (none_any (sends_on link) d.entries free) in
+      = joins _ _ _ e d.entries on found (none_any _ d.entries free) in
       let done : MayAllSend (sent_open (is_some e.asked) (name e.own e.foreign)) (senders.begins (name e.own e.foreign) None s)
       × IsSender (name e.own e.foreign) (asked_on_link stamp link e) (all_sent (sent_open (is_some e.asked) (name e.own e.foreign)) (senders.begins (name e.own e.foreign) None s))
       = linked_by stamp e s none size closed told fresh open_end first (is_some e.asked) refl in
@@ -131,8 +131,8 @@ module _ (name : ℕ → ℕ → ℕ) (link own foreign : ℕ) (q : PairState) (
       → receivers.May (receivers.Ask (name own foreign)) r
       × HasReceiver name link (requested (receiving_end own foreign link) (command.Rts own foreign link) q).entries (receivers.moved (receivers.Ask (name own foreign)) r)
   asks_free free even unasked size over =
-      let unused : list_any (receives_on link) q.entries ≡ false = not_is (list_any (receives_on link) q.entries) (number_passes (λ l. not (list_any (receives_on l) q.entries)) link connection_links free) in
-      let empty : filter (receives_on link) q.entries ≡ [] = none_any (receives_on link) q.entries unused in
+      let unused : list_any (receives_on link) q.entries ≡ false = not_is _ (number_passes (λ l. not (list_any (receives_on l) q.entries)) link connection_links free) in
+      let empty : filter (receives_on link) q.entries ≡ [] = none_any _ q.entries unused in
       let on : receives_on link (receiving_end own foreign link) ≡ true = (let there : (link == link) ≡ true = eq-eqb link link refl in rw (even, there) refl) in
       let one : filter (receives_on link) (receiving_end own foreign link ∷ []) ≡ receiving_end own foreign link ∷ [] = (rw on refl) in
       let list : filter (receives_on link) (q.entries ++ receiving_end own foreign link ∷ []) ≡ receiving_end own foreign link ∷ []
@@ -145,7 +145,7 @@ module _ (name : ℕ → ℕ → ℕ) (link own foreign : ℕ) (q : PairState) (
 
   pub asks_elsewhere : (other : ℕ) → (other == link) ≡ false → HasReceiver name link (requested (receiving_end own foreign other) (command.Rts own foreign other) q).entries r
   asks_elsewhere other away =
-      let off : receives_on link (receiving_end own foreign other) ≡ false = (rw away (and_none (is_receive_socket own))) in
+      let off : receives_on link (receiving_end own foreign other) ≡ false = (rw away (and_none _)) in
       let none : filter (receives_on link) (receiving_end own foreign other ∷ []) ≡ [] = (rw off refl) in
       let list : filter (receives_on link) (q.entries ++ receiving_end own foreign other ∷ []) ≡ filter (receives_on link) q.entries
       = filter-append (receives_on link) q.entries (receiving_end own foreign other ∷ []) ∙ ap (λ (xs : List Entry). filter (receives_on link) q.entries ++ xs) none ∙ append-nil (filter (receives_on link) q.entries) in
@@ -168,8 +168,8 @@ module _ (name : ℕ → ℕ → ℕ) (link c z : ℕ) (s : Sender) (other : s.e
   pub asks_to_send : (own foreign : ℕ) (q : PairState) → s.size c ≡ None → HasSender name link q.entries s
       → senders.May (senders.Ask c z) s × HasSender name link (requested (sending_end own foreign z) (command.Str own foreign z) q).entries (senders.moved (senders.Ask c z) s)
   asks_to_send own foreign q fresh h =
-      let off : sends_on link (sending_end own foreign z) ≡ false = and_none (not (is_receive_socket own)) in
+      let off : sends_on link (sending_end own foreign z) ≡ false = and_none _ in
       let none : filter (sends_on link) (sending_end own foreign z ∷ []) ≡ [] = (rw off refl) in
       let list : filter (sends_on link) (q.entries ++ sending_end own foreign z ∷ []) ≡ filter (sends_on link) q.entries
       = filter-append (sends_on link) q.entries (sending_end own foreign z ∷ []) ∙ ap (λ (xs : List Entry). filter (sends_on link) q.entries ++ xs) none ∙ append-nil (filter (sends_on link) q.entries) in
-      (fresh, subst (λ (xs : List Entry). AreSender name xs (senders.moved (senders.Ask c z) s)) (sym list) (told_keeps (filter (sends_on link) q.entries) h))
+      (fresh, subst (λ (xs : List Entry). AreSender name xs (senders.moved (senders.Ask c z) s)) (sym list) (told_keeps _ h))

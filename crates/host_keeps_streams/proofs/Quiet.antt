@@ -18,20 +18,20 @@ at_end_same on c change (Open e) d f = f e
 ret_same : (on : Entry → Bool) (l m n : ℕ) (e : Entry) (d : DeskState) → Off (receives_on l) on (returned m n) → Same on d (ret_taken l m n e d)
 ret_same on l m n e d off = by (nat_le m e.allocation.messages && nat_le n e.allocation.bits) refl where
   by : (v : Bool) → (nat_le m e.allocation.messages && nat_le n e.allocation.bits) ≡ v → Same on d (ret_taken l m n e d)
-  by true t = rw t (apart (receives_on l) on (returned m n) d.entries off)
+  by true t = rw t (apart _ on _ d.entries off)
   by false t = rw t refl
 
 data_if : (on : Entry → Bool) (l : ℕ) (text : List Bool) (e : Entry) (d : DeskState) (o : Option DataHeader) → ((n : ℕ) → Off (receives_on l) on (spent n)) → Same on d (arrived_if l e text o d)
 data_if on l text e d None off = refl
 data_if on l text e d (Some h) off = by (is_acceptable e h) refl where
   by : (v : Bool) → is_acceptable e h ≡ v → Same on d (arrived_if l e text (Some h) d)
-  by true t = rw t (apart (receives_on l) on (spent (data_bits h)) d.entries (off (data_bits h)))
+  by true t = rw t (apart _ on _ d.entries (off _))
   by false t = rw t refl
 
 data_same : (on : Entry → Bool) (l : ℕ) (text : List Bool) (d : DeskState) (w : Found) → ((n : ℕ) → Off (receives_on l) on (spent n)) → Same on d (data_found l text w d)
 data_same on l text d Unconnected off = refl
 data_same on l text d Ending off = refl
-data_same on l text d (Open e) off = data_if on l text e d (header_of text) off
+data_same on l text d (Open e) off = data_if on l text e d _ off
 
 -- ---- receivers
 
@@ -50,7 +50,7 @@ receiver_leaves link peer busy stamp (command.Ins l) d a = at_end_same (receives
 receiver_leaves link peer busy stamp c d a = refl
 
 pub receiver_elsewhere : (link l : ℕ) (text : List Bool) (d : DeskState) → (l == link) ≡ false → Same (receives_on link) d (data_taken l text d)
-receiver_elsewhere link l text d away = data_same (receives_on link) l text d (receiver_on l d) (λ n x t. (other_receives link l away x t, other_receives link l away (spent n x) t))
+receiver_elsewhere link l text d away = data_same _ l text d _ (λ n x t. (other_receives link l away x t, other_receives link l away (spent n x) t))
 
 -- ---- senders
 
@@ -70,4 +70,4 @@ sender_leaves link peer busy stamp c d a = refl
 
 -- data of the peer are no matter of those that send
 pub sender_hears_data : (link l : ℕ) (text : List Bool) (d : DeskState) → Same (sends_on link) d (data_taken l text d)
-sender_hears_data link l text d = data_same (sends_on link) l text d (receiver_on l d) (λ n x t. (not_sent link x (received_is l x t), not_sent link (spent n x) (received_is l x t)))
+sender_hears_data link l text d = data_same _ l text d _ (λ n x t. (not_sent link x (received_is l x t), not_sent link (spent n x) (received_is l x t)))

@@ -43,12 +43,12 @@ module _ (name : ℕ → ℕ → ℕ) (link : ℕ) where
   -- an end that is found is that of these sockets
   pub own_name : (own foreign : ℕ) (e : Entry) (es : List Entry) → entry_at own foreign es ≡ Some e → named name e ≡ name own foreign
   own_name own foreign e es found =
-      let t : ((e.own == own) ≡ true) × ((e.foreign == foreign) ≡ true) = both (e.own == own) (e.foreign == foreign) (find_passes (is_at own foreign) e es found) in
+      let t : ((e.own == own) ≡ true) × ((e.foreign == foreign) ≡ true) = both (e.own == own) (e.foreign == foreign) (find_passes _ e es found) in
       ap (λ (n : ℕ). name n e.foreign) (eqb-true e.own own t.0) ∙ ap (λ (n : ℕ). name own n) (eqb-true e.foreign foreign t.1)
 
   pub own_parity : (own foreign : ℕ) (e : Entry) (es : List Entry) → entry_at own foreign es ≡ Some e → is_receiving e ≡ is_receive_socket own
   own_parity own foreign e es found =
-      let t : ((e.own == own) ≡ true) × ((e.foreign == foreign) ≡ true) = both (e.own == own) (e.foreign == foreign) (find_passes (is_at own foreign) e es found) in
+      let t : ((e.own == own) ≡ true) × ((e.foreign == foreign) ≡ true) = both (e.own == own) (e.foreign == foreign) (find_passes _ e es found) in
       ap is_receive_socket (eqb-true e.own own t.0)
 
   -- ---- an STR
@@ -58,23 +58,23 @@ module _ (name : ℕ → ℕ → ℕ) (link : ℕ) where
     refused_here : is_among (name own foreign) (numbers name d.entries) ≡ false → (e : Entry) → receives_on link e ≡ false → Received name link (receivers.Hear (words.Str (name own foreign) z) ∷ []) (d.entries ++ e ∷ []) r
     refused_here free e off = (
       (tt, tt),
-      subst (λ (xs : List Entry). AreReceiver name xs (receivers.hears (words.Str (name own foreign) z) r)) (sym (append_off (receives_on link) e d.entries off))
-          (told_apart name (name own foreign) z (filter (receives_on link) d.entries) r (among_filter name (name own foreign) (receives_on link) d.entries free) h),
+      subst (λ (xs : List Entry). AreReceiver name xs (receivers.hears (words.Str (name own foreign) z) r)) (sym (append_off _ e d.entries off))
+          (told_apart name _ z _ r (among_filter name _ _ d.entries free) h),
     )
 
     nowhere : (e : Entry) → e.link ≡ None → receives_on link e ≡ false
-    nowhere e none = ap (λ (o : Option ℕ). is_receiving e && is_link link o) none ∙ and_none (is_receiving e)
+    nowhere e none = ap (λ (o : Option ℕ). is_receiving e && is_link link o) none ∙ and_none _
 
     answered_on_link : IsNewReceived (name own foreign) (numbers name d.entries) r → free_link d.entries ≡ Some link
         → Received name link (receivers.Hear (words.Str (name own foreign) z) ∷ receivers.Ask (name own foreign) ∷ []) (d.entries ++ asked_with_size stamp z (receiving_end own foreign link) ∷ []) r
     answered_on_link new free =
-        let unused : list_any (receives_on link) d.entries ≡ false = not_is (list_any (receives_on link) d.entries) (number_passes (λ l. not (list_any (receives_on l) d.entries)) link connection_links free) in
-        let empty : filter (receives_on link) d.entries ≡ [] = none_any (receives_on link) d.entries unused in
+        let unused : list_any (receives_on link) d.entries ≡ false = not_is _ (number_passes (λ l. not (list_any (receives_on l) d.entries)) link connection_links free) in
+        let empty : filter (receives_on link) d.entries ≡ [] = none_any _ d.entries unused in
         let on : receives_on link (asked_with_size stamp z (receiving_end own foreign link)) ≡ true = (let there : (link == link) ≡ true = eq-eqb link link refl in rw (even, there) refl) in
         let none : r.end ≡ None = subst (λ (xs : List Entry). AreReceiver name xs r) empty h in (
           (tt, ((none, new.unasked), tt)),
-          subst (λ (xs : List Entry). AreReceiver name xs (all_received (receivers.Hear (words.Str (name own foreign) z) ∷ receivers.Ask (name own foreign) ∷ []) r)) (sym (append_on (receives_on link) (asked_with_size stamp z (receiving_end own foreign link)) d.entries on empty))
-              (record { end = refl; opened = refl; closed = refl; over = new.unheard; size = for_here (name own foreign) (Some z) r.size; allocation = refl; due = refl; live = refl }),
+          subst (λ (xs : List Entry). AreReceiver name xs (all_received (receivers.Hear (words.Str (name own foreign) z) ∷ receivers.Ask (name own foreign) ∷ []) r)) (sym (append_on _ _ d.entries on empty))
+              (record { end = refl; opened = refl; closed = refl; over = new.unheard; size = for_here _ (Some z) r.size; allocation = refl; due = refl; live = refl }),
         )
 
     answered_by : IsNewReceived (name own foreign) (numbers name d.entries) r → (other : ℕ) → free_link d.entries ≡ Some other → (v : Bool) → (other == link) ≡ v
@@ -84,16 +84,16 @@ module _ (name : ℕ → ℕ → ℕ) (link : ℕ) where
         rw e (subst (λ (l : ℕ). Received name link (receivers.Hear (words.Str (name own foreign) z) ∷ receivers.Ask (name own foreign) ∷ []) (d.entries ++ asked_with_size stamp z (receiving_end own foreign l) ∷ []) r) (sym same)
         (answered_on_link new (free ∙ ap (λ (l : ℕ). Some l) same)))
     answered_by new other free false e =
-        rw e (refused_here new.free (asked_with_size stamp z (receiving_end own foreign other)) (ap (λ (v : Bool). is_receive_socket own && v) e ∙ and_none (is_receive_socket own)))
+        rw e (refused_here new.free _ (ap (λ (v : Bool). is_receive_socket own && v) e ∙ and_none _))
 
     linked_by : IsNewReceived (name own foreign) (numbers name d.entries) r → (l : Listener) → (o : Option ℕ) → free_link d.entries ≡ o
         → Received name link (receivers.Hear (words.Str (name own foreign) z) ∷ answers_str link (name own foreign) (Some l) o) (str_linked own foreign z stamp o d).entries r
-    linked_by new l None free = refused_here new.free (refused_end own foreign stamp) (nowhere (refused_end own foreign stamp) refl)
+    linked_by new l None free = refused_here new.free _ (nowhere (refused_end own foreign stamp) refl)
     linked_by new l (Some other) free = answered_by new other free (other == link) refl
 
     listened_by : IsNewReceived (name own foreign) (numbers name d.entries) r → (o : Option Listener)
         → Received name link (receivers.Hear (words.Str (name own foreign) z) ∷ answers_str link (name own foreign) o (free_link d.entries)) (str_heard own foreign z stamp o d).entries r
-    listened_by new None = refused_here new.free (refused_end own foreign stamp) (nowhere (refused_end own foreign stamp) refl)
+    listened_by new None = refused_here new.free _ (nowhere (refused_end own foreign stamp) refl)
     listened_by new (Some l) = linked_by new l (free_link d.entries) refl
 
     -- an end is there
@@ -114,10 +114,10 @@ module _ (name : ℕ → ℕ → ℕ) (link : ℕ) where
     told_away : (e : Entry) → entry_at own foreign d.entries ≡ Some e → is_some e.partner ≡ false → receives_on link e ≡ false → Told e
     told_away e found first off =
         let list : filter (receives_on link) (changed_first (is_at own foreign) (asked_with_size stamp z) d.entries) ≡ filter (receives_on link) d.entries
-        = away (is_at own foreign) (receives_on link) (asked_with_size stamp z) e d.entries off off found in
+        = away _ _ _ e d.entries off off found in
         let free : is_among (name own foreign) (numbers name (filter (receives_on link) d.entries)) ≡ false
-        = subst (λ (c : ℕ). is_among c (numbers name (filter (receives_on link) d.entries)) ≡ false) (own_name own foreign e d.entries found) (others name (is_at own foreign) (receives_on link) e d.entries off a found) in
-        rw (first, off) ((tt, tt), subst (λ (xs : List Entry). AreReceiver name xs (receivers.hears (words.Str (name own foreign) z) r)) (sym list) (told_apart name (name own foreign) z (filter (receives_on link) d.entries) r free h))
+        = subst (λ (c : ℕ). is_among c (numbers name (filter (receives_on link) d.entries)) ≡ false) (own_name own foreign e d.entries found) (others name _ _ e d.entries off a found) in
+        rw (first, off) ((tt, tt), subst (λ (xs : List Entry). AreReceiver name xs (receivers.hears (words.Str (name own foreign) z) r)) (sym list) (told_apart name _ z _ r free h))
 
     told_by : (e : Entry) → entry_at own foreign d.entries ≡ Some e → (u v : Bool) → is_some e.partner ≡ u → receives_on link e ≡ v → Told e
     told_by e found true v p o = rw p (tt, h)
@@ -126,8 +126,8 @@ module _ (name : ℕ → ℕ → ℕ) (link : ℕ) where
 
     str_by : (o : Option Entry) → entry_at own foreign d.entries ≡ o → (o ≡ None → IsNewReceived (name own foreign) (numbers name d.entries) r)
         → Received name link (str_received link (name own foreign) z (listener_on own d.listening) (free_link d.entries) o) (str_taken_by peer own foreign z stamp o d).entries r
-    str_by None found new = listened_by (new refl) (listener_on own d.listening)
-    str_by (Some e) found new = told_by e found (is_some e.partner) (receives_on link e) refl refl
+    str_by None found new = listened_by (new refl) _
+    str_by (Some e) found new = told_by e found _ _ refl refl
 
     str_receives : (entry_at own foreign d.entries ≡ None → IsNewReceived (name own foreign) (numbers name d.entries) r)
         → Received name link (str_received link (name own foreign) z (listener_on own d.listening) (free_link d.entries) (entry_at own foreign d.entries)) (str_taken peer own foreign z stamp d).entries r
@@ -159,9 +159,9 @@ module _ (name : ℕ → ℕ → ℕ) (link : ℕ) where
     cls_there : (e : Entry) → entry_at own foreign d.entries ≡ Some e → receives_on link e ≡ false → Received name link (receivers.Hear (words.Cls (name own foreign)) ∷ closes_on link (name own foreign) e) (cls_taken_by peer busy own foreign (Some e) d).entries r
     cls_there e found off =
         let free : is_among (name own foreign) (numbers name (filter (receives_on link) d.entries)) ≡ false
-        = subst (λ (c : ℕ). is_among c (numbers name (filter (receives_on link) d.entries)) ≡ false) (own_name own foreign e d.entries found) (others name (is_at own foreign) (receives_on link) e d.entries off a found) in
+        = subst (λ (c : ℕ). is_among c (numbers name (filter (receives_on link) d.entries)) ≡ false) (own_name own foreign e d.entries found) (others name _ _ e d.entries off a found) in
         subst (λ (v : Bool). Received name link (receivers.Hear (words.Cls (name own foreign)) ∷ (if v then received_close e.closing (name own foreign) else [])) (cls_taken_by peer busy own foreign (Some e) d).entries r) (sym off)
-        ((tt, tt), cls_away (receivers.hears (words.Cls (name own foreign)) r) (over_apart name (name own foreign) (filter (receives_on link) d.entries) r free h) e found off)
+        ((tt, tt), cls_away _ (over_apart name _ _ r free h) e found off)
 
     is_first : (e : Entry) → is_receiving e ≡ true → e.partner_closed ≡ false → (is_receiving e && not e.partner_closed) ≡ true
     is_first e i p = rw (i, p) refl
@@ -177,37 +177,37 @@ module _ (name : ℕ → ℕ → ℕ) (link : ℕ) where
 
     cls_by : (o : Option Entry) → entry_at own foreign d.entries ≡ o → Shut o
     cls_by None found = (tt, h)
-    cls_by (Some e) found = shut_by e found (is_receiving e) e.partner_closed (receives_on link e) refl refl refl
+    cls_by (Some e) found = shut_by e found _ e.partner_closed _ refl refl refl
 
     pub cls_hears : Shut (entry_at own foreign d.entries)
-    cls_hears = cls_by (entry_at own foreign d.entries) refl
+    cls_hears = cls_by _ refl
 
   -- ---- an RTS is no matter of a receiver
 
   module _ (peer : Host) (stamp own foreign l : ℕ) (d : DeskState) (r : Receiver) (odd : is_receive_socket own ≡ false) (h : HasReceiver name link d.entries r) where
     rts_more : (e : Entry) → is_receiving e ≡ false → HasReceiver name link (d.entries ++ e ∷ []) r
-    rts_more e i = subst (λ (xs : List Entry). AreReceiver name xs r) (sym (append_off (receives_on link) e d.entries (not_received link e i))) h
+    rts_more e i = subst (λ (xs : List Entry). AreReceiver name xs r) (sym (append_off _ e d.entries (not_received link e i))) h
 
     rts_found : (e : Entry) → entry_at own foreign d.entries ≡ Some e → (v : Bool) → is_some e.partner ≡ v → HasReceiver name link (rts_taken_by peer own foreign l stamp (Some e) d).entries r
     rts_found e found true p = rw p h
     rts_found e found false p =
         let off : is_receiving e ≡ false = own_parity own foreign e d.entries found ∙ odd in
-        rw p (subst (λ (xs : List Entry). AreReceiver name xs r) (sym (away (is_at own foreign) (receives_on link) (asked_on_link stamp l) e d.entries (not_received link e off) (not_received link (asked_on_link stamp l e) off) found)) h)
+        rw p (subst (λ (xs : List Entry). AreReceiver name xs r) (sym (away _ _ _ e d.entries (not_received link e off) (not_received link (asked_on_link stamp l e) off) found)) h)
 
     rts_listened : (o : Option Listener) → HasReceiver name link (rts_heard own foreign l stamp o d).entries r
-    rts_listened None = rts_more (refused_end own foreign stamp) odd
-    rts_listened (Some x) = rts_more (asked_on_link stamp l (sending_end own foreign x.size)) odd
+    rts_listened None = rts_more _ odd
+    rts_listened (Some x) = rts_more _ odd
 
     rts_by : (o : Option Entry) → entry_at own foreign d.entries ≡ o → HasReceiver name link (rts_taken_by peer own foreign l stamp o d).entries r
     rts_by None found = rts_listened (listener_on own d.listening)
-    rts_by (Some e) found = rts_found e found (is_some e.partner) refl
+    rts_by (Some e) found = rts_found e found _ refl
 
     rts_linked : (v : Bool) → list_any (sends_on l) d.entries ≡ v → HasReceiver name link (rts_taken peer own foreign l stamp d).entries r
     rts_linked true used = rw used h
-    rts_linked false used = rw used (rts_by (entry_at own foreign d.entries) refl)
+    rts_linked false used = rw used (rts_by _ refl)
 
     rts_leaves : HasReceiver name link (rts_taken peer own foreign l stamp d).entries r
-    rts_leaves = rts_linked (list_any (sends_on l) d.entries) refl
+    rts_leaves = rts_linked _ refl
 
   -- ---- all commands
 
@@ -225,5 +225,5 @@ module _ (name : ℕ → ℕ → ℕ) (link : ℕ) where
     hears_all (command.Rts receive send l) i a new = (tt, rts_leaves peer stamp send receive l d r (odd_is send i.3) h)
     hears_all (command.Str send receive size) i a new = str_receives peer stamp receive send size d r i.3 h a new
     hears_all (command.Cls foreign own) i a new = cls_hears peer busy stamp own foreign d r h a
-    hears_all (command.Ret l m n) i a new = ret_by peer busy stamp k l m n d r h (l == link) refl
+    hears_all (command.Ret l m n) i a new = ret_by peer busy stamp k l m n d r h _ refl
     hears_all c i a new = left c tt

@@ -26,7 +26,7 @@ open_bool false x y = refl
 pub open_same : (c : ℕ) (e : Entry) (r : Receiver) → IsReceiver c e r → receivers.is_open c r ≡ is_open e
 open_same c e r h =
     ap (λ (v : Bool). v && not r.closed && not (r.over c)) h.opened ∙ ap (λ (v : Bool). has_opened e && not v && not (r.over c)) h.closed
-    ∙ ap (λ (v : Bool). has_opened e && not (has_cls e.closing) && not v) h.over ∙ open_bool (has_opened e) (has_cls e.closing) e.partner_closed
+    ∙ ap (λ (v : Bool). has_opened e && not (has_cls e.closing) && not v) h.over ∙ open_bool _ _ e.partner_closed
 
 -- what is found where an end isn't open, and where it is
 pub closed_found : (P : Found → Type 0) → P Unconnected → P Ending → (x : Entry) → is_open x ≡ false → P (found_in (Some x))
@@ -49,31 +49,31 @@ at_link name link es r P work none ending idle shut opened h = by (filter (recei
 
   one : (x : Entry) → filter (receives_on link) es ≡ x ∷ [] → IsReceiver (name x.own x.foreign) x r → (v : Bool) → is_open x ≡ v → at (Some x)
   one x e i true o =
-      open_found (λ (w : Found). P w (work r.end)) x o (subst (λ (p : Option ℕ). P (Open x) (work p)) (sym i.end) (opened x (first_is (receives_on link) x [] es e) e i o))
+      open_found (λ (w : Found). P w (work r.end)) x o (subst (λ (p : Option ℕ). P (Open x) (work p)) (sym i.end) (opened x (first_is _ x [] es e) e i o))
   one x e i false o =
-      subst (λ (q : Receiver). P (found_in (Some x)) q) (sym (ap work i.end ∙ shut (name x.own x.foreign) (open_same (name x.own x.foreign) x r i ∙ o))) (closed_found (λ (w : Found). P w r) none ending x o)
+      subst (λ (q : Receiver). P (found_in (Some x)) q) (sym (ap work i.end ∙ shut _ (open_same _ x r i ∙ o))) (closed_found (λ (w : Found). P w r) none ending x o)
 
   by : (xs : List Entry) → filter (receives_on link) es ≡ xs → at (find (receives_on link) es)
   by [] e =
       let end : AreReceiver name [] r = subst (λ (ys : List Entry). AreReceiver name ys r) e h in
-      subst at (sym (none_is (receives_on link) es e)) (subst (λ (q : Receiver). P Unconnected q) (sym (ap work end ∙ idle)) none)
+      subst at (sym (none_is _ es e)) (subst (λ (q : Receiver). P Unconnected q) (sym (ap work end ∙ idle)) none)
   by (x ∷ []) e =
       let i : AreReceiver name (x ∷ []) r = subst (λ (ys : List Entry). AreReceiver name ys r) e h in
-      subst at (sym (first_is (receives_on link) x [] es e)) (one x e i (is_open x) refl)
+      subst at (sym (first_is _ x [] es e)) (one x e i _ refl)
   by (x ∷ y ∷ ys) e = absurd (subst (λ (zs : List Entry). AreReceiver name zs r) e h)
 
 -- an end on the link that is found, and changed, is the law's
 own_by : (name : ℕ → ℕ → ℕ) (link : ℕ) (test : Entry → Bool) (change : Entry → Entry) (e : Entry) (es : List Entry) (r : Receiver) → find test es ≡ Some e → receives_on link e ≡ true → receives_on link (change e) ≡ true → HasReceiver name link es r
     → (xs : List Entry) → filter (receives_on link) es ≡ xs → IsReceiver (name e.own e.foreign) e r × (filter (receives_on link) (changed_first test change es) ≡ change e ∷ [])
-own_by name link test change e es r found on after h [] f = absurd (missed test (receives_on link) e es on f found)
+own_by name link test change e es r found on after h [] f = absurd (missed test _ e es on f found)
 own_by name link test change e es r found on after h (x ∷ []) f =
-    let k : Here test (receives_on link) change e x es = here test (receives_on link) change e x es on after found f in
+    let k : Here test (receives_on link) change e x es = here test _ change e x es on after found f in
     (subst (λ (y : Entry). IsReceiver (name y.own y.foreign) y r) (sym k.0) (subst (λ (ys : List Entry). AreReceiver name ys r) f h), k.1)
 own_by name link test change e es r found on after h (x ∷ y ∷ ys) f = absurd (subst (λ (zs : List Entry). AreReceiver name zs r) f h)
 
 pub own_receiver : (name : ℕ → ℕ → ℕ) (link : ℕ) (test : Entry → Bool) (change : Entry → Entry) (e : Entry) (es : List Entry) (r : Receiver) → find test es ≡ Some e → receives_on link e ≡ true → receives_on link (change e) ≡ true
     → HasReceiver name link es r → IsReceiver (name e.own e.foreign) e r × (filter (receives_on link) (changed_first test change es) ≡ change e ∷ [])
-own_receiver name link test change e es r found on after h = own_by name link test change e es r found on after h (filter (receives_on link) es) refl
+own_receiver name link test change e es r found on after h = own_by name link test change e es r found on after h _ refl
 
 -- ---- data
 
@@ -119,8 +119,8 @@ module _ (name : ℕ → ℕ → ℕ) (link : ℕ) where
       → (receivers.is_open (name x.own x.foreign) r && words.is_size h.size (r.size (name x.own x.foreign)) && covers r.allocation (length bits)) ≡ v
       → HasReceiver name link (if v then arrived link x (data_bits h) text d else text_faulted ERRONEOUS text d).entries (receivers.takes h.size bits (Some (name x.own x.foreign)) r)
   taken_by text h bits d r x size f one i true e g =
-      let there : receives_on link x ≡ true = find_passes (receives_on link) x d.entries f in
-      let k : Here (receives_on link) (receives_on link) (spent (data_bits h)) x x d.entries = here (receives_on link) (receives_on link) (spent (data_bits h)) x x d.entries there there f one in
+      let there : receives_on link x ≡ true = find_passes _ x d.entries f in
+      let k : Here (receives_on link) (receives_on link) (spent (data_bits h)) x x d.entries = here _ _ _ x x d.entries there there f one in
       let spends : counters.spent r.allocation (length bits) ≡ counters.spent x.allocation (data_bits h) = ap (λ (a : Allocation). counters.spent a (length bits)) i.allocation ∙ ap (λ (n : ℕ). counters.spent x.allocation n) size in
       subst (λ (es : List Entry). AreReceiver name es (receivers.takes h.size bits (Some (name x.own x.foreign)) r)) (sym k.1)
       (rw g (record { end = i.end; opened = i.opened; closed = i.closed; over = i.over; size = i.size; allocation = spends; due = i.due; live = i.live }))
@@ -130,16 +130,16 @@ module _ (name : ℕ → ℕ → ℕ) (link : ℕ) where
       → HasReceiver name link (data_taken link text d).entries (receivers.takes h.size (data_of (data_bits h) text) r.end r)
   data_takes text h d r is k =
       at_link name link d.entries r (λ w q. HasReceiver name link (data_found link text w d).entries q) (λ o. receivers.takes h.size (data_of (data_bits h) text) o r) k k refl
-      (shut_takes h.size (data_of (data_bits h) text) r)
+      (shut_takes h.size _ r)
       (λ x f one i o.
       subst (λ (p : Option DataHeader). HasReceiver name link (arrived_if link x text p d).entries (receivers.takes h.size (data_of (data_bits h) text) (Some (name x.own x.foreign)) r)) (sym is)
-      (taken_by text h (data_of (data_bits h) text) d r x (bits_there text h is) f one i (is_acceptable x h) refl (accept_same (name x.own x.foreign) x r h (data_of (data_bits h) text) i o (bits_there text h is))))
+      (taken_by text h _ d r x (bits_there text h is) f one i _ refl (accept_same _ x r h _ i o (bits_there text h is))))
       k
 
   pub data_receives : (text : List Bool) (h : DataHeader) (d : DeskState) (r : Receiver) → header_of text ≡ Some h → HasReceiver name link d.entries r
       → HasReceiver name link (data_taken link text d).entries (receivers.moved (receivers.Take h.size (data_of (data_bits h) text)) r)
   data_receives text h d r is k =
-      with_came (filter (receives_on link) (data_taken link text d).entries) (receivers.takes h.size (data_of (data_bits h) text) r.end r) (receivers.one_more r.end r.came) (data_takes text h d r is k)
+      with_came _ _ _ (data_takes text h d r is k)
 
   -- what is reported as taken is what the law takes
   told_by : (text : List Bool) (h : DataHeader) (bits : List Bool) (d : DeskState) (r : Receiver) (x : Entry) → data_of (data_bits h) text ≡ bits → IsReceiver (name x.own x.foreign) x r → (v : Bool) → is_acceptable x h ≡ v
@@ -151,18 +151,18 @@ module _ (name : ℕ → ℕ → ℕ) (link : ℕ) where
       let told : arrivals (d.notices ++ notice.Arrived x.own (data_of (data_bits h) text) ∷ []) ≡ bits ∷ []
       = ap (λ (ns : List Notice). arrivals (ns ++ notice.Arrived x.own (data_of (data_bits h) text) ∷ [])) silent ∙ ap (λ (b : List Bool). b ∷ []) same in
       subst (λ (k : ℕ). (receivers.takes h.size bits (Some (name x.own x.foreign)) r).taken k ≡ r.taken k ++ arrivals (d.notices ++ notice.Arrived x.own (data_of (data_bits h) text) ∷ [])) (sym own)
-      (rw g (for_here (name x.own x.foreign) (r.taken (name x.own x.foreign) ++ bits ∷ []) r.taken ∙ ap (λ (l : List (List Bool)). r.taken (name x.own x.foreign) ++ l) (sym told)))
-  told_by text h bits d r x same i false e g silent c end = rw g (sym (none_told d silent (r.taken c)))
+      (rw g (for_here _ _ r.taken ∙ ap (λ (l : List (List Bool)). r.taken (name x.own x.foreign) ++ l) (sym told)))
+  told_by text h bits d r x same i false e g silent c end = rw g (sym (none_told d silent _))
 
   pub data_told : (text : List Bool) (h : DataHeader) (d : DeskState) (r : Receiver) → header_of text ≡ Some h → HasReceiver name link d.entries r → d.notices ≡ [] → (c : ℕ) → r.end ≡ Some c
       → (receivers.takes h.size (data_of (data_bits h) text) r.end r).taken c ≡ r.taken c ++ arrivals (data_taken link text d).notices
   data_told text h d r is k silent c end =
       at_link name link d.entries r (λ w q. q.taken c ≡ r.taken c ++ arrivals (data_found link text w d).notices) (λ o. receivers.takes h.size (data_of (data_bits h) text) o r)
-      (sym (none_told d silent (r.taken c))) (sym (none_told d silent (r.taken c))) refl
+      (sym (none_told d silent _)) (sym (none_told d silent _)) refl
       (shut_takes h.size (data_of (data_bits h) text) r)
       (λ x f one i o.
       subst (λ (p : Option DataHeader). (receivers.takes h.size (data_of (data_bits h) text) (Some (name x.own x.foreign)) r).taken c ≡ r.taken c ++ arrivals (arrived_if link x text p d).notices) (sym is)
-      (told_by text h (data_of (data_bits h) text) d r x refl i (is_acceptable x h) refl (accept_same (name x.own x.foreign) x r h (data_of (data_bits h) text) i o (bits_there text h is)) silent c end))
+      (told_by text h _ d r x refl i _ refl (accept_same _ x r h _ i o (bits_there text h is)) silent c end))
       k
 
   -- ---- what is returned
@@ -174,8 +174,8 @@ module _ (name : ℕ → ℕ → ℕ) (link : ℕ) where
       → (v : Bool) → (nat_le m x.allocation.messages && nat_le n x.allocation.bits) ≡ v → (receivers.is_open (name x.own x.foreign) r && holds r.allocation m n) ≡ v
       → HasReceiver name link (ret_taken link m n x d).entries (receivers.takes_back m n (Some (name x.own x.foreign)) r)
   back_by m n d r x f one i true e g =
-      let there : receives_on link x ≡ true = find_passes (receives_on link) x d.entries f in
-      let k : Here (receives_on link) (receives_on link) (returned m n) x x d.entries = here (receives_on link) (receives_on link) (returned m n) x x d.entries there there f one in
+      let there : receives_on link x ≡ true = find_passes _ x d.entries f in
+      let k : Here (receives_on link) (receives_on link) (returned m n) x x d.entries = here _ _ _ x x d.entries there there f one in
       let less : record { messages = r.allocation.messages - m; bits = r.allocation.bits - n } ≡ record { messages = x.allocation.messages - m; bits = x.allocation.bits - n }
       = ap (λ (a : Allocation). less_by a) i.allocation in
       rw (e, g) (subst (λ (es : List Entry). AreReceiver name es (back r (name x.own x.foreign))) (sym k.1) (record { end = i.end; opened = i.opened; closed = i.closed; over = i.over; size = i.size; allocation = less; due = i.due; live = i.live })) where
@@ -191,5 +191,5 @@ module _ (name : ℕ → ℕ → ℕ) (link : ℕ) where
   ret_receives peer busy stamp m n d r k =
       at_link name link d.entries r (λ w q. HasReceiver name link (at_end (command.Ret link m n) (ret_taken link m n) w d).entries q) (λ o. receivers.takes_back m n o r) k k refl
       (shut_back m n r)
-      (λ x f one i o. back_by m n d r x f one i (nat_le m x.allocation.messages && nat_le n x.allocation.bits) refl (back_same m n (name x.own x.foreign) x r i o))
+      (λ x f one i o. back_by m n d r x f one i (nat_le m x.allocation.messages && nat_le n x.allocation.bits) refl (back_same m n _ x r i o))
       k

@@ -30,18 +30,18 @@ module _ (name : ℕ → ℕ → ℕ) (link own foreign : ℕ) (q : PairState) w
       → Sent name link (senders.Ask (name own foreign) z ∷ []) (requested (sending_end own foreign z) (command.Str own foreign z) q).entries s
   sends_asked z s h k new = record {
     may = (new.untold, tt);
-    has = subst (λ (xs : List Entry). AreSender name xs (senders.moved (senders.Ask (name own foreign) z) s)) (sym (append_off (sends_on link) (sending_end own foreign z) q.entries (and_none (not (is_receive_socket own)))))
-        (told_keeps name link (name own foreign) z s new.unheard (filter (sends_on link) q.entries) h);
-    known = known_append name q.entries (sending_end own foreign z) (senders.moved (senders.Ask (name own foreign) z) s)
-        (known_other name (name own foreign) q.entries s (senders.moved (senders.Ask (name own foreign) z) s) new.free (ask_elsewhere (name own foreign) z s) k)
-        (λ i. record { size = for_here (name own foreign) (Some z) s.size; closed = new.unclosed });
+    has = subst (λ (xs : List Entry). AreSender name xs (senders.moved (senders.Ask (name own foreign) z) s)) (sym (append_off _ _ q.entries (and_none _)))
+        (told_keeps name link (name own foreign) z s new.unheard _ h);
+    known = known_append name q.entries _ _
+        (known_other name _ q.entries s _ new.free (ask_elsewhere _ z s) k)
+        (λ i. record { size = for_here _ (Some z) s.size; closed = new.unclosed });
   }
 
   pub sends_received : (z : ℕ) (r : Receiver) → HasReceiver name link q.entries r → HasReceiver name link (requested (sending_end own foreign z) (command.Str own foreign z) q).entries r
-  sends_received z r h = subst (λ (xs : List Entry). AreReceiver name xs r) (sym (append_off (receives_on link) (sending_end own foreign z) q.entries (and_none (is_receive_socket own)))) h
+  sends_received z r h = subst (λ (xs : List Entry). AreReceiver name xs r) (sym (append_off _ _ q.entries (and_none _))) h
 
   pub sends_sound : (z : ℕ) → AreSound name q.entries → is_among (name own foreign) (numbers name q.entries) ≡ false → AreSound name (requested (sending_end own foreign z) (command.Str own foreign z) q).entries
-  sends_sound z sound n = sound_append name q.entries (sending_end own foreign z) sound (sending_formed own foreign z) n
+  sends_sound z sound n = sound_append name q.entries _ sound (sending_formed own foreign z) n
 
   module _ (even : is_receive_socket own ≡ true) where
     asked_by : (r : Receiver) → HasReceiver name link q.entries r → IsNewReceived (name own foreign) (numbers name q.entries) r → (other : ℕ) → free_link q.entries ≡ Some other → (v : Bool) → (other == link) ≡ v
@@ -56,23 +56,23 @@ module _ (name : ℕ → ℕ → ℕ) (link own foreign : ℕ) (q : PairState) w
     asked_on : (r : Receiver) → HasReceiver name link q.entries r → IsNewReceived (name own foreign) (numbers name q.entries) r → (o : Option ℕ) → free_link q.entries ≡ o
         → Received name link (asks_for link (name own foreign) o) (receiver_requested own foreign o q).entries r
     asked_on r h new None free = (tt, h)
-    asked_on r h new (Some other) free = asked_by r h new other free (other == link) refl
+    asked_on r h new (Some other) free = asked_by r h new other free _ refl
 
     pub receives_asked : (r : Receiver) → HasReceiver name link q.entries r → IsNewReceived (name own foreign) (numbers name q.entries) r
         → Received name link (asks_for link (name own foreign) (free_link q.entries)) (receiver_requested own foreign (free_link q.entries) q).entries r
-    receives_asked r h new = asked_on r h new (free_link q.entries) refl
+    receives_asked r h new = asked_on r h new _ refl
 
     pub receives_sent : (s : Sender) → HasSender name link q.entries s → AreKnown name q.entries s → (o : Option ℕ) → Sent name link [] (receiver_requested own foreign o q).entries s
     receives_sent s h k None = record { may = tt; has = h; known = k }
     receives_sent s h k (Some l) = record {
       may = tt;
-      has = subst (λ (xs : List Entry). AreSender name xs s) (sym (append_off (sends_on link) (receiving_end own foreign l) q.entries (not_sent link (receiving_end own foreign l) even))) h;
-      known = known_append name q.entries (receiving_end own foreign l) s k (λ j. absurd (unlike (is_receive_socket own) even j));
+      has = subst (λ (xs : List Entry). AreSender name xs s) (sym (append_off _ _ q.entries (not_sent link (receiving_end own foreign l) even))) h;
+      known = known_append name q.entries _ s k (λ j. absurd (unlike (is_receive_socket own) even j));
     }
 
     pub receives_sound : AreSound name q.entries → is_among (name own foreign) (numbers name q.entries) ≡ false → (o : Option ℕ) → AreSound name (receiver_requested own foreign o q).entries
     receives_sound sound n None = sound
-    receives_sound sound n (Some l) = sound_append name q.entries (receiving_end own foreign l) sound (receiving_formed own foreign l even) n
+    receives_sound sound n (Some l) = sound_append name q.entries _ sound (receiving_formed own foreign l even) n
 
 -- ---- an end of this host's own
 
@@ -103,7 +103,7 @@ module _ (name : ℕ → ℕ → ℕ) (link socket : ℕ) (q : PairState) (e : E
   parity x t = ap is_receive_socket (eqb-true x.own socket (both x.mine (x.own == socket) t).1)
 
   own_one : is_receiving e ≡ is_receive_socket socket
-  own_one = parity e (find_passes (is_mine_on socket) e q.entries found)
+  own_one = parity e (find_passes _ e q.entries found)
 
   -- ---- grants
 
@@ -117,7 +117,7 @@ module _ (name : ℕ → ℕ → ℕ) (link socket : ℕ) (q : PairState) (e : E
   grants_sent m n s even h k = record {
     may = tt;
     has = asking.grant_apart name link socket e q.entries found m n s (not_sent link e (own_one ∙ even)) h;
-    known = known_idle name (is_mine_on socket) (granted m n) s q.entries (record { own = λ x. refl; foreign = λ x. refl; size = λ x. refl; closing = λ x. refl }) k;
+    known = known_idle name _ _ s q.entries (record { own = λ x. refl; foreign = λ x. refl; size = λ x. refl; closing = λ x. refl }) k;
   }
 
   granted_formed : (m n : ℕ) → is_receiving e ≡ true → IsFormed e → IsFormed (granted m n e)
@@ -125,7 +125,7 @@ module _ (name : ℕ → ℕ → ℕ) (link socket : ℕ) (q : PairState) (e : E
 
   pub grants_sound : (m n : ℕ) → is_receive_socket socket ≡ true → AreSound name q.entries → AreSound name (with_end socket (granted m n) q).entries
   grants_sound m n even sound =
-      sound_changed name (is_mine_on socket) (granted m n) e q.entries sound (λ x. refl) (granted_formed m n (own_one ∙ even) (formed_found (is_mine_on socket) e q.entries sound.formed found)) found
+      sound_changed name _ _ e q.entries sound (λ x. refl) (granted_formed m n (own_one ∙ even) (formed_found _ e q.entries sound.formed found)) found
 
   pub asks_back : (m n : ℕ) (r : Receiver) → is_open e ≡ true → HasReceiver name link q.entries r → Received name link (on_link link e (receivers.AskBack (named name e) m n ∷ [])) q.entries r
   asks_back m n r opened h = by (receives_on link e) refl where
@@ -139,19 +139,19 @@ module _ (name : ℕ → ℕ → ℕ) (link socket : ℕ) (q : PairState) (e : E
   more_sent bits s h k = record {
     may = tt;
     has = asking.send_keeps name link socket e q.entries found bits s h;
-    known = known_idle name (is_mine_on socket) (with_more_bits bits) s q.entries (record { own = λ x. refl; foreign = λ x. refl; size = λ x. refl; closing = λ x. refl }) k;
+    known = known_idle name _ _ s q.entries (record { own = λ x. refl; foreign = λ x. refl; size = λ x. refl; closing = λ x. refl }) k;
   }
 
   pub more_received : (bits : List Bool) (r : Receiver) → is_receive_socket socket ≡ false → HasReceiver name link q.entries r → HasReceiver name link (with_end socket (with_more_bits bits) q).entries r
   more_received bits r odd h =
       subst (λ (xs : List Entry). AreReceiver name xs r)
-      (sym (apart (is_mine_on socket) (receives_on link) (with_more_bits bits) q.entries (λ x t. (not_received link x (parity x t ∙ odd), not_received link (with_more_bits bits x) (parity x t ∙ odd))))) h
+      (sym (apart _ _ _ q.entries (λ x t. (not_received link x (parity x t ∙ odd), not_received link (with_more_bits bits x) (parity x t ∙ odd))))) h
 
   more_formed : (bits : List Bool) → IsFormed e → IsFormed (with_more_bits bits e)
   more_formed bits f = record { live = f.live; told = f.told; linked = f.linked; unlinked = f.unlinked; sized = f.sized; ungranted = f.ungranted; shut = f.shut }
 
   pub more_sound : (bits : List Bool) → AreSound name q.entries → AreSound name (with_end socket (with_more_bits bits) q).entries
-  more_sound bits sound = sound_changed name (is_mine_on socket) (with_more_bits bits) e q.entries sound (λ x. refl) (more_formed bits (formed_found (is_mine_on socket) e q.entries sound.formed found)) found
+  more_sound bits sound = sound_changed name _ _ e q.entries sound (λ x. refl) (more_formed bits (formed_found _ e q.entries sound.formed found)) found
 
   -- ---- it closes
 
@@ -165,28 +165,28 @@ module _ (name : ℕ → ℕ → ℕ) (link socket : ℕ) (q : PairState) (e : E
 
   off_has : (s : Sender) → HasSender name link q.entries s → (v : Bool) → sends_on link e ≡ v → HasSender name link (changed_first (is_mine_on socket) called_off q.entries) s
   off_has s h true on =
-      let k : AreSender name (e ∷ []) s × (filter (sends_on link) (changed_first (is_mine_on socket) called_off q.entries) ≡ called_off e ∷ []) = own_sender name link (is_mine_on socket) called_off e q.entries s found on on h in
+      let k : AreSender name (e ∷ []) s × (filter (sends_on link) (changed_first (is_mine_on socket) called_off q.entries) ≡ called_off e ∷ []) = own_sender name link _ called_off e q.entries s found on on h in
       subst (λ (xs : List Entry). AreSender name xs s) (sym k.1) (off_sender name e s k.0)
-  off_has s h false off = subst (λ (xs : List Entry). AreSender name xs s) (sym (away (is_mine_on socket) (sends_on link) called_off e q.entries off off found)) h
+  off_has s h false off = subst (λ (xs : List Entry). AreSender name xs s) (sym (away _ _ called_off e q.entries off off found)) h
 
   off_known : (s : Sender) → AreKnown name q.entries s → AreSound name q.entries → AreKnown name (changed_first (is_mine_on socket) called_off q.entries) s
   off_known s k sound =
-      known_changed name (is_mine_on socket) called_off e q.entries s s (λ n out. (refl, refl)) (record { own = λ x. refl; foreign = λ x. refl })
-      (λ i. (let one : IsKnown (named name e) e s = known_found name (is_mine_on socket) e q.entries s i k found in record { size = one.size; closed = one.closed ∙ due_cls e.closing })) sound.apart k found
+      known_changed name _ called_off e q.entries s s (λ n out. (refl, refl)) (record { own = λ x. refl; foreign = λ x. refl })
+      (λ i. (let one : IsKnown (named name e) e s = known_found name _ e q.entries s i k found in record { size = one.size; closed = one.closed ∙ due_cls e.closing })) sound.apart k found
 
   pub closes_sent : (s : Sender) → HasSender name link q.entries s → AreKnown name q.entries s → AreSound name q.entries
       → Sent name link (closes name q.busy (changed_first (is_mine_on socket) called_off q.entries)) (closed_end socket q).entries s
   closes_sent s h k sound =
-      settle_all name link q.busy (changed_first (is_mine_on socket) called_off q.entries) s (off_has s h (sends_on link e) refl)
+      settle_all name link q.busy _ s (off_has s h _ refl)
       (off_known s k sound)
-      (apart_changed name (is_mine_on socket) called_off q.entries (λ x. refl) sound.apart)
+      (apart_changed name _ called_off q.entries (λ x. refl) sound.apart)
 
   pub closes_sound : AreSound name q.entries → AreSound name (closed_end socket q).entries
   closes_sound sound =
       settled_sound name link q.busy (desk_of (with_end socket called_off q) [])
-      (sound_changed name (is_mine_on socket) called_off e q.entries sound (λ x. refl) (off_formed e (formed_found (is_mine_on socket) e q.entries sound.formed found)) found)
+      (sound_changed name _ called_off e q.entries sound (λ x. refl) (off_formed e (formed_found _ e q.entries sound.formed found)) found)
 
   -- and none is outstanding where it does
   pub closes_box : (s : Sender) → HasSender name link q.entries s → AreKnown name q.entries s → AreSound name q.entries → KeepBox (is_busy q.busy link) (closes name q.busy (changed_first (is_mine_on socket) called_off q.entries)) s
   closes_box s h k sound =
-      settled_box name q.busy link (changed_first (is_mine_on socket) called_off q.entries) s (off_has s h (sends_on link e) refl) (off_known s k sound) (apart_changed name (is_mine_on socket) called_off q.entries (λ x. refl) sound.apart)
+      settled_box name q.busy link _ s (off_has s h _ refl) (off_known s k sound) (apart_changed name _ called_off q.entries (λ x. refl) sound.apart)

@@ -41,7 +41,7 @@ module _ (name : ℕ → ℕ → ℕ) (link : ℕ) where
   module _ (peer : Host) (stamp own foreign l : ℕ) (d : DeskState) (s : Sender) (odd : is_receive_socket own ≡ false) (h : HasSender name link d.entries s) (k : AreKnown name d.entries s) (a : AreApart (numbers name d.entries))
       (formed : AreFormed d.entries) (unused : list_any (sends_on l) d.entries ≡ false) where
     free_list : (l == link) ≡ true → filter (sends_on link) d.entries ≡ []
-    free_list e = none_any (sends_on link) d.entries (ap (λ (n : ℕ). list_any (sends_on n) d.entries) (sym (eqb-true l link e)) ∙ unused)
+    free_list e = none_any _ d.entries (ap (λ (n : ℕ). list_any (sends_on n) d.entries) (sym (eqb-true l link e)) ∙ unused)
 
     -- ---- nobody waits for it
 
@@ -49,11 +49,11 @@ module _ (name : ℕ → ℕ → ℕ) (link : ℕ) where
         → Sent name link (senders.Close (name own foreign) ∷ []) (d.entries ++ refused_end own foreign stamp ∷ []) t
     refuses t g j free untold unclosed = record {
       may = (unclosed, tt);
-      has = subst (λ (xs : List Entry). AreSender name xs (senders.moved (senders.Close (name own foreign)) t)) (sym (append_off (sends_on link) (refused_end own foreign stamp) d.entries (and_none (not (is_receive_socket own)))))
-          (close_apart name (name own foreign) (filter (sends_on link) d.entries) t (among_filter name (name own foreign) (sends_on link) d.entries free) g);
-      known = known_append name d.entries (refused_end own foreign stamp) (senders.moved (senders.Close (name own foreign)) t)
-          (known_other name (name own foreign) d.entries t (senders.moved (senders.Close (name own foreign)) t) free (closed_elsewhere (name own foreign) t) j)
-          (λ i. record { size = untold; closed = for_here (name own foreign) true t.closed });
+      has = subst (λ (xs : List Entry). AreSender name xs (senders.moved (senders.Close (name own foreign)) t)) (sym (append_off _ _ d.entries (and_none _)))
+          (close_apart name _ _ t (among_filter name _ _ d.entries free) g);
+      known = known_append name d.entries _ _
+          (known_other name _ d.entries t _ free (closed_elsewhere _ t) j)
+          (λ i. record { size = untold; closed = for_here _ true t.closed });
     }
 
     refused_by : IsNewSent (name own foreign) (numbers name d.entries) s → (v : Bool) → (l == link) ≡ v
@@ -61,42 +61,42 @@ module _ (name : ℕ → ℕ → ℕ) (link : ℕ) where
     refused_by new true e =
         let none : NoneOpen s = subst (λ (xs : List Entry). AreSender name xs s) (free_list e) h in
         let has : HasSender name link d.entries (senders.begins (name own foreign) s.end s)
-        = subst (λ (xs : List Entry). AreSender name xs (senders.begins (name own foreign) s.end s)) (sym (free_list e)) (begun_none (name own foreign) s.end s none) in
+        = subst (λ (xs : List Entry). AreSender name xs (senders.begins (name own foreign) s.end s)) (sym (free_list e)) (begun_none _ s.end s none) in
         then_sent name link (senders.Hear (words.Rts (name own foreign)) ∷ []) (senders.Close (name own foreign) ∷ []) (d.entries ++ refused_end own foreign stamp ∷ []) s (tt, tt)
-        (refuses (senders.begins (name own foreign) s.end s) has
-        (known_same name d.entries s (senders.begins (name own foreign) s.end s) (begun_size (name own foreign) s.end s) (begun_closed (name own foreign) s.end s) k)
-        new.free (ap (λ (f : ℕ → Option ℕ). f (name own foreign)) (begun_size (name own foreign) s.end s) ∙ new.untold) (ap (λ (f : ℕ → Bool). f (name own foreign)) (begun_closed (name own foreign) s.end s) ∙ new.unclosed))
+        (refuses _ has
+        (known_same name d.entries s _ (begun_size _ s.end s) (begun_closed _ s.end s) k)
+        new.free (ap (λ (f : ℕ → Option ℕ). f (name own foreign)) (begun_size _ s.end s) ∙ new.untold) (ap (λ (f : ℕ → Bool). f (name own foreign)) (begun_closed _ s.end s) ∙ new.unclosed))
     refused_by new false e = refuses s h k new.free new.untold new.unclosed
 
     -- ---- a socket that listens answers
 
     answer_known : (z : ℕ) → IsNewSent (name own foreign) (numbers name d.entries) s → AreKnown name (d.entries ++ asked_on_link stamp l (sending_end own foreign z) ∷ []) (senders.moved (senders.Ask (name own foreign) z) s)
     answer_known z new =
-        known_append name d.entries (asked_on_link stamp l (sending_end own foreign z)) (senders.moved (senders.Ask (name own foreign) z) s)
-        (known_other name (name own foreign) d.entries s (senders.moved (senders.Ask (name own foreign) z) s) new.free (ask_elsewhere (name own foreign) z s) k)
-        (λ i. record { size = for_here (name own foreign) (Some z) s.size; closed = new.unclosed })
+        known_append name d.entries _ _
+        (known_other name _ d.entries s _ new.free (ask_elsewhere _ z s) k)
+        (λ i. record { size = for_here _ (Some z) s.size; closed = new.unclosed })
 
     answers_here : (z : ℕ) → IsNewSent (name own foreign) (numbers name d.entries) s → (l == link) ≡ true → s.end ≡ None
         → Sent name link (senders.Ask (name own foreign) z ∷ senders.Hear (words.Rts (name own foreign)) ∷ []) (d.entries ++ asked_on_link stamp l (sending_end own foreign z) ∷ []) s
     answers_here z new e none =
         let on : sends_on link (asked_on_link stamp l (sending_end own foreign z)) ≡ true = (rw (odd, e) refl) in
         let one : AreSender name (asked_on_link stamp l (sending_end own foreign z) ∷ []) (senders.begins (name own foreign) None (senders.moved (senders.Ask (name own foreign) z) s))
-        = inl (record { end = refl; opened = refl; shut = refl; closed = new.unclosed; size = for_here (name own foreign) (Some z) s.size; allocation = refl; live = refl }) in
+        = inl (record { end = refl; opened = refl; shut = refl; closed = new.unclosed; size = for_here _ (Some z) s.size; allocation = refl; live = refl }) in
         record {
           may = (new.untold, (tt, tt));
           has = subst (λ (o : Option ℕ). HasSender name link (d.entries ++ asked_on_link stamp l (sending_end own foreign z) ∷ []) (senders.begins (name own foreign) o (senders.moved (senders.Ask (name own foreign) z) s))) (sym none)
-              (subst (λ (xs : List Entry). AreSender name xs (senders.begins (name own foreign) None (senders.moved (senders.Ask (name own foreign) z) s))) (sym (append_on (sends_on link) (asked_on_link stamp l (sending_end own foreign z)) d.entries on (free_list e))) one);
-          known = known_same name (d.entries ++ asked_on_link stamp l (sending_end own foreign z) ∷ []) (senders.moved (senders.Ask (name own foreign) z) s) (senders.begins (name own foreign) s.end (senders.moved (senders.Ask (name own foreign) z) s))
-              (begun_size (name own foreign) s.end (senders.moved (senders.Ask (name own foreign) z) s)) (begun_closed (name own foreign) s.end (senders.moved (senders.Ask (name own foreign) z) s)) (answer_known z new);
+              (subst (λ (xs : List Entry). AreSender name xs (senders.begins (name own foreign) None (senders.moved (senders.Ask (name own foreign) z) s))) (sym (append_on _ _ d.entries on (free_list e))) one);
+          known = known_same name _ _ _
+              (begun_size _ s.end _) (begun_closed _ s.end _) (answer_known z new);
         }
 
     answers_away : (z : ℕ) → IsNewSent (name own foreign) (numbers name d.entries) s → (l == link) ≡ false → Sent name link (senders.Ask (name own foreign) z ∷ []) (d.entries ++ asked_on_link stamp l (sending_end own foreign z) ∷ []) s
     answers_away z new e =
-        let off : sends_on link (asked_on_link stamp l (sending_end own foreign z)) ≡ false = (rw e (and_none (not (is_receive_socket own)))) in
+        let off : sends_on link (asked_on_link stamp l (sending_end own foreign z)) ≡ false = (rw e (and_none _)) in
         record {
           may = (new.untold, tt);
-          has = subst (λ (xs : List Entry). AreSender name xs (senders.moved (senders.Ask (name own foreign) z) s)) (sym (append_off (sends_on link) (asked_on_link stamp l (sending_end own foreign z)) d.entries off))
-              (told_keeps name link (name own foreign) z s new.unheard (filter (sends_on link) d.entries) h);
+          has = subst (λ (xs : List Entry). AreSender name xs (senders.moved (senders.Ask (name own foreign) z) s)) (sym (append_off _ _ d.entries off))
+              (told_keeps name link (name own foreign) z s new.unheard _ h);
           known = answer_known z new;
         }
 
@@ -114,17 +114,17 @@ module _ (name : ℕ → ℕ → ℕ) (link : ℕ) where
 
     known_still : (e : Entry) → entry_at own foreign d.entries ≡ Some e → AreKnown name (changed_first (is_at own foreign) (asked_on_link stamp l) d.entries) s
     known_still e found =
-        let one : IsKnown (named name e) e s = known_found name (is_at own foreign) e d.entries s (own_parity name link own foreign e d.entries found ∙ odd) k found in
-        known_changed name (is_at own foreign) (asked_on_link stamp l) e d.entries s s (λ n out. (refl, refl)) (record { own = λ x. refl; foreign = λ x. refl }) (λ i. record { size = one.size; closed = one.closed }) a k found
+        let one : IsKnown (named name e) e s = known_found name _ e d.entries s (own_parity name link own foreign e d.entries found ∙ odd) k found in
+        known_changed name _ _ e d.entries s s (λ n out. (refl, refl)) (record { own = λ x. refl; foreign = λ x. refl }) (λ i. record { size = one.size; closed = one.closed }) a k found
 
     found_away : (e : Entry) → entry_at own foreign d.entries ≡ Some e → is_some e.partner ≡ false → (l == link) ≡ false → Sent name link [] (changed_first (is_at own foreign) (asked_on_link stamp l) d.entries) s
     found_away e found first other =
-        let none : e.link ≡ None = (formed_found (is_at own foreign) e d.entries formed found).unlinked (own_parity name link own foreign e d.entries found ∙ odd) first in
-        let off : sends_on link e ≡ false = ap (λ (o : Option ℕ). not (is_receiving e) && is_link link o) none ∙ and_none (not (is_receiving e)) in
-        let after : sends_on link (asked_on_link stamp l e) ≡ false = (rw other (and_none (not (is_receiving e)))) in
+        let none : e.link ≡ None = (formed_found _ e d.entries formed found).unlinked (own_parity name link own foreign e d.entries found ∙ odd) first in
+        let off : sends_on link e ≡ false = ap (λ (o : Option ℕ). not (is_receiving e) && is_link link o) none ∙ and_none _ in
+        let after : sends_on link (asked_on_link stamp l e) ≡ false = (rw other (and_none _)) in
         record {
           may = tt;
-          has = subst (λ (xs : List Entry). AreSender name xs s) (sym (away (is_at own foreign) (sends_on link) (asked_on_link stamp l) e d.entries off after found)) h;
+          has = subst (λ (xs : List Entry). AreSender name xs s) (sym (away _ _ _ e d.entries off after found)) h;
           known = known_still e found;
         }
 
@@ -132,9 +132,9 @@ module _ (name : ℕ → ℕ → ℕ) (link : ℕ) where
         → MayAllSend (senders.Hear (words.Rts (named name e)) ∷ sent_open (is_some e.asked) (named name e)) s
         × HasSender name link (changed_first (is_at own foreign) (asked_on_link stamp l) d.entries) (all_sent (senders.Hear (words.Rts (named name e)) ∷ sent_open (is_some e.asked) (named name e)) s)
     found_open e found first here none live =
-        let f : IsFormed e = formed_found (is_at own foreign) e d.entries formed found in
+        let f : IsFormed e = formed_found _ e d.entries formed found in
         let i : is_receiving e ≡ false = own_parity name link own foreign e d.entries found ∙ odd in
-        let one : IsKnown (named name e) e s = known_found name (is_at own foreign) e d.entries s i k found in
+        let one : IsKnown (named name e) e s = known_found name _ e d.entries s i k found in
         let free : list_any (sends_on link) d.entries ≡ false = ap (λ (n : ℕ). list_any (sends_on n) d.entries) (sym (eqb-true l link here)) ∙ unused in
         let done : MayAllSend (senders.Hear (words.Rts (named name e)) ∷ sent_open (is_some e.asked) (named name e)) s
         × HasSender name link (rts_taken peer own foreign link stamp d).entries (all_sent (senders.Hear (words.Rts (named name e)) ∷ sent_open (is_some e.asked) (named name e)) s)
@@ -156,16 +156,16 @@ module _ (name : ℕ → ℕ → ℕ) (link : ℕ) where
         → MayAllSend (senders.Hear (words.Rts (named name e)) ∷ sent_open (is_some e.asked) (named name e)) s
         × HasSender name link (changed_first (is_at own foreign) (asked_on_link stamp l) d.entries) (all_sent (senders.Hear (words.Rts (named name e)) ∷ sent_open (is_some e.asked) (named name e)) s)
     found_leaving e found first here none over =
-        let f : IsFormed e = formed_found (is_at own foreign) e d.entries formed found in
+        let f : IsFormed e = formed_found _ e d.entries formed found in
         let i : is_receiving e ≡ false = own_parity name link own foreign e d.entries found ∙ odd in
-        let one : IsKnown (named name e) e s = known_found name (is_at own foreign) e d.entries s i k found in
+        let one : IsKnown (named name e) e s = known_found name _ e d.entries s i k found in
         let closed : has_cls e.closing ≡ true = f.shut i (f.unlinked i first) over in
         let on : sends_on link (asked_on_link stamp l e) ≡ true = (rw (i, here) refl) in
         let list : filter (sends_on link) (changed_first (is_at own foreign) (asked_on_link stamp l) d.entries) ≡ asked_on_link stamp l e ∷ []
-        = joins (is_at own foreign) (sends_on link) (asked_on_link stamp l) e d.entries on found (free_list here) in
+        = joins _ _ _ e d.entries on found (free_list here) in
         let has : AreSender name (asked_on_link stamp l e ∷ []) (all_sent (sent_open (is_some e.asked) (named name e)) (senders.begins (named name e) None s))
-        = inr (record { closed = closed; shut = over; live = f.live; none = leaving_none e (is_some e.asked) one closed }) in (
-          (tt, subst (λ (o : Option ℕ). MayAllSend (sent_open (is_some e.asked) (named name e)) (senders.begins (named name e) o s)) (sym none) (leaving_may e (is_some e.asked) one (f.sized i first))),
+        = inr (record { closed = closed; shut = over; live = f.live; none = leaving_none e _ one closed }) in (
+          (tt, subst (λ (o : Option ℕ). MayAllSend (sent_open (is_some e.asked) (named name e)) (senders.begins (named name e) o s)) (sym none) (leaving_may e _ one (f.sized i first))),
           subst (λ (o : Option ℕ). HasSender name link (changed_first (is_at own foreign) (asked_on_link stamp l) d.entries) (all_sent (sent_open (is_some e.asked) (named name e)) (senders.begins (named name e) o s))) (sym none)
               (subst (λ (xs : List Entry). AreSender name xs (all_sent (sent_open (is_some e.asked) (named name e)) (senders.begins (named name e) None s))) (sym list) has),
         )
@@ -179,9 +179,9 @@ module _ (name : ℕ → ℕ → ℕ) (link : ℕ) where
         subst (λ (c : ℕ). Sent name link (senders.Hear (words.Rts c) ∷ sent_open (is_some e.asked) c) (changed_first (is_at own foreign) (asked_on_link stamp l) d.entries) s) (own_name name link own foreign e d.entries found) (record {
           may = both.0;
           has = both.1;
-          known = known_same name (changed_first (is_at own foreign) (asked_on_link stamp l) d.entries) s (all_sent (sent_open (is_some e.asked) (named name e)) (senders.begins (named name e) s.end s))
-              (opened_size (named name e) (is_some e.asked) (senders.begins (named name e) s.end s) ∙ begun_size (named name e) s.end s)
-              (opened_closed (named name e) (is_some e.asked) (senders.begins (named name e) s.end s) ∙ begun_closed (named name e) s.end s) (known_still e found);
+          known = known_same name _ s _
+              (opened_size _ _ _ ∙ begun_size _ s.end s)
+              (opened_closed _ _ _ ∙ begun_closed _ s.end s) (known_still e found);
         }) where
           by : (v : Bool) → e.partner_closed ≡ v
               → MayAllSend (senders.Hear (words.Rts (named name e)) ∷ sent_open (is_some e.asked) (named name e)) s
@@ -197,5 +197,5 @@ module _ (name : ℕ → ℕ → ℕ) (link : ℕ) where
 
     pub rts_by : (o : Option Entry) → entry_at own foreign d.entries ≡ o → (o ≡ None → IsNewSent (name own foreign) (numbers name d.entries) s) → ((l == link) ≡ true → s.end ≡ None)
         → Sent name link (rts_sent (l == link) (name own foreign) (listener_on own d.listening) o) (rts_taken_by peer own foreign l stamp o d).entries s
-    rts_by None found new none = listened_by (new refl) (l == link) refl none (listener_on own d.listening)
+    rts_by None found new none = listened_by (new refl) (l == link) refl none _
     rts_by (Some e) found new none = found_by e found (is_some e.partner) (l == link) refl refl none (listener_on own d.listening)

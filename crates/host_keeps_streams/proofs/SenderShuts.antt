@@ -92,8 +92,8 @@ module _ (name : ℕ → ℕ → ℕ) (link : ℕ) where
     shut_off : (t : Sender) → sends_on link e ≡ false → AreSender name (filter (sends_on link) d.entries) t → HasSender name link (filter stays (changed_first (is_at own foreign) closed_by_partner d.entries)) t
     shut_off t off g =
         let list : filter (sends_on link) (changed_first (is_at own foreign) closed_by_partner d.entries) ≡ filter (sends_on link) d.entries
-        = away (is_at own foreign) (sends_on link) closed_by_partner e d.entries off off found in
-        subst (λ (xs : List Entry). AreSender name xs t) (sym (swept_on (filter (sends_on link) d.entries) list ∙ still_swept name link (filter (sends_on link) d.entries) t g)) g
+        = away _ _ closed_by_partner e d.entries off off found in
+        subst (λ (xs : List Entry). AreSender name xs t) (sym (swept_on _ list ∙ still_swept name link _ t g)) g
 
     abbrev Heard : Sender → Type 0
     Heard t = AreSender name (filter stays (closed_by_partner e ∷ [])) t
@@ -106,41 +106,41 @@ module _ (name : ℕ → ℕ → ℕ) (link : ℕ) where
     heard_by : IsSender (named name e) e s → (v : Closing) → e.closing ≡ v → Heard (senders.shuts (named name e) s.end s)
     heard_by i closing.Queued same =
         let list : filter stays (closed_by_partner e ∷ []) ≡ closed_by_partner e ∷ [] = (rw same refl) in
-        subst Heard (sym (heard_closed (named name e) s i.end (i.closed ∙ ap has_cls same)))
+        subst Heard (sym (heard_closed _ s i.end (i.closed ∙ ap has_cls same)))
         (subst (λ (xs : List Entry). AreSender name xs (record s { end = None })) (sym list) (inr (record { closed = (rw same refl); shut = refl; live = (rw same refl); none = none_ended s })))
     heard_by i closing.Sent same =
         let list : filter stays (closed_by_partner e ∷ []) ≡ [] = (rw same refl) in
-        subst Heard (sym (heard_closed (named name e) s i.end (i.closed ∙ ap has_cls same))) (subst (λ (xs : List Entry). AreSender name xs (record s { end = None })) (sym list) (none_ended s))
+        subst Heard (sym (heard_closed _ s i.end (i.closed ∙ ap has_cls same))) (subst (λ (xs : List Entry). AreSender name xs (record s { end = None })) (sym list) (none_ended s))
     heard_by i v same =
-        subst Heard (sym (heard_unclosed (named name e) s i.end (i.closed ∙ ap has_cls same))) (open_due v same refl i (rw same refl) (rw same refl))
+        subst Heard (sym (heard_unclosed _ s i.end (i.closed ∙ ap has_cls same))) (open_due v same refl i (rw same refl) (rw same refl))
 
     shut_on : sends_on link e ≡ true → HasSender name link (filter stays (changed_first (is_at own foreign) closed_by_partner d.entries)) (all_sent (heard (named name e) s.end) s)
     shut_on on =
         let both : AreSender name (e ∷ []) s × (filter (sends_on link) (changed_first (is_at own foreign) closed_by_partner d.entries) ≡ closed_by_partner e ∷ [])
-        = own_sender name link (is_at own foreign) closed_by_partner e d.entries s found on on h in
+        = own_sender name link _ closed_by_partner e d.entries s found on on h in
         let i : IsSender (named name e) e s = elim both.0 [
           | inl i ↦ i
           | inr n ↦ absurd (unlike e.partner_closed n.shut first)
         ] in
         let here : (named name e == named name e) ≡ true = eq-eqb (named name e) (named name e) refl in
         let moves : heard (named name e) s.end ≡ senders.Hear (words.Cls (named name e)) ∷ [] = ap (λ (o : Option ℕ). heard (named name e) o) i.end ∙ (rw here refl) in
-        subst (λ (xs : List Entry). AreSender name xs (all_sent (heard (named name e) s.end) s)) (sym (swept_on (closed_by_partner e ∷ []) both.1))
+        subst (λ (xs : List Entry). AreSender name xs (all_sent (heard (named name e) s.end) s)) (sym (swept_on _ both.1))
         (subst (λ (ms : List senders.Move). Heard (all_sent ms s)) (sym moves) (heard_by i e.closing refl))
 
     shut_has : (v : Bool) → sends_on link e ≡ v → is_receiving e ≡ false → HasSender name link (filter stays (changed_first (is_at own foreign) closed_by_partner d.entries)) (all_sent (heard (named name e) s.end) s)
     shut_has true on i = shut_on on
     shut_has false off i =
-        shut_off (all_sent (heard (named name e) s.end) s) off (heard_apart name (named name e) (filter (sends_on link) d.entries) s (others name (is_at own foreign) (sends_on link) e d.entries off a found) h)
+        shut_off _ off (heard_apart name _ _ s (others name _ _ e d.entries off a found) h)
 
     shut_known : (t : Sender) → t.size ≡ s.size → t.closed ≡ s.closed → AreKnown name (filter stays (changed_first (is_at own foreign) closed_by_partner d.entries)) t
     shut_known t z c =
-        known_filter name stays (changed_first (is_at own foreign) closed_by_partner d.entries) t
-        (known_changed name (is_at own foreign) closed_by_partner e d.entries s t (λ n out. (ap (λ (f : ℕ → Option ℕ). f n) z, ap (λ (f : ℕ → Bool). f n) c)) (record { own = λ x. refl; foreign = λ x. refl })
-        (λ i. (let one : IsKnown (named name e) e s = known_found name (is_at own foreign) e d.entries s i k found in
+        known_filter name stays _ t
+        (known_changed name _ closed_by_partner e d.entries s t (λ n out. (ap (λ (f : ℕ → Option ℕ). f n) z, ap (λ (f : ℕ → Bool). f n) c)) (record { own = λ x. refl; foreign = λ x. refl })
+        (λ i. (let one : IsKnown (named name e) e s = known_found name _ e d.entries s i k found in
         record { size = ap (λ (f : ℕ → Option ℕ). f (named name e)) z ∙ one.size; closed = ap (λ (f : ℕ → Bool). f (named name e)) c ∙ one.closed ∙ due_cls e.closing })) a k found)
 
     shut_apart : AreApart (numbers name (filter stays (changed_first (is_at own foreign) closed_by_partner d.entries)))
-    shut_apart = apart_filter name stays (changed_first (is_at own foreign) closed_by_partner d.entries) (apart_changed name (is_at own foreign) closed_by_partner d.entries (λ x. refl) a)
+    shut_apart = apart_filter name stays _ (apart_changed name _ closed_by_partner d.entries (λ x. refl) a)
 
     -- then all settle
     then_settled : (t : Sender) → HasSender name link (filter stays (changed_first (is_at own foreign) closed_by_partner d.entries)) t → AreKnown name (filter stays (changed_first (is_at own foreign) closed_by_partner d.entries)) t
@@ -148,7 +148,7 @@ module _ (name : ℕ → ℕ → ℕ) (link : ℕ) where
     then_settled t g j =
         subst (λ (es : List Entry). Sent name link (closes name busy (changed_first (is_at own foreign) closed_by_partner d.entries)) es t) (sym (swept_first busy (changed_first (is_at own foreign) closed_by_partner d.entries)))
         (subst (λ (ms : List senders.Move). Sent name link ms (map (shut_one busy) (filter stays (changed_first (is_at own foreign) closed_by_partner d.entries))) t) (sym (closes_swept name busy (changed_first (is_at own foreign) closed_by_partner d.entries)))
-        (settle_all name link busy (filter stays (changed_first (is_at own foreign) closed_by_partner d.entries)) t g j shut_apart))
+        (settle_all name link busy _ t g j shut_apart))
 
     cls_first : Sent name link ((if is_receiving e then [] else heard (named name e) s.end) ++ closes name busy (changed_at own foreign closed_by_partner d.entries)) (filter stays (map (shut_one busy) (changed_first (is_at own foreign) closed_by_partner d.entries))) s
     cls_first = by (is_receiving e) refl where
@@ -156,9 +156,9 @@ module _ (name : ℕ → ℕ → ℕ) (link : ℕ) where
           → Sent name link ((if v then [] else heard (named name e) s.end) ++ closes name busy (changed_at own foreign closed_by_partner d.entries)) (filter stays (map (shut_one busy) (changed_first (is_at own foreign) closed_by_partner d.entries))) s
       by true i = then_settled s (shut_off s (not_sent link e i) h) (shut_known s refl refl)
       by false i =
-          then_sent name link (heard (named name e) s.end) (closes name busy (changed_at own foreign closed_by_partner d.entries)) (filter stays (map (shut_one busy) (changed_first (is_at own foreign) closed_by_partner d.entries))) s
-          (heard_may (named name e) s.end s)
-          (then_settled (all_sent (heard (named name e) s.end) s) (shut_has (sends_on link e) refl i) (shut_known (all_sent (heard (named name e) s.end) s) (heard_size (named name e) s.end s) (heard_closes (named name e) s.end s)))
+          then_sent name link _ _ _ s
+          (heard_may _ s.end s)
+          (then_settled _ (shut_has _ refl i) (shut_known _ (heard_size _ s.end s) (heard_closes _ s.end s)))
 
     heard_box : (out : Bool) (c : ℕ) (o : Option ℕ) → KeepBox out (heard c o) s
     heard_box out c None = tt
@@ -171,7 +171,7 @@ module _ (name : ℕ → ℕ → ℕ) (link : ℕ) where
         → KeepBox (is_busy busy link) (closes name busy (changed_first (is_at own foreign) closed_by_partner d.entries)) t
     then_box t g j =
         subst (λ (ms : List senders.Move). KeepBox (is_busy busy link) ms t) (sym (closes_swept name busy (changed_first (is_at own foreign) closed_by_partner d.entries)))
-        (settled_box name busy link (filter stays (changed_first (is_at own foreign) closed_by_partner d.entries)) t g j shut_apart)
+        (settled_box name busy link _ t g j shut_apart)
 
     -- none is outstanding where it closes
     first_box : KeepBox (is_busy busy link) ((if is_receiving e then [] else heard (named name e) s.end) ++ closes name busy (changed_at own foreign closed_by_partner d.entries)) s
@@ -179,8 +179,8 @@ module _ (name : ℕ → ℕ → ℕ) (link : ℕ) where
       by : (v : Bool) → is_receiving e ≡ v → KeepBox (is_busy busy link) ((if v then [] else heard (named name e) s.end) ++ closes name busy (changed_at own foreign closed_by_partner d.entries)) s
       by true i = then_box s (shut_off s (not_sent link e i) h) (shut_known s refl refl)
       by false i =
-          keep_both (is_busy busy link) (heard (named name e) s.end) (closes name busy (changed_at own foreign closed_by_partner d.entries)) s (heard_box (is_busy busy link) (named name e) s.end)
-          (then_box (all_sent (heard (named name e) s.end) s) (shut_has (sends_on link e) refl i) (shut_known (all_sent (heard (named name e) s.end) s) (heard_size (named name e) s.end s) (heard_closes (named name e) s.end s)))
+          keep_both _ _ _ s (heard_box _ _ s.end)
+          (then_box _ (shut_has _ refl i) (shut_known _ (heard_size _ s.end s) (heard_closes _ s.end s)))
 
   pub cls_box : (peer : Host) (busy : List ℕ) (own foreign : ℕ) (d : DeskState) (s : Sender) → HasSender name link d.entries s → AreKnown name d.entries s → AreApart (numbers name d.entries) → (o : Option Entry) → entry_at own foreign d.entries ≡ o
       → KeepBox (is_busy busy link) (cls_sent name busy own foreign d.entries s o) s

@@ -38,16 +38,16 @@ module _ (name : ℕ → ℕ → ℕ) (s : Sender) where
   ret_known : (l m n : ℕ) (e : Entry) (d : DeskState) → AreKnown name d.entries s → AreKnown name (ret_taken l m n e d).entries s
   ret_known l m n e d k = by (nat_le m e.allocation.messages && nat_le n e.allocation.bits) refl where
     by : (v : Bool) → (nat_le m e.allocation.messages && nat_le n e.allocation.bits) ≡ v → AreKnown name (ret_taken l m n e d).entries s
-    by true t = rw t (known_idle name (receives_on l) (returned m n) s d.entries (record { own = λ x. refl; foreign = λ x. refl; size = λ x. refl; closing = λ x. refl }) k)
+    by true t = rw t (known_idle name _ _ s d.entries (record { own = λ x. refl; foreign = λ x. refl; size = λ x. refl; closing = λ x. refl }) k)
     by false t = rw t k
 
   all_known : (peer : Host) (busy : List ℕ) (stamp l m n : ℕ) (d : DeskState) → AreKnown name d.entries s → AreKnown name (desk_taken peer busy stamp (command.All l m n) d).entries s
   all_known peer busy stamp l m n d k =
-      at_end_known (command.All l m n) (all_taken l m n) (sender_on l d) d k (λ e. known_idle name (sends_on l) (granted m n) s d.entries (record { own = λ x. refl; foreign = λ x. refl; size = λ x. refl; closing = λ x. refl }) k)
+      at_end_known (command.All l m n) _ (sender_on l d) d k (λ e. known_idle name (sends_on l) (granted m n) s d.entries (record { own = λ x. refl; foreign = λ x. refl; size = λ x. refl; closing = λ x. refl }) k)
 
   gvb_known : (peer : Host) (busy : List ℕ) (stamp l m n : ℕ) (d : DeskState) → AreKnown name d.entries s → AreKnown name (desk_taken peer busy stamp (command.Gvb l m n) d).entries s
   gvb_known peer busy stamp l m n d k =
-      at_end_known (command.Gvb l m n) (gvb_taken l m n) (sender_on l d) d k (λ e. known_idle name (sends_on l) (given_back m n) s d.entries (record { own = λ x. refl; foreign = λ x. refl; size = λ x. refl; closing = λ x. refl }) k)
+      at_end_known (command.Gvb l m n) _ (sender_on l d) d k (λ e. known_idle name (sends_on l) (given_back m n) s d.entries (record { own = λ x. refl; foreign = λ x. refl; size = λ x. refl; closing = λ x. refl }) k)
 
 module _ (name : ℕ → ℕ → ℕ) (link : ℕ) (peer : Host) (busy : List ℕ) (stamp k : ℕ) (d : DeskState) (s : Sender) (h : HasSender name link d.entries s) (known : AreKnown name d.entries s) where
   left : (c : Command) → LeavesSender link c → AreKnown name (desk_taken peer busy stamp c d).entries s → Sent name link [] (desk_taken peer busy stamp c d).entries s
@@ -77,17 +77,17 @@ module _ (name : ℕ → ℕ → ℕ) (link : ℕ) (peer : Host) (busy : List �
     more : (e : Entry) → is_receiving e ≡ true → Sent name link [] (d.entries ++ e ∷ []) s
     more e i = record {
       may = tt;
-      has = subst (λ (xs : List Entry). AreSender name xs s) (sym (append_off (sends_on link) e d.entries (not_sent link e i))) h;
+      has = subst (λ (xs : List Entry). AreSender name xs s) (sym (append_off _ e d.entries (not_sent link e i))) h;
       known = known_append name d.entries e s known (λ j. absurd (unlike (is_receiving e) i j));
     }
 
     linked_by : (o : Option ℕ) → Sent name link [] (str_linked own foreign z stamp o d).entries s
-    linked_by None = more (refused_end own foreign stamp) even
-    linked_by (Some l) = more (asked_with_size stamp z (receiving_end own foreign l)) even
+    linked_by None = more _ even
+    linked_by (Some l) = more _ even
 
     listened_by : (o : Option Listener) → Sent name link [] (str_heard own foreign z stamp o d).entries s
-    listened_by None = more (refused_end own foreign stamp) even
-    listened_by (Some l) = linked_by (free_link d.entries)
+    listened_by None = more _ even
+    listened_by (Some l) = linked_by _
 
     found_by : (e : Entry) → entry_at own foreign d.entries ≡ Some e → (v : Bool) → is_some e.partner ≡ v → Sent name link [] (str_taken_by peer own foreign z stamp (Some e) d).entries s
     found_by e found true p = rw p (record { may = tt; has = h; known = known })
@@ -95,16 +95,16 @@ module _ (name : ℕ → ℕ → ℕ) (link : ℕ) (peer : Host) (busy : List �
         let i : is_receiving e ≡ true = own_parity name link own foreign e d.entries found ∙ even in
         rw p (record {
           may = tt;
-          has = subst (λ (xs : List Entry). AreSender name xs s) (sym (away (is_at own foreign) (sends_on link) (asked_with_size stamp z) e d.entries (not_sent link e i) (not_sent link (asked_with_size stamp z e) i) found)) h;
-          known = known_changed name (is_at own foreign) (asked_with_size stamp z) e d.entries s s (λ n out. (refl, refl)) (record { own = λ x. refl; foreign = λ x. refl }) (λ j. absurd (unlike (is_receiving e) i j)) a known found;
+          has = subst (λ (xs : List Entry). AreSender name xs s) (sym (away _ _ _ e d.entries (not_sent link e i) (not_sent link (asked_with_size stamp z e) i) found)) h;
+          known = known_changed name _ _ e d.entries s s (λ n out. (refl, refl)) (record { own = λ x. refl; foreign = λ x. refl }) (λ j. absurd (unlike (is_receiving e) i j)) a known found;
         })
 
     str_by : (o : Option Entry) → entry_at own foreign d.entries ≡ o → Sent name link [] (str_taken_by peer own foreign z stamp o d).entries s
-    str_by None found = listened_by (listener_on own d.listening)
-    str_by (Some e) found = found_by e found (is_some e.partner) refl
+    str_by None found = listened_by _
+    str_by (Some e) found = found_by e found _ refl
 
     str_leaves : Sent name link [] (str_taken peer own foreign z stamp d).entries s
-    str_leaves = str_by (entry_at own foreign d.entries) refl
+    str_leaves = str_by _ refl
 
   -- ---- an RTS
 

@@ -25,11 +25,11 @@ open_bool false x y = refl
 pub open_same : (c : ℕ) (e : Entry) (s : Sender) → IsSender c e s → senders.is_open c s ≡ is_open e
 open_same c e s h =
     ap (λ (v : Bool). v && not s.shut && not (s.closed c)) h.opened ∙ ap (λ (v : Bool). has_opened e && not v && not (s.closed c)) h.shut
-    ∙ ap (λ (v : Bool). has_opened e && not e.partner_closed && not v) h.closed ∙ open_bool (has_opened e) (has_cls e.closing) e.partner_closed
+    ∙ ap (λ (v : Bool). has_opened e && not e.partner_closed && not v) h.closed ∙ open_bool _ _ e.partner_closed
 
 -- an end whose CLS waits to go out, or has gone out, isn't open, nor is one that leaves
 closed_shut : (e : Entry) → has_cls e.closing ≡ true → is_open e ≡ false
-closed_shut e closed = ap (λ (v : Bool). is_some e.asked && is_some e.partner && not (v || e.partner_closed)) closed ∙ and_none (is_some e.asked && is_some e.partner)
+closed_shut e closed = ap (λ (v : Bool). is_some e.asked && is_some e.partner && not (v || e.partner_closed)) closed ∙ and_none _
 
 pub leaving_shut : (e : Entry) (s : Sender) → IsLeaving e s → is_open e ≡ false
 leaving_shut e s n = closed_shut e n.closed
@@ -58,18 +58,18 @@ at_link name link es s P work none ending idle shut opened h = by (filter (sends
 
   one : (x : Entry) → filter (sends_on link) es ≡ x ∷ [] → IsSender (name x.own x.foreign) x s → (v : Bool) → is_open x ≡ v → at (Some x)
   one x e i true o =
-      open_found (λ (w : Found). P w (work s.end)) x o (subst (λ (p : Option ℕ). P (Open x) (work p)) (sym i.end) (opened x (first_is (sends_on link) x [] es e) e i o))
+      open_found (λ (w : Found). P w (work s.end)) x o (subst (λ (p : Option ℕ). P (Open x) (work p)) (sym i.end) (opened x (first_is _ x [] es e) e i o))
   one x e i false o =
-      subst (λ (q : Sender). P (found_in (Some x)) q) (sym (ap work i.end ∙ shut (name x.own x.foreign) (open_same (name x.own x.foreign) x s i ∙ o))) (closed_found (λ (w : Found). P w s) none ending x o)
+      subst (λ (q : Sender). P (found_in (Some x)) q) (sym (ap work i.end ∙ shut _ (open_same _ x s i ∙ o))) (closed_found (λ (w : Found). P w s) none ending x o)
 
   by : (xs : List Entry) → filter (sends_on link) es ≡ xs → at (find (sends_on link) es)
   by [] e =
       let n : NoneOpen s = subst (λ (ys : List Entry). AreSender name ys s) e h in
-      subst at (sym (none_is (sends_on link) es e)) (subst (λ (q : Sender). P Unconnected q) (sym (same n)) none)
+      subst at (sym (none_is _ es e)) (subst (λ (q : Sender). P Unconnected q) (sym (same n)) none)
   by (x ∷ []) e =
       let i : AreSender name (x ∷ []) s = subst (λ (ys : List Entry). AreSender name ys s) e h in
-      subst at (sym (first_is (sends_on link) x [] es e)) (elim i [
-        | inl is ↦ one x e is (is_open x) refl
+      subst at (sym (first_is _ x [] es e)) (elim i [
+        | inl is ↦ one x e is _ refl
         | inr n ↦ subst (λ (q : Sender). P (found_in (Some x)) q) (sym (same n.none)) (closed_found (λ (w : Found). P w s) none ending x (leaving_shut x s n))
       ])
   by (x ∷ y ∷ ys) e = absurd (subst (λ (zs : List Entry). AreSender name zs s) e h)
@@ -77,15 +77,15 @@ at_link name link es s P work none ending idle shut opened h = by (filter (sends
 -- an end on the link that is found, and changed, is the law's, or leaves
 own_by : (name : ℕ → ℕ → ℕ) (link : ℕ) (test : Entry → Bool) (change : Entry → Entry) (e : Entry) (es : List Entry) (s : Sender) → find test es ≡ Some e → sends_on link e ≡ true → sends_on link (change e) ≡ true → HasSender name link es s
     → (xs : List Entry) → filter (sends_on link) es ≡ xs → AreSender name (e ∷ []) s × (filter (sends_on link) (changed_first test change es) ≡ change e ∷ [])
-own_by name link test change e es s found on after h [] f = absurd (missed test (sends_on link) e es on f found)
+own_by name link test change e es s found on after h [] f = absurd (missed test _ e es on f found)
 own_by name link test change e es s found on after h (x ∷ []) f =
-    let k : Here test (sends_on link) change e x es = here test (sends_on link) change e x es on after found f in
+    let k : Here test (sends_on link) change e x es = here test _ change e x es on after found f in
     (subst (λ (y : Entry). AreSender name (y ∷ []) s) (sym k.0) (subst (λ (ys : List Entry). AreSender name ys s) f h), k.1)
 own_by name link test change e es s found on after h (x ∷ y ∷ ys) f = absurd (subst (λ (zs : List Entry). AreSender name zs s) f h)
 
 pub own_sender : (name : ℕ → ℕ → ℕ) (link : ℕ) (test : Entry → Bool) (change : Entry → Entry) (e : Entry) (es : List Entry) (s : Sender) → find test es ≡ Some e → sends_on link e ≡ true → sends_on link (change e) ≡ true
     → HasSender name link es s → AreSender name (e ∷ []) s × (filter (sends_on link) (changed_first test change es) ≡ change e ∷ [])
-own_sender name link test change e es s found on after h = own_by name link test change e es s found on after h (filter (sends_on link) es) refl
+own_sender name link test change e es s found on after h = own_by name link test change e es s found on after h _ refl
 
 shut_counts : (f : Allocation → Allocation) (s : Sender) (c : ℕ) → senders.is_open c s ≡ false → senders.with_allocation (Some c) f s ≡ s
 shut_counts f s c e = rw e refl
@@ -119,10 +119,10 @@ module _ (name : ℕ → ℕ → ℕ) (link : ℕ) where
       → filter (sends_on link) d.entries ≡ x ∷ [] → IsSender (name x.own x.foreign) x s → is_open x ≡ true
       → HasSender name link (changed_first (sends_on link) change d.entries) (senders.with_allocation (Some (name x.own x.foreign)) f s)
   counted change f d s x is g one i o =
-      let there : sends_on link x ≡ true = find_passes (sends_on link) x d.entries g in
+      let there : sends_on link x ≡ true = find_passes _ x d.entries g in
       let after : sends_on link (change x) ≡ true = ap (sends_on link) (is x) ∙ there in
-      let k : Here (sends_on link) (sends_on link) change x x d.entries = here (sends_on link) (sends_on link) change x x d.entries there after g one in
-      let opened : senders.is_open (name x.own x.foreign) s ≡ true = open_same (name x.own x.foreign) x s i ∙ o in
+      let k : Here (sends_on link) (sends_on link) change x x d.entries = here _ _ change x x d.entries there after g one in
+      let opened : senders.is_open (name x.own x.foreign) s ≡ true = open_same _ x s i ∙ o in
       subst (λ (es : List Entry). AreSender name es (senders.with_allocation (Some (name x.own x.foreign)) f s)) (sym (k.1 ∙ ap (λ (e : Entry). e ∷ []) (is x)))
       (rw opened (inl (record { end = i.end; opened = i.opened; shut = i.shut; closed = i.closed; size = i.size; allocation = ap f i.allocation; live = i.live })))
 
@@ -160,32 +160,32 @@ module _ (name : ℕ → ℕ → ℕ) (link : ℕ) where
     quiet e = sym (ap (λ (l : List (ℕ × ℕ)). returned_on link d.queue ++ l) e ∙ append-nil (returned_on link d.queue))
 
     unconnected : returned_in (senders.returns m n s.end s) ≡ [] → at Unconnected
-    unconnected e = returned_more link d.queue (error NOT_CONNECTED (spelling (command.Gvb link m n))) ∙ append-nil (returned_on link d.queue) ∙ quiet e
+    unconnected e = returned_more link d.queue _ ∙ append-nil (returned_on link d.queue) ∙ quiet e
 
     shut : (x : Entry) → is_open x ≡ false → returned_in (senders.returns m n s.end s) ≡ [] → at (found_in (Some x))
     shut x o e = closed_found at (unconnected e) (quiet e) x o
 
     one : (x : Entry) → IsSender (name x.own x.foreign) x s → (v : Bool) → is_open x ≡ v → at (found_in (Some x))
     one x i true o =
-        let opened : senders.is_open (name x.own x.foreign) s ≡ true = open_same (name x.own x.foreign) x s i ∙ o in
+        let opened : senders.is_open (name x.own x.foreign) s ≡ true = open_same _ x s i ∙ o in
         let said : returned_in (senders.returns m n s.end s) ≡ (counters.share s.allocation.messages m, counters.share s.allocation.bits n) ∷ []
         = ap (λ (p : Option ℕ). returned_in (senders.returns m n p s)) i.end ∙ (rw opened refl) in
         let same : returned_in (senders.returns m n s.end s) ≡ (counters.share x.allocation.messages m, counters.share x.allocation.bits n) ∷ []
         = said ∙ ap (λ (a : Allocation). (counters.share a.messages m, counters.share a.bits n) ∷ []) i.allocation in
         let own : returned_on link (command.Ret link (counters.share x.allocation.messages m) (counters.share x.allocation.bits n) ∷ []) ≡ (counters.share x.allocation.messages m, counters.share x.allocation.bits n) ∷ []
         = (let e : (link == link) ≡ true = eq-eqb link link refl in rw e refl) in
-        open_found at x o (returned_more link d.queue (command.Ret link (counters.share x.allocation.messages m) (counters.share x.allocation.bits n)) ∙ ap (λ (l : List (ℕ × ℕ)). returned_on link d.queue ++ l) (own ∙ sym same))
+        open_found at x o (returned_more link d.queue _ ∙ ap (λ (l : List (ℕ × ℕ)). returned_on link d.queue ++ l) (own ∙ sym same))
     one x i false o =
-        shut x o (ap (λ (p : Option ℕ). returned_in (senders.returns m n p s)) i.end ∙ silent (name x.own x.foreign) (open_same (name x.own x.foreign) x s i ∙ o))
+        shut x o (ap (λ (p : Option ℕ). returned_in (senders.returns m n p s)) i.end ∙ silent _ (open_same _ x s i ∙ o))
 
     by : (xs : List Entry) → filter (sends_on link) d.entries ≡ xs → at (found_in (find (sends_on link) d.entries))
     by [] e =
         let k : NoneOpen s = subst (λ (ys : List Entry). AreSender name ys s) e h in
-        subst (λ (o : Option Entry). at (found_in o)) (sym (none_is (sends_on link) d.entries e)) (unconnected (none_said k))
+        subst (λ (o : Option Entry). at (found_in o)) (sym (none_is _ d.entries e)) (unconnected (none_said k))
     by (x ∷ []) e =
         let i : AreSender name (x ∷ []) s = subst (λ (ys : List Entry). AreSender name ys s) e h in
-        subst (λ (o : Option Entry). at (found_in o)) (sym (first_is (sends_on link) x [] d.entries e)) (elim i [
-          | inl is ↦ one x is (is_open x) refl
+        subst (λ (o : Option Entry). at (found_in o)) (sym (first_is _ x [] d.entries e)) (elim i [
+          | inl is ↦ one x is _ refl
           | inr k ↦ shut x (leaving_shut x s k) (none_said k.none)
         ])
     by (x ∷ y ∷ ys) e = absurd (subst (λ (zs : List Entry). AreSender name zs s) e h)
@@ -208,7 +208,7 @@ unfolding entry_in
 data_by q link x e size count None f g = absurd (cc)
 data_by q link x e size count (Some z) f g =
     let same : x ≡ e = ap (entry_in x) g in
-    let t : (may_send q.busy x ≡ true) × ((link_of x.link == link) ≡ true) = both (may_send q.busy x) (link_of x.link == link) (find_passes (may_send_on q.busy link) x q.entries f) in
+    let t : (may_send q.busy x ≡ true) × ((link_of x.link == link) ≡ true) = both (may_send q.busy x) (link_of x.link == link) (find_passes _ x q.entries f) in
     let linked : link ≡ link_of x.link = sym (eqb-true (link_of x.link) link t.1) in
     subst (λ (y : Entry). IsNext q y) same (subst (λ (l : ℕ). find (may_send_on q.busy l) q.entries ≡ Some x) linked f)
 
@@ -218,28 +218,28 @@ data_found q link e size count (Some x) f g = data_by q link x e size count x.si
 
 data_on : (q : PairState) (e : Entry) (size count : ℕ) (o : Option ℕ) → bytes_on q.busy q.entries o ≡ Some (Bytes e size count) → IsNext q e
 data_on q e size count None g = absurd (cc)
-data_on q e size count (Some link) g = data_found q link e size count (find (may_send_on q.busy link) q.entries) refl g
+data_on q e size count (Some link) g = data_found q link e size count _ refl g
 
 ready_by : (q : PairState) (e : Entry) (size count : ℕ) (v : Bool) → (nat_lt 0 (length q.queue) && not (is_busy q.busy 0)) ≡ v → next_of_ready q ≡ Some (Bytes e size count) → IsNext q e
 ready_by q e size count true t g = let r : Some (Commands (packed_count q.queue)) ≡ Some (Bytes e size count) = rw t at g in absurd (cc)
-ready_by q e size count false t g = let r : next_bytes q.busy q.entries ≡ Some (Bytes e size count) = rw t at g in data_on q e size count (lowest_link (filter (may_send q.busy) q.entries)) r
+ready_by q e size count false t g = let r : next_bytes q.busy q.entries ≡ Some (Bytes e size count) = rw t at g in data_on q e size count _ r
 
 next_by : (q : PairState) (e : Entry) (size count : ℕ) (want owed ready : Bool) → is_want q.phase ≡ want → q.owed ≡ owed → is_ready q.phase ≡ ready → next_of q ≡ Some (Bytes e size count) → IsNext q e
 next_by q e size count true owed ready w o r g =
-    let t : if_silent q.busy Reset ≡ Some (Bytes e size count) = rw w at g in absurd (not_silent (length q.busy == 0) Reset e size count (λ same. absurd (cc)) t)
+    let t : if_silent q.busy Reset ≡ Some (Bytes e size count) = rw w at g in absurd (not_silent _ Reset e size count (λ same. absurd (cc)) t)
 next_by q e size count false true ready w o r g =
-    let t : if_silent q.busy Reply ≡ Some (Bytes e size count) = rw (w, o) at g in absurd (not_silent (length q.busy == 0) Reply e size count (λ same. absurd (cc)) t)
+    let t : if_silent q.busy Reply ≡ Some (Bytes e size count) = rw (w, o) at g in absurd (not_silent _ Reply e size count (λ same. absurd (cc)) t)
 next_by q e size count false false true w o r g =
-    let t : next_of_ready q ≡ Some (Bytes e size count) = rw (w, o, r) at g in ready_by q e size count (nat_lt 0 (length q.queue) && not (is_busy q.busy 0)) refl t
+    let t : next_of_ready q ≡ Some (Bytes e size count) = rw (w, o, r) at g in ready_by q e size count _ refl t
 next_by q e size count false false false w o r g = absurd (let t : None ≡ Some (Bytes e size count) = rw (w, o, r) at g in cc)
 
 -- the end of which bytes go out is the one that is changed
 pub next_is : (q : PairState) (e : Entry) (size count : ℕ) → next_of q ≡ Some (Bytes e size count) → IsNext q e
-next_is q e size count g = next_by q e size count (is_want q.phase) q.owed (is_ready q.phase) refl refl refl g
+next_is q e size count g = next_by q e size count _ q.owed _ refl refl refl g
 
 module _ (name : ℕ → ℕ → ℕ) (link : ℕ) (q : PairState) (e : Entry) (size count : ℕ) (next : next_of q ≡ Some (Bytes e size count)) where
   may : MaySend q e size count
-  may = (what_goes q (Bytes e size count) next).1
+  may = (what_goes q _ next).1
 
   on_link : e.link ≡ Some link → sends_on link e ≡ true
   on_link linked = let there : is_link link e.link ≡ true = ap (is_link link) linked ∙ eq-eqb link link refl in let sends : is_receiving e ≡ false = may.sends in rw (sends, there) refl
@@ -252,7 +252,7 @@ module _ (name : ℕ → ℕ → ℕ) (link : ℕ) (q : PairState) (e : Entry) (
       → IsSender (name e.own e.foreign) e s × (filter (sends_on link) (changed_first (may_send_on q.busy (link_of e.link)) (bits_gone (size * count)) q.entries) ≡ bits_gone (size * count) e ∷ [])
   own_end s linked h =
       let k : AreSender name (e ∷ []) s × (filter (sends_on link) (changed_first (may_send_on q.busy (link_of e.link)) (bits_gone (size * count)) q.entries) ≡ bits_gone (size * count) e ∷ [])
-      = own_sender name link (may_send_on q.busy (link_of e.link)) (bits_gone (size * count)) e q.entries s (next_is q e size count next) (on_link linked) (on_link linked) h in (
+      = own_sender name link _ _ e q.entries s (next_is q e size count next) (on_link linked) (on_link linked) h in (
         elim k.0 [
           | inl is ↦ is
           | inr n ↦ absurd (unlike (is_open e) may.is_opened (leaving_shut e s n))
@@ -267,7 +267,7 @@ module _ (name : ℕ → ℕ → ℕ) (link : ℕ) (q : PairState) (e : Entry) (
       let room : nat_le (size * count) e.allocation.bits ≡ true = le-leb (size * count) e.allocation.bits may.granted_bits in
       let covered : covers e.allocation (size * count) ≡ true = (rw (message, room) refl) in (
         i.end,
-        open_same (name e.own e.foreign) e s i ∙ may.is_opened,
+        open_same _ e s i ∙ may.is_opened,
         i.size ∙ may.bytes,
         ap (λ (a : Allocation). covers a (length (take (size * count) e.bits))) i.allocation ∙ ap (λ (n : ℕ). covers e.allocation n) bits_are ∙ covered,
       )

@@ -28,7 +28,7 @@ module _ (name : ℕ → ℕ → ℕ) (link : ℕ) (busy : List ℕ) where
   clear_among : (c : ℕ) (cs : List ℕ) (xs zs : List Entry) → AreClear name xs (c ∷ cs) → is_among c (numbers name zs) ≡ false → is_among c (numbers name (xs ++ zs)) ≡ false
   clear_among c cs [] zs a n = n
   clear_among c cs (x ∷ xs) zs a n =
-      let other : (named name x == c) ≡ false = turned name c (named name x) (or_parts (c == named name x) (is_among (named name x) cs) a.0).0 in
+      let other : (named name x == c) ≡ false = turned name c _ (or_parts (c == named name x) (is_among (named name x) cs) a.0).0 in
       rw other (clear_among c cs xs zs a.1 n)
 
   abbrev Rest : List Entry → Type 0
@@ -66,23 +66,23 @@ module _ (name : ℕ → ℕ → ℕ) (link : ℕ) (busy : List ℕ) where
   first_closes xs y ys s zs m i k a done has =
       let fresh : s.closed (named name y) ≡ false = (k.0 i).closed ∙ due_open y.closing (due_is y m) in
       let same : ((all_sent (closes name busy ys) (senders.moved (senders.Close (named name y)) s)).size (named name y) ≡ s.size (named name y)) × ((all_sent (closes name busy ys) (senders.moved (senders.Close (named name y)) s)).closed (named name y) ≡ true)
-      = ((done.away (named name y) a.0).0, (done.away (named name y) a.0).1 ∙ for_here (named name y) true s.closed) in
+      = ((done.away (named name y) a.0).0, (done.away (named name y) a.0).1 ∙ for_here _ true s.closed) in
       record {
         may = (fresh, done.may);
         has = has;
         known = ((λ j. closed_known y s (all_sent (closes name busy ys) (senders.moved (senders.Close (named name y)) s)) m (k.0 i) same), done.known);
         away = λ n out. (let p : ((named name y == n) ≡ false) × (is_among n (numbers name ys) ≡ false) = or_parts (named name y == n) (is_among n (numbers name ys)) out in
-            let e : (s.size n ≡ s.size n) × ((senders.moved (senders.Close (named name y)) s).closed n ≡ s.closed n) = closed_elsewhere (named name y) s n (turned name (named name y) n p.0) in
+            let e : (s.size n ≡ s.size n) × ((senders.moved (senders.Close (named name y)) s).closed n ≡ s.closed n) = closed_elsewhere (named name y) s n (turned name _ n p.0) in
             ((done.away n p.1).0, (done.away n p.1).1 ∙ e.1));
       }
 
   close_off : (xs : List Entry) (y : Entry) (ys : List Entry) (s : Sender) → Rest ys → must_close busy y ≡ true → is_receiving y ≡ false → sends_on link y ≡ false → AreSender name (xs ++ filter (sends_on link) ys) s
       → AreClear name xs (numbers name (y ∷ ys)) → AreKnown name (y ∷ ys) s → AreApart (numbers name (y ∷ ys)) → Done name link busy (senders.Close (named name y) ∷ closes name busy ys) xs (y ∷ ys) s
   close_off xs y ys s rest m i o h c k a =
-      let none : is_among (named name y) (numbers name (xs ++ filter (sends_on link) ys)) ≡ false = clear_among (named name y) (numbers name ys) xs (filter (sends_on link) ys) c (among_filter name (named name y) (sends_on link) ys a.0) in
+      let none : is_among (named name y) (numbers name (xs ++ filter (sends_on link) ys)) ≡ false = clear_among _ _ xs _ c (among_filter name _ _ ys a.0) in
       let done : Done name link busy (closes name busy ys) xs ys (senders.moved (senders.Close (named name y)) s)
-      = rest xs (senders.moved (senders.Close (named name y)) s) (close_apart name (named name y) (xs ++ filter (sends_on link) ys) s none h) (clear_rest (named name y) (numbers name ys) xs c)
-      (known_other name (named name y) ys s (senders.moved (senders.Close (named name y)) s) a.0 (closed_elsewhere (named name y) s) k.1) a.1 in
+      = rest xs (senders.moved (senders.Close (named name y)) s) (close_apart name _ _ s none h) (clear_rest _ _ xs c)
+      (known_other name _ ys s _ a.0 (closed_elsewhere _ s) k.1) a.1 in
       first_closes xs y ys s xs m i k a done (rw o done.has)
 
   -- the one on the link
@@ -97,12 +97,12 @@ module _ (name : ℕ → ℕ → ℕ) (link : ℕ) (busy : List ℕ) where
   close_on : (xs : List Entry) (y : Entry) (ys : List Entry) (s : Sender) → Rest ys → must_close busy y ≡ true → is_receiving y ≡ false → sends_on link y ≡ true → AreSender name (xs ++ y ∷ filter (sends_on link) ys) s
       → AreKnown name (y ∷ ys) s → AreApart (numbers name (y ∷ ys)) → Done name link busy (senders.Close (named name y) ∷ closes name busy ys) xs (y ∷ ys) s
   close_on [] y ys s rest m i o h k a =
-      let none : filter (sends_on link) ys ≡ [] = alone y (filter (sends_on link) ys) s h in
+      let none : filter (sends_on link) ys ≡ [] = alone y _ s h in
       let one : AreSender name (y ∷ []) s = subst (λ (zs : List Entry). AreSender name (y ∷ zs) s) none h in
       let done : Done name link busy (closes name busy ys) (shut_one busy y ∷ []) ys (senders.moved (senders.Close (named name y)) s)
       = rest (shut_one busy y ∷ []) (senders.moved (senders.Close (named name y)) s) (subst (λ (zs : List Entry). AreSender name (shut_one busy y ∷ zs) (senders.moved (senders.Close (named name y)) s)) (sym none) (close_it y s one m)) (a.0, tt)
-      (known_other name (named name y) ys s (senders.moved (senders.Close (named name y)) s) a.0 (closed_elsewhere (named name y) s) k.1) a.1 in
-      first_closes [] y ys s (shut_one busy y ∷ []) m i k a done (rw o done.has)
+      (known_other name _ ys s _ a.0 (closed_elsewhere _ s) k.1) a.1 in
+      first_closes [] y ys s _ m i k a done (rw o done.has)
   close_on (x ∷ []) y ys s rest m i o h k a = absurd h
   close_on (x ∷ z ∷ xs) y ys s rest m i o h k a = absurd h
 
@@ -117,14 +117,14 @@ module _ (name : ℕ → ℕ → ℕ) (link : ℕ) (busy : List ℕ) where
   first_stays xs y ys s zs m k a done has = record {
     may = done.may;
     has = has;
-    known = (stay_known y s (all_sent (closes name busy ys) s) m k.0 (done.away (named name y) a.0), done.known);
+    known = (stay_known y s _ m k.0 (done.away (named name y) a.0), done.known);
     away = λ n out. done.away n (or_parts (named name y == n) (is_among n (numbers name ys)) out).1;
   }
 
   stay_off : (xs : List Entry) (y : Entry) (ys : List Entry) (s : Sender) → Rest ys → (must_close busy y && not (is_receiving y)) ≡ false → sends_on link y ≡ false → AreSender name (xs ++ filter (sends_on link) ys) s
       → AreClear name xs (numbers name (y ∷ ys)) → AreKnown name (y ∷ ys) s → AreApart (numbers name (y ∷ ys)) → Done name link busy (closes name busy ys) xs (y ∷ ys) s
   stay_off xs y ys s rest m o h c k a =
-      let done : Done name link busy (closes name busy ys) xs ys s = rest xs s h (clear_rest (named name y) (numbers name ys) xs c) k.1 a.1 in
+      let done : Done name link busy (closes name busy ys) xs ys s = rest xs s h (clear_rest _ _ xs c) k.1 a.1 in
       first_stays xs y ys s xs m k a done (rw o done.has)
 
   stay_on : (xs : List Entry) (y : Entry) (ys : List Entry) (s : Sender) → Rest ys → (must_close busy y && not (is_receiving y)) ≡ false → sends_on link y ≡ true → AreSender name (xs ++ y ∷ filter (sends_on link) ys) s
@@ -132,7 +132,7 @@ module _ (name : ℕ → ℕ → ℕ) (link : ℕ) (busy : List ℕ) where
   stay_on [] y ys s rest m o h k a =
       let same : shut_one busy y ≡ y = stays_open y (not_must y m (sent_is link y o)) in
       let done : Done name link busy (closes name busy ys) (y ∷ []) ys s = rest (y ∷ []) s h (a.0, tt) k.1 a.1 in
-      first_stays [] y ys s (y ∷ []) m k a done
+      first_stays [] y ys s _ m k a done
       (rw o (subst (λ (x : Entry). AreSender name (x ∷ map (shut_one busy) (filter (sends_on link) ys)) (all_sent (closes name busy ys) s)) (sym same) done.has))
   stay_on (x ∷ []) y ys s rest m o h k a = absurd h
   stay_on (x ∷ z ∷ xs) y ys s rest m o h k a = absurd h
@@ -144,8 +144,8 @@ module _ (name : ℕ → ℕ → ℕ) (link : ℕ) (busy : List ℕ) where
     parts = both (must_close busy y) (not (is_receiving y)) m
 
     by : (o : Bool) → sends_on link y ≡ o → Done name link busy (senders.Close (named name y) ∷ closes name busy ys) xs (y ∷ ys) s
-    by true t = close_on xs y ys s rest parts.0 (not_is (is_receiving y) parts.1) t (rw t at h) k a
-    by false t = close_off xs y ys s rest parts.0 (not_is (is_receiving y) parts.1) t (rw t at h) c k a
+    by true t = close_on xs y ys s rest parts.0 (not_is _ parts.1) t (rw t at h) k a
+    by false t = close_off xs y ys s rest parts.0 (not_is _ parts.1) t (rw t at h) c k a
   settle_step y ys rest xs s h c k a false o m t = subst (λ (ms : List senders.Move). Done name link busy ms xs (y ∷ ys) s) (sym (closes_rest y ys m)) (by o t) where
     by : (o : Bool) → sends_on link y ≡ o → Done name link busy (closes name busy ys) xs (y ∷ ys) s
     by true t = stay_on xs y ys s rest m t (rw t at h) k a
@@ -153,13 +153,13 @@ module _ (name : ℕ → ℕ → ℕ) (link : ℕ) (busy : List ℕ) where
 
   settle_rest : (ys : List Entry) → Rest ys
   settle_rest [] xs s h c k a = record { may = tt; has = h; known = tt; away = λ n out. (refl, refl) }
-  settle_rest (y ∷ ys) xs s h c k a = settle_step y ys (settle_rest ys) xs s h c k a (must_close busy y && not (is_receiving y)) (sends_on link y) refl refl
+  settle_rest (y ∷ ys) xs s h c k a = settle_step y ys (settle_rest ys) xs s h c k a _ _ refl refl
 
   pub settle_all : (es : List Entry) (s : Sender) → HasSender name link es s → AreKnown name es s → AreApart (numbers name es) → Sent name link (closes name busy es) (map (shut_one busy) es) s
   settle_all es s h k a =
       let done : Done name link busy (closes name busy es) [] es s = settle_rest es [] s h tt k a in
       record {
         may = done.may;
-        has = subst (λ (xs : List Entry). AreSender name xs (all_sent (closes name busy es) s)) (sym (filter_map (sends_on link) (shut_one busy) es (λ e. refl))) done.has;
+        has = subst (λ (xs : List Entry). AreSender name xs (all_sent (closes name busy es) s)) (sym (filter_map _ _ es (λ e. refl))) done.has;
         known = done.known;
       }

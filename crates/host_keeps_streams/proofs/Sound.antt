@@ -22,41 +22,41 @@ module _ (name : ℕ → ℕ → ℕ) where
 
     module _ (own foreign l : ℕ) (odd : is_receive_socket own ≡ false) (new : entry_at own foreign d.entries ≡ None → is_among (name own foreign) (numbers name d.entries) ≡ false) where
       rts_listened : is_among (name own foreign) (numbers name d.entries) ≡ false → (o : Option Listener) → AreSound name (rts_heard own foreign l stamp o d).entries
-      rts_listened n None = sound_append d.entries (refused_end own foreign stamp) s (refused_formed own foreign stamp) n
-      rts_listened n (Some x) = sound_append d.entries (asked_on_link stamp l (sending_end own foreign x.size)) s (answering_formed own foreign x.size stamp l) n
+      rts_listened n None = sound_append d.entries _ s (refused_formed own foreign stamp) n
+      rts_listened n (Some x) = sound_append d.entries _ s (answering_formed own foreign x.size stamp l) n
 
       rts_found : (e : Entry) → entry_at own foreign d.entries ≡ Some e → (v : Bool) → is_some e.partner ≡ v → AreSound name (rts_taken_by peer own foreign l stamp (Some e) d).entries
       rts_found e found true p = rw p s
       rts_found e found false p =
-          rw p (sound_changed (is_at own foreign) (asked_on_link stamp l) e d.entries s (λ x. refl)
-          (on_link_formed stamp l e (formed_found (is_at own foreign) e d.entries s.formed found) (own_parity name l own foreign e d.entries found ∙ odd) p) found)
+          rw p (sound_changed _ _ e d.entries s (λ x. refl)
+          (on_link_formed stamp l e (formed_found _ e d.entries s.formed found) (own_parity name l own foreign e d.entries found ∙ odd) p) found)
 
       rts_by : (o : Option Entry) → entry_at own foreign d.entries ≡ o → AreSound name (rts_taken_by peer own foreign l stamp o d).entries
-      rts_by None found = rts_listened (new found) (listener_on own d.listening)
-      rts_by (Some e) found = rts_found e found (is_some e.partner) refl
+      rts_by None found = rts_listened (new found) _
+      rts_by (Some e) found = rts_found e found _ refl
 
       rts_sound : (v : Bool) → list_any (sends_on l) d.entries ≡ v → AreSound name (rts_taken peer own foreign l stamp d).entries
       rts_sound true e = rw e s
-      rts_sound false e = rw e (rts_by (entry_at own foreign d.entries) refl)
+      rts_sound false e = rw e (rts_by _ refl)
 
     module _ (own foreign z : ℕ) (even : is_receive_socket own ≡ true) (new : entry_at own foreign d.entries ≡ None → is_among (name own foreign) (numbers name d.entries) ≡ false) where
       str_answered : is_among (name own foreign) (numbers name d.entries) ≡ false → (o : Option ℕ) → AreSound name (str_linked own foreign z stamp o d).entries
-      str_answered n None = sound_append d.entries (refused_end own foreign stamp) s (refused_formed own foreign stamp) n
-      str_answered n (Some l) = sound_append d.entries (asked_with_size stamp z (receiving_end own foreign l)) s (linked_formed own foreign z stamp l even) n
+      str_answered n None = sound_append d.entries _ s (refused_formed own foreign stamp) n
+      str_answered n (Some l) = sound_append d.entries _ s (linked_formed own foreign z stamp l even) n
 
       str_listened : is_among (name own foreign) (numbers name d.entries) ≡ false → (o : Option Listener) → AreSound name (str_heard own foreign z stamp o d).entries
-      str_listened n None = sound_append d.entries (refused_end own foreign stamp) s (refused_formed own foreign stamp) n
-      str_listened n (Some x) = str_answered n (free_link d.entries)
+      str_listened n None = sound_append d.entries _ s (refused_formed own foreign stamp) n
+      str_listened n (Some x) = str_answered n _
 
       str_found : (e : Entry) → entry_at own foreign d.entries ≡ Some e → (v : Bool) → is_some e.partner ≡ v → AreSound name (str_taken_by peer own foreign z stamp (Some e) d).entries
       str_found e found true p = rw p s
       str_found e found false p =
-          rw p (sound_changed (is_at own foreign) (asked_with_size stamp z) e d.entries s (λ x. refl)
-          (with_size_formed stamp z e (formed_found (is_at own foreign) e d.entries s.formed found) (own_parity name z own foreign e d.entries found ∙ even)) found)
+          rw p (sound_changed _ _ e d.entries s (λ x. refl)
+          (with_size_formed stamp z e (formed_found _ e d.entries s.formed found) (own_parity name z own foreign e d.entries found ∙ even)) found)
 
       str_by : (o : Option Entry) → entry_at own foreign d.entries ≡ o → AreSound name (str_taken_by peer own foreign z stamp o d).entries
-      str_by None found = str_listened (new found) (listener_on own d.listening)
-      str_by (Some e) found = str_found e found (is_some e.partner) refl
+      str_by None found = str_listened (new found) _
+      str_by (Some e) found = str_found e found _ refl
 
     -- ---- a CLS
 
@@ -65,9 +65,9 @@ module _ (name : ℕ → ℕ → ℕ) where
     cls_by own foreign (Some e) = by e.partner_closed refl where
       swept : AreSound name (filter stays (map (shut_one busy) (changed_first (is_at own foreign) closed_by_partner d.entries)))
       swept = record {
-        formed = formed_shut busy (is_at own foreign) d.entries s.formed;
-        apart = apart_filter name stays (map (shut_one busy) (changed_first (is_at own foreign) closed_by_partner d.entries))
-            (subst AreApart (sym (numbers_mapped name (shut_one busy) (changed_first (is_at own foreign) closed_by_partner d.entries) (λ x. refl))) (apart_changed name (is_at own foreign) closed_by_partner d.entries (λ x. refl) s.apart));
+        formed = formed_shut busy _ d.entries s.formed;
+        apart = apart_filter name stays _
+            (subst AreApart (sym (numbers_mapped name _ _ (λ x. refl))) (apart_changed name _ closed_by_partner d.entries (λ x. refl) s.apart));
       }
 
       by : (v : Bool) → e.partner_closed ≡ v → AreSound name (cls_taken_by peer busy own foreign (Some e) d).entries
@@ -90,7 +90,7 @@ module _ (name : ℕ → ℕ → ℕ) where
     ret_sound : (l m n : ℕ) (e : Entry) → AreSound name (ret_taken l m n e d).entries
     ret_sound l m n e = by (nat_le m e.allocation.messages && nat_le n e.allocation.bits) refl where
       by : (v : Bool) → (nat_le m e.allocation.messages && nat_le n e.allocation.bits) ≡ v → AreSound name (ret_taken l m n e d).entries
-      by true t = rw t (sound_some (receives_on l) (returned m n) d.entries s (λ x. refl) (λ x t f. counted_formed (returned m n x).allocation x f (receives_link l x t)))
+      by true t = rw t (sound_some _ _ d.entries s (λ x. refl) (λ x t f. counted_formed (returned m n x).allocation x f (receives_link l x t)))
       by false t = rw t s
 
     -- ---- all commands

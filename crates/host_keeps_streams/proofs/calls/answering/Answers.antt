@@ -9,7 +9,7 @@ pub returns : goal.returns
 returns c = record {
   received = λ name link l peer t r h. settled_received name link (freed l t.pair).busy (desk_of t.pair t.listening) r h;
   sent = λ name link l peer t s sound h.
-      let done : Sent name link (told_on link l ++ closes name (freed l t.pair).busy t.pair.entries) (answered_turn peer answer.Rfnm l t).pair.entries s = told_sent name link (freed l t.pair).busy (desk_of t.pair t.listening) l s h.here h.known sound in
+      let done : Sent name link (told_on link l ++ closes name _ t.pair.entries) (answered_turn peer answer.Rfnm l t).pair.entries s = told_sent name link (freed l t.pair).busy (desk_of t.pair t.listening) l s h.here h.known sound in
       (done.may, record { here = done.has; known = done.known });
   sound = λ name l peer t sound. settled_sound name l (freed l t.pair).busy (desk_of t.pair t.listening) sound;
 }

@@ -9,7 +9,7 @@ pub returns : goal.returns
 returns c = record {
   receives = λ name link own foreign q r even new h. receives_asked name link own foreign q even r h new;
   receives_sent = λ name link own foreign q s even h.
-      let done : Sent name link [] (receiver_requested own foreign (free_link q.entries) q).entries s = receives_sent name link own foreign q even s h.here h.known (free_link q.entries) in
+      let done : Sent name link [] (receiver_requested own foreign (free_link q.entries) q).entries s = receives_sent name link own foreign q even s h.here h.known _ in
       record { here = done.has; known = done.known };
   receives_sound = λ name own foreign q even n sound. receives_sound name own own foreign q even sound n (free_link q.entries);
   sends = λ name link own foreign z q s new h.
