@@ -1,5 +1,6 @@
 /* What the program has in place of an operating system: reads, writes and the words of the command line, which the page gives. There is
- * no environment, no signal and no file. Failures are told as C's library tells them: -1, and a number for rattle_errno. */
+ * no environment, no signal and no file: whatever name is opened, there is none. Failures are told as C's library tells them: -1, and a
+ * number for rattle_errno. */
 
 #include "wasm.h"
 
@@ -9,7 +10,7 @@ OF_PAGE(read) i64 page_read(i32 descriptor, u8 *at, u64 count);
 OF_PAGE(write) i64 page_write(i32 descriptor, const u8 *at, u64 count);
 OF_PAGE(arg) i64 page_arg(u64 index, u8 *at, u64 room);
 
-enum { BAD_DESCRIPTOR = 9, NOT_SEEKABLE = 29 }; /* Linux's EBADF and ESPIPE */
+enum { NO_FILE = 2, BAD_DESCRIPTOR = 9, NOT_SEEKABLE = 29 }; /* Linux's ENOENT, EBADF and ESPIPE */
 
 static i32 last_error;
 
@@ -27,6 +28,10 @@ i64 __write(i32 descriptor, const u8 *at, u64 count) { return write(descriptor, 
 
 /* Input and output are as pipes. */
 i64 lseek(i32 descriptor, i64 offset, i32 from) { return told(-1, NOT_SEEKABLE); }
+
+i32 open(const u8 *name, i32 flags, ...) { return (i32)told(-1, NO_FILE); }
+
+i32 close(i32 descriptor) { return (i32)told(-1, BAD_DESCRIPTOR); }
 
 i32 rattle_errno(void) { return last_error; }
 

@@ -22,6 +22,8 @@ i64 read(i32 descriptor, u8 *at, u64 count);
 i64 write(i32 descriptor, const u8 *at, u64 count);
 i64 __write(i32 descriptor, const u8 *at, u64 count);
 i64 lseek(i32 descriptor, i64 offset, i32 from);
+i32 open(const u8 *name, i32 flags, ...);
+i32 close(i32 descriptor);
 i32 rattle_errno(void);
 void rattle_set_errno(i32 error);
 i64 rattle_arg(u64 index, u8 *at, u64 room);

@@ -228,6 +228,10 @@ function trySystem(/** @type {Shims} */ shims) {
     assert.equal(shims.rattle_errno(), 9);
     assert.equal(shims.lseek(0, 0n, 1), -1n);
     assert.equal(shims.rattle_errno(), 29);
+    assert.equal(shims.open(at, 0, at), -1);
+    assert.equal(shims.rattle_errno(), 2, "no name is that of a file");
+    assert.equal(shims.close(3), -1);
+    assert.equal(shims.rattle_errno(), 9);
     assert.equal(shims.rattle_arg(0n, at, 8n), 7n);
     assert.equal(shims.rattle_arg(0n, at, 7n), 7n);
     assert.equal(shims.rattle_arg(0n, at, 6n), -2n, "a word that doesn't fit");
