@@ -7,9 +7,9 @@ use Rattle.interface.specs.declared.message.HostMessage.{HostMessage}
 use Rattle.net_sim.specs.MixedWorlds.{MixedRunGives, MixedState, MixedStepGives}
 use Rattle.net_sim.specs.Worked.{any_carrier}
 use Rattle.net_sim.specs.WorkedMixed.{beside_third}
-use Rattle.net_sim.specs.World.{WorldFault}
 use Rattle.net_sim.specs.declared.event.Event.{Event}
 use Rattle.net_sim.specs.declared.event.Event.TheVariants.{Out}
+use Rattle.net_sim.specs.declared.event.WorldFault.{WorldFault}
 use Rattle.world_script.specs.declared.event.MixedWorldEvent.{MixedWorldEvent}
 use Rattle.world_script.specs.declared.event.MixedWorldEvent.TheVariants.{Happen}
 

@@ -1,6 +1,6 @@
-use Rattle.world_replay.proofs.Common.{◌≡◌, [], ◌∷◌, Bool, Err, false, refl, stops, NoProgram, HasProgram, any_carrier}
-use Rattle.world_replay.proofs.Common.{WorldFault, RefusesMixed, MixedWorldEvent, HappensBy, mixed_kind, first, second}
-use Rattle.world_replay.proofs.Common.{third, message, shown_refusal, Offer, Server, Typed, User}
+use Rattle.world_replay.proofs.Common.{◌≡◌, [], ◌∷◌, Err, ap, refl, NoProgram, HasProgram, any_carrier}
+use Rattle.world_replay.proofs.Common.{MixedState, Seen, WorldFault, MixedWorldEvent, HappensBy, mixed_kind, first, second}
+use Rattle.world_replay.proofs.Common.{third, message, Offer, Server, Typed, User}
 use Rattle.interface.specs.declared.crossing.Crossing.TheVariants as crossing
 use Rattle.net_sim.specs.WorkedMixed.{beside_third}
 use Rattle.world_replay.specs.Output.{Crossed, Refused}
@@ -22,7 +22,7 @@ asked = record {
 spoken : HappensBy (mixed_kind any_carrier) beside_third (saying (message first second 2)) beside_third (Refused HasProgram ∷ [])
 spoken = record {
   outcome = Err HasProgram;
-  gives = (refl, refl);
+  gives = ((refl, refl), refl);
   goes_on = refl;
   gains = record { crossings = []; notices = []; reports = []; crossed = refl; told = refl; said = refl };
   lines = refl;
@@ -51,10 +51,13 @@ pub returns-clause-after_saying : goal.returns-clause-after_saying
 returns-clause-after_saying c = then_hails (saying (message first second 2)) HasProgram spoken
 
 pub returns-clause-typed : goal.returns-clause-typed
-returns-clause-typed c = λ new shown h. refused_only any_carrier (event (Typed third [])) NoProgram new shown h h.gives
+returns-clause-typed c = λ new shown h. refused_only any_carrier (event (Typed third [])) NoProgram new shown h
+    (h.gives.0, ap (λ (s : MixedState Seen). s.world) h.gives.1)
 
 pub returns-clause-server : goal.returns-clause-server
-returns-clause-server c = λ new shown h. refused_only any_carrier (event (Server third 1 32)) NoProgram new shown h h.gives
+returns-clause-server c = λ new shown h. refused_only any_carrier (event (Server third 1 32)) NoProgram new shown h
+    (h.gives.0, ap (λ (s : MixedState Seen). s.world) h.gives.1)
 
 pub returns-clause-user : goal.returns-clause-user
-returns-clause-user c = λ new shown h. refused_only any_carrier (event (User third first 1 32)) NoProgram new shown h h.gives
+returns-clause-user c = λ new shown h. refused_only any_carrier (event (User third first 1 32)) NoProgram new shown h
+    (h.gives.0, ap (λ (s : MixedState Seen). s.world) h.gives.1)
