@@ -9,6 +9,7 @@
  * the real one has after each event.
  */
 
+import { OF_CARRIERS } from "./events.js";
 import { octetsOf, textOf } from "./octets.js";
 import { isOfHost, isQuiet, put, REST, TraceReader } from "./trace.js";
 
@@ -38,23 +39,8 @@ const [MOST_MOMENTS, MOST_SPELLED] = [60_000, 20_000];
 /** What does a round in which no host sends, and all take. */
 const ROUND = "calm 1";
 
-const INNER = [
-    "take",
-    "giveup",
-    "hostdown",
-    "hostup",
-    "deliver",
-    "drop",
-    "resend",
-    "route",
-    "enddown",
-    "endup",
-    "impdown",
-    "impup",
-    "forget",
-    "abandon",
-    "ask",
-];
+/** The events of a raw script that happen in a network with host programs as they are. */
+const INNER = ["take", ...OF_CARRIERS];
 
 /**
  * The moments of a replay, event by event within its quiet rounds; null where they can't be had.

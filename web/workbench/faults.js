@@ -1,6 +1,7 @@
 /** What is wrong with an input that the program refuses: the line, and why. By the forms of docs/program.md. */
 
 import { TABLE } from "../../python/dorydate/sentences/table.mjs";
+import { EVENTS, OF_RAW, OF_WORLDS } from "./events.js";
 import { wordsOf } from "./script.js";
 import { readDocument, tables, Unreadable } from "./topology.js";
 import { filled, joinedWords } from "./words.js";
@@ -13,10 +14,7 @@ const FAULTS = /** @type {{[name: string]: string}} */ (TABLE.faults);
 const TOPOLOGIES = /** @type {{[name: string]: string}} */ (TABLE.topologies);
 
 /** The words after each event of a raw network, and of one whose hosts have programs. */
-const RAW = formsOf(TABLE.forms);
-const { out: _, ...EVENTS } = RAW;
-const OF_PROGRAMS = formsOf(TABLE["forms of programs"]);
-const WORLD = { ...EVENTS, ...OF_PROGRAMS };
+const [RAW, WORLD] = [formsOf(OF_RAW), formsOf(OF_WORLDS)];
 
 /** What a number is, the least and the greatest. */
 const RANGES = /** @type {{[name: string]: [string, number, number]}} */ (/** @type {unknown} */ (TABLE.ranges));
@@ -25,11 +23,11 @@ const RANGES = /** @type {{[name: string]: [string, number, number]}} */ (/** @t
 const SWAPPED = new RegExp(TABLE.swapped);
 
 /**
- * @param {{[name: string]: string}} forms
+ * @param {string[]} words
  * @returns {{[name: string]: string[]}}
  */
-function formsOf(forms) {
-    return Object.fromEntries(Object.entries(forms).map(([name, words]) => [name, words.split(" ")]));
+function formsOf(words) {
+    return Object.fromEntries(words.map((word) => [word, EVENTS[word].operands]));
 }
 
 /**
@@ -124,7 +122,7 @@ function byRules(rules, line, raw) {
  * @param {boolean} raw
  */
 function unknownEvent(word, raw) {
-    if (raw && word in OF_PROGRAMS) return filled(FAULTS["of programs"], { word });
+    if (raw && word in WORLD) return filled(FAULTS["of programs"], { word });
     const events = Object.keys(raw ? RAW : WORLD);
     const meant = nearest(word.toLowerCase(), events);
     const near = meant ? filled(FAULTS.meant, { meant }) : filled(FAULTS.events, { events: events.join(", ") });
@@ -264,7 +262,7 @@ export function wrongTopology(input) {
 function wrongMarker({ text, head }) {
     if (!text.trim()) return { text: TOPOLOGIES.empty, line: 0 };
     if (/^(?:in|answer|life|handed) /m.test(text) || text.endsWith("\nend\n")) return { text: TOPOLOGIES.log, line: 0 };
-    const events = Object.keys({ ...RAW, ...OF_PROGRAMS }).join("|");
+    const events = Object.keys(EVENTS).join("|");
     for (const [at, line] of head.entries()) {
         for (const [pattern, ...names] of TABLE["rules of markers"]) {
             if (new RegExp(pattern.replace("{events}", events)).test(line)) {

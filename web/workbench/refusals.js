@@ -7,6 +7,7 @@ import { capital, count, filled, listed } from "./words.js";
 
 /** @typedef {import("./state.js").State} State */
 /** @typedef {import("./state.js").Held} Held */
+/** @typedef {import("./events.js").Refusal} Refusal */
 
 /** What a refusal of a host's program means. */
 export const IN_A_HOST = /** @type {{[name: string]: string}} */ (TABLE.programs);
@@ -24,7 +25,7 @@ const REFUSED = TABLE.refused;
 export function why(state, name, words) {
     if (name === "NotOpen") return notOpen(state, words);
     if (IN_A_HOST[name]) return IN_A_HOST[name];
-    switch (name) {
+    switch (/** @type {Refusal} */ (name)) {
         case "NoSuch":
             return noSuch(state, words);
         case "IsDown":

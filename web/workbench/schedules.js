@@ -1,6 +1,7 @@
 /** Random schedules of events, for a surprise, and for searches by patterns as ./explore makes them. */
 
 import { TABLE } from "../../python/dorydate/sentences/table.mjs";
+import { EVENTS, eventsOf, OF_CARRIERS } from "./events.js";
 import { octetsOf, textOf } from "./octets.js";
 import { match, needsBook, readPattern } from "./pattern.js";
 
@@ -65,6 +66,16 @@ function pools({ hosts, sites, lines, plain, raw }) {
     const own = hosts.flatMap((host) => [`${host} ${SENDS}`, `${host} ${RECEIVES}`]);
     const links = raw ? [0, 1] : [0];
     const flows = pairs.flatMap((pair) => links.map((link) => `${pair} ${link}`));
+    /** @type {{[operands: string]: (string | number)[]}} */
+    const named = {
+        "H": hosts,
+        "S D N": flows,
+        "I": imps,
+        "I J": imps.flatMap((a) => imps.filter((b) => b !== a).map((b) => `${a} ${b}`)),
+        "I L": ends,
+        "L +|- K": frames,
+    };
+    const inside = (plain ? eventsOf("carrier") : OF_CARRIERS).filter((kind) => !LEFT_OUT.includes(kind));
     const each = (/** @type {string} */ kind, /** @type {(string | number)[]} */ list, more = "") =>
         ({ [kind]: list.map((it) => `${kind} ${it}${more}`) });
     const ofPrograms = {
@@ -82,20 +93,12 @@ function pools({ hosts, sites, lines, plain, raw }) {
     return {
         ...(raw ? each("out", flows, " 8 41") : ofPrograms),
         ...each("take", hosts),
-        ...each("giveup", flows),
-        ...each("hostdown", hosts),
-        ...each("hostup", hosts),
-        ...each("deliver", frames),
-        ...each("drop", frames),
-        ...each("resend", imps),
-        ...each("enddown", ends),
-        ...each("endup", ends),
-        ...each("impdown", imps),
-        ...each("impup", imps),
-        ...each("forget", imps.flatMap((a) => imps.filter((b) => b !== a).map((b) => `${a} ${b}`))),
-        ...(plain ? {} : each("ask", flows)),
+        ...Object.assign({}, ...inside.map((kind) => each(kind, named[EVENTS[kind].operands.join(" ")]))),
     };
 }
+
+/** Events of carriers that no schedule has: calms send distances, and pieces are thrown away by nobody. */
+const LEFT_OUT = ["route", "abandon"];
 
 const PLACES = [0, 1, 2];
 const [SENDS, RECEIVES] = [33, 16]; // sockets

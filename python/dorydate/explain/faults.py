@@ -12,6 +12,7 @@ import re
 from dorydate.given import Input, shown
 from dorydate.explain.topologies import wrong_with_topology
 from dorydate.explain.topology import has_strangers
+from dorydate.sentences.events import EVENTS, OF_RAW, OF_WORLDS
 from dorydate.sentences.table import TABLE, filled, pattern, sentences
 
 FAULTS = sentences("faults")
@@ -19,12 +20,8 @@ GROUPS = ("lines", "events", "users", "words")
 RULES = {group: [(of, pattern(it), name) for of, it, name in TABLE[f"rules of {group}"]] for group in GROUPS}
 SWAPPED = pattern(TABLE["swapped"])  # a host whose two numbers change places
 
-RAW_EVENTS = {name: form.split(" ") for name, form in sentences("forms").items()}
-ASKED = {name: form.split(" ") for name, form in sentences("forms of programs").items()}
-WORLD_EVENTS = {**{name: form for name, form in RAW_EVENTS.items() if name != "out"}, **ASKED}
-
-# what happens inside a network: plain mailboxes have no part for it
-INSIDE = {*RAW_EVENTS} - {"out", "take", "giveup", "hostdown", "hostup", "calm"}
+RAW_EVENTS = {word: EVENTS[word].operands for word in OF_RAW}
+WORLD_EVENTS = {word: EVENTS[word].operands for word in OF_WORLDS}
 
 # the numbers of script lines: what each is, the least and the greatest
 RANGES: dict[str, tuple[str, int, int]] = {name: (what, least, most) for name, (what, least, most) in TABLE["ranges"].items()}
@@ -76,7 +73,7 @@ def by_rules(rules: list[tuple[str, re.Pattern[str], str]], line: str, raw: bool
 
 def unknown_event(word: str, raw: bool = True) -> str:
     """Why a word begins no event of this network, and which it may have meant."""
-    if raw and word in ASKED:
+    if raw and word in WORLD_EVENTS:
         return filled(FAULTS["of programs"], word=word)
     events = RAW_EVENTS if raw else WORLD_EVENTS
     known = by_rules(RULES["users"], word.lower(), raw) or meant(word.lower(), [*events])

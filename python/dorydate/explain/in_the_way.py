@@ -17,6 +17,7 @@ from dorydate.model.names import Flow, HostName, in_order, spell_flow, spell_hos
 from dorydate.model.packets import body
 from dorydate.model.subnet import Subnet
 from dorydate.sentences import REFUSED
+from dorydate.sentences.events import EVENTS
 from dorydate.sentences.table import filled, listed
 
 SHOWN = 3  # packets in the way that are named
@@ -220,21 +221,22 @@ class InTheWay:
         if host := host_of(it.parts):
             return f"host {spell_host(host)}"
         imp = f"IMP {it.parts[0]}"
-        return filled(REFUSED["end"], line=it.parts[1], imp=imp) if it.kind in ("enddown", "endup") else imp
+        return filled(REFUSED["end"], line=it.parts[1], imp=imp) if EVENTS[it.kind].shape == "I L" else imp
 
     def why_no_such(self, it: Refusal) -> list[str]:
         subnet, kind, parts = self.subnet, it.kind, it.parts
-        if kind in ("deliver", "drop"):
+        shape = EVENTS[kind].shape
+        if shape == "L +|- K":
             return [self.no_frame(*parts)]
         if kind == "abandon":
             return [self.no_pieces(parts[0])]
         if kind == "forget" and parts[0] == parts[1]:
             return [REFUSED["own numbers"]]
-        numbers = [part for part in parts if isinstance(part, int)] if kind in ("resend", "route", "impup", "impdown", "forget") else parts[:1] if kind in ("enddown", "endup") else []
+        numbers = [part for name, part in zip(EVENTS[kind].operands, parts) if name in ("I", "J")]
         missing = [number for number in numbers if number not in subnet.sites]
         if missing:
             return [filled(REFUSED["no imp"], number=missing[0])]
-        if kind in ("enddown", "endup"):
+        if shape == "I L":
             return [filled(REFUSED["no end"], line=parts[1], imp=f"IMP {parts[0]}")]
         host = host_of(parts)
         return [filled(REFUSED["no host"], host=spell_host(host))] if host else []

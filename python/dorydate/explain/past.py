@@ -5,8 +5,8 @@ from __future__ import annotations
 from collections.abc import Sequence
 from dataclasses import dataclass
 
-from dorydate.explain.faults import INSIDE
 from dorydate.sentences import IN_A_HOST, IN_A_SUBNET, NOT_OPEN, REFUSED
+from dorydate.sentences.events import OF_SUBNETS
 from dorydate.sentences.table import filled
 
 FlowWords = tuple[str, ...]  # a flow as it is printed: source, destination and link
@@ -64,7 +64,7 @@ class Past:
             return NOT_OPEN["type"] if (name, event[0]) == ("NotOpen", "type") else IN_A_HOST[name]
         if not self.is_plain:
             return IN_A_SUBNET.get(name, REFUSED["other"])
-        if event[0] in INSIDE:
+        if event[0] in OF_SUBNETS:
             return REFUSED["plain"]
         host = event[1]
         since = f"since line {self.turned[host]}" if host in self.turned else "from the start"

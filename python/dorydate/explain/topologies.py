@@ -11,12 +11,12 @@ from typing import Any
 from dorydate.given import Input, shown
 from dorydate.network import MOST_IMPS, MOST_LINES, TOPOLOGIES, wrong_with_numbers
 from dorydate.program import MOST_OCTETS
+from dorydate.sentences.events import EVENTS
 from dorydate.sentences.table import TABLE, filled, pattern, sentences
 from dorydate.toml import Beyond, Fault, document_of, line_in_table, line_of_key, line_of_table
 from dorydate.where import here
 
-EVENTS = "|".join([*sentences("forms"), *sentences("forms of programs")])
-MARKERS = [(pattern(it.replace("{events}", EVENTS)), *names) for it, *names in TABLE["rules of markers"]]
+MARKERS = [(pattern(it.replace("{events}", "|".join(EVENTS))), *names) for it, *names in TABLE["rules of markers"]]
 RANGES: dict[str, dict[str, tuple[int, int]]] = {"imp": {}, "line": {}}
 for of, key, least, most in TABLE["tables"]:
     RANGES[of][key] = least, most

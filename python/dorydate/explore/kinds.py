@@ -13,11 +13,14 @@ from dorydate.model.commands import (
     ALL, CLS, ECO, GVB, INR, INS, RET, RRP, RST, RTS, STR, alone, control_message, header, of_counts, of_sockets,
 )  # fmt: skip
 from dorydate.network import Host, Network
-from dorydate.script import Calm, Event, Flow, Text
+from dorydate.script import EVENTS, Calm, Event, Flow, Text
+from dorydate.sentences.events import EVENTS as WORDS
+from dorydate.sentences.events import OF_CARRIERS, words_of
 
 Pools = Mapping[str, tuple[Event, ...]]
 SWARM = (0, 1, 1, 4, 16)  # weights of a kind in a schedule that has its own
 CALMS = (1, 1, 1, 2, 2, 3, 5)
+LEFT_OUT = ("route", "abandon")  # events of carriers that no schedule has: calms send distances, and pieces are thrown away by nobody
 LENGTH = 40  # events of a schedule, at most
 # kinds of events that cause lines which a pattern forbids, where nothing else causes them
 CAUSES = {
@@ -49,14 +52,7 @@ def pools(network: Network, texts: Sequence[Text] = (Text(),), links: Sequence[i
     hosts = network.hosts()
     pairs = [(a, b) for a in hosts for b in hosts if a != b]
     flows = [Flow(a, b, link) for a, b in pairs for link in links]
-    found: dict[str, Iterable[Event]] = {
-        "take": map(events.Take, hosts),
-        "giveup": map(events.GiveUp, flows),
-        "hostdown": map(events.HostDown, hosts),
-        "hostup": map(events.HostUp, hosts),
-    }
-    if network.carrier == "subnet":
-        found |= of_subnet(network, flows, places)
+    found: dict[str, Iterable[Event]] = {"take": map(events.Take, hosts), **of_carrier(network, flows, places)}
     strangers = network.strangers()
     if network.raw:
         found["out"] = (events.Out(flow, text) for flow in flows for text in texts)
@@ -67,22 +63,19 @@ def pools(network: Network, texts: Sequence[Text] = (Text(),), links: Sequence[i
     return {kind: tuple(it) for kind, it in found.items()}
 
 
-def of_subnet(network: Network, flows: Sequence[Flow], places: int) -> dict[str, Iterable[Event]]:
-    """Events of IMPs and lines."""
+def of_carrier(network: Network, flows: Sequence[Flow], places: int) -> dict[str, Iterable[Event]]:
+    """What happens inside a network: each event of its carrier, by what its line names."""
     imps = [it.number for it in network.imps]
-    ends = [(imp, line) for imp in imps for line in network.lines_of(imp)]
-    frames = [(line, way, place) for line in range(len(network.lines)) for way in "+-" for place in range(places)]
-    return {
-        "deliver": (events.Deliver(*it) for it in frames),
-        "drop": (events.Drop(*it) for it in frames),
-        "resend": map(events.Resend, imps),
-        "enddown": (events.EndDown(*it) for it in ends),
-        "endup": (events.EndUp(*it) for it in ends),
-        "impdown": map(events.ImpDown, imps),
-        "impup": map(events.ImpUp, imps),
-        "forget": (events.Forget(a, b) for a in imps for b in imps if a != b),
-        "ask": map(events.Ask, flows),
+    named: Mapping[str, Sequence[tuple[object, ...]]] = {
+        "H": [(it,) for it in network.hosts()],
+        "S D N": [(it,) for it in flows],
+        "I": [(it,) for it in imps],
+        "I J": [(a, b) for a in imps for b in imps if a != b],
+        "I L": [(imp, line) for imp in imps for line in network.lines_of(imp)],
+        "L +|- K": [(line, way, place) for line in range(len(network.lines)) for way in "+-" for place in range(places)],
     }
+    kinds = [it for it in (OF_CARRIERS if network.carrier == "subnet" else words_of("carrier")) if it not in LEFT_OUT]
+    return {it: [EVENTS[it](*parts) for parts in named[WORDS[it].shape]] for it in kinds}
 
 
 def of_programs(programs: Sequence[Host], every: Sequence[tuple[Host, Host]]) -> dict[str, Iterable[Event]]:

@@ -5,9 +5,16 @@ from __future__ import annotations
 from collections.abc import Iterable
 from typing import NamedTuple
 
+from dorydate.sentences.events import REFUSALS
+
 
 class Refused(Exception):
-    """An event or a call that is refused, by its reason's name."""
+    """An event or a call that is refused, by its reason's name, which is one of the table."""
+
+    def __init__(self, name: str) -> None:
+        if name not in REFUSALS:
+            raise ValueError(f"no refusal is called {name}")
+        super().__init__(name)
 
 
 class HostName(NamedTuple):

@@ -16,7 +16,7 @@ from dorydate.model import trace_subnet
 from dorydate.model.bits import spelled_text
 from dorydate.model.boxes import TAKES, Boxes
 from dorydate.model.crossings import Carrier, Crossing, Passed, Turned
-from dorydate.model.names import HostName, key_of, read_host, spell_flow, spell_host
+from dorydate.model.names import Flow, HostName, key_of, read_host, spell_flow, spell_host
 from dorydate.model.runs import End, opened_carrier
 from dorydate.model.script import Event, read_line
 from dorydate.model.subnet import Subnet
@@ -31,14 +31,14 @@ Part = Any  # the value of a part: an object, a list, or None
 def spelled(event: Event) -> str:
     """An event as a line of a script."""
     kind, *parts = event
-    match kind:
-        case "out":
-            return f"out {spell_flow(parts[0])} {len(parts[1])} {spelled_text(parts[1])}"
-        case "take" | "hostdown" | "hostup":
-            return f"{kind} {spell_host(parts[0])}"
-        case "giveup" | "ask" | "abandon":
-            return f"{kind} {spell_flow(parts[0])}"
-    return " ".join(str(part) for part in event)
+    if kind == "out":
+        return f"out {spell_flow(parts[0])} {len(parts[1])} {spelled_text(parts[1])}"
+    return " ".join([kind, *map(spelled_part, parts)])
+
+
+def spelled_part(part: Any) -> str:
+    """A part of an event that is no text."""
+    return spell_host(part) if isinstance(part, HostName) else spell_flow(part) if isinstance(part, Flow) else str(part)
 
 
 # ---- the parts of mailboxes

@@ -17,6 +17,7 @@ from dorydate.model.packets import ASK, CHANNELS, DATA, DEAD, INFINITE, MOST_IMP
 from dorydate.model.script import Event
 from dorydate.model.subnet import FAR, Subnet
 from dorydate.model.trace_values import Object, answer_in, answer_of, flow_in, flow_of, message_of, text_in, text_of
+from dorydate.sentences.events import EVENTS
 
 KINDS = {DATA: "data", RFNM: "rfnm", DEAD: "dead", ASK: "ask", NEVER: "never"}
 OF_WORDS = {word: kind for kind, word in KINDS.items()}
@@ -146,25 +147,27 @@ def every_name(subnet: Subnet) -> list[str]:
 
 
 def imp_named(subnet: Subnet, event: Event) -> int | None:
-    """The IMP that an event is of."""
+    """The IMP at which an event happens."""
     kind, *parts = event
-    number: int = parts[0] if isinstance(parts[0], int) else 0
-    match kind:
-        case "deliver":
+    number: int | None = None
+    match EVENTS[kind].at:
+        case "+|-":
             line, way, _ = parts
-            return subnet.ends[line][FAR[way]] if line < len(subnet.ends) else None
-        case "take" | "hostdown" | "hostup":
+            number = subnet.ends[line][FAR[way]] if line < len(subnet.ends) else None
+        case "H":
             number = parts[0].imp
-        case "out" | "giveup" | "ask":
+        case "S":
             number = parts[0].source.imp
-        case "abandon":
+        case "D":
             number = parts[0].destination.imp
+        case "I":
+            number = parts[0]
     return number
 
 
 def names(subnet: Subnet, event: Event, _: Sequence[Crossing]) -> list[str]:
     """The parts that an event can change, but for those of flows: these change with their IMP."""
-    if event[0] == "drop":
+    if EVENTS[event[0]].at == "L":
         return [f"line {event[1]}"] if event[1] < len(subnet.ends) else []
     number = imp_named(subnet, event)
     if number is None or number not in subnet.sites:

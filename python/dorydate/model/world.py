@@ -19,12 +19,10 @@ from dorydate.model.names import HostName, Refused, spell_host
 from dorydate.model.resting import is_looked_at
 from dorydate.model.script import Event
 from dorydate.model.services import Machine, Report, Request, Running, Server, Terminal, User, program_after
+from dorydate.sentences.events import OF_CARRIERS
 
 TAKES, OFFERS = 16, 32  # so often a host takes and offers in a round of `calm` at most
 PRINTED = {"opened": 3, "sent": 2, "arrived": 2, "error": 2}  # this many words of a notice are printed, of others all
-OF_NETWORK = {
-    "deliver", "drop", "resend", "route", "enddown", "endup", "impdown", "impup", "hostdown", "hostup", "giveup", "ask", "forget", "abandon",
-}  # fmt: skip
 OF_WORLD = {"offer", "take", "calm", "server", "user", "type"}
 CALLS = {"opensend": "open_send", "openrecv": "open_receive", "askback": "ask_back"}  # requests that are called otherwise than their events
 
@@ -46,7 +44,7 @@ class World(Printing):
 
     def step(self, kind: str, *parts: Any) -> None:
         """Lets an event happen, which may be refused."""
-        if kind in OF_NETWORK or kind in self.further:
+        if kind in OF_CARRIERS or kind in self.further:
             self.carry(lambda: self.carrier.step(kind, *parts))
         elif kind in OF_WORLD:
             getattr(self, kind)(*parts)

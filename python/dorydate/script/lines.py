@@ -5,14 +5,13 @@ from __future__ import annotations
 from dataclasses import fields
 
 from dorydate.network import Network
-from dorydate.script import of_network, of_programs
+from dorydate.script import of_network
 from dorydate.script.event import EVENTS, Event
 from dorydate.script.values import BadLine
+from dorydate.sentences.events import OF_RAW, OF_SUBNETS, OF_WORLDS
 
-OF_PROGRAMS = {word for word, kind in EVENTS.items() if kind.__module__ == of_programs.__name__}
-RAW = {*EVENTS} - OF_PROGRAMS
-WORLD = {*EVENTS} - {of_network.Out.word}
-IN_THE_NETWORK = {"deliver", "drop", "resend", "route", "enddown", "endup", "impdown", "impup", "forget", "abandon", "ask"}
+RAW, WORLD = {*OF_RAW}, {*OF_WORLDS}
+IN_THE_NETWORK = {*OF_SUBNETS}
 
 
 def words_in(network: Network) -> set[str]:

@@ -14,6 +14,7 @@ from dorydate.explain.command import drawn
 from dorydate.given import Input
 from dorydate.explain.inside import Inside, Told
 from dorydate.explain.runs import replay
+from dorydate.sentences.events import REFUSALS
 from dorydate.sentences.texts import text_in_words
 from dorydate.model.forks import forked
 from dorydate.model.imp import Imp
@@ -66,7 +67,7 @@ def check_inside(program: Program, seeds: int) -> None:
                 cleared += clears(goes, event, said)
         given = Input("\n".join([spelled(network), "%", *lines]).encode())
         same([it.printed for it in events_of(given, program)], outputs, f"network {seed}")
-    wanted = {"refused " + it for it in ("NoSuch", "IsDown", "IsUp", "StillAlive", "Blocked", "NotOutstanding")}
+    wanted = {f"refused {it}" for it, who in REFUSALS.items() if who == "carrier" and it not in ("Unsettled", "NoRoom")}
     same(wanted - {*found}, set(), "refusals that come about")
     print(f"check explain: {found.total()} events in subnets that print nothing or are refused, each with sentences; {cleared} refused ones cleared as they say")
 

@@ -16,6 +16,7 @@ from collections.abc import Iterable, Iterator, Mapping
 from dataclasses import dataclass
 from functools import cache
 
+from workshop.documents import event_words
 from workshop.parts import ROOT, text_of
 
 LEAST = 6  # cases that make a walk
@@ -79,13 +80,18 @@ def cases_of(name: str, text: str, own: str = "") -> Cases:
     return Cases(name, tuple(re.findall(r"^    ([A-Z]\w*)", body[1] if body else "", re.MULTILINE)), tuple(own.split()))
 
 
+def own_refusals() -> list[str]:
+    """The refusals of carriers whose names mean nothing else."""
+    return [name for name, who in event_words.refusals().items() if who == "carrier" and name not in ("NoSuch", "Blocked")]
+
+
 @cache
 def enums() -> tuple[Cases, ...]:
     """The enums that are counted."""
     return (
         cases_of("NetEvent", text_of(f"{ROOT}/crates/interface/src/event.rt"), "EndDown EndUp ImpDown ImpUp HostDown HostUp GiveUp Forget Abandon"),
         cases_of("Request", text_of(f"{ROOT}/crates/sockets/src/request.rt"), "OpenSend OpenReceive AskBack Interrupt"),
-        cases_of("CarrierFault", text_of(f"{ROOT}/crates/interface/src/carrier.rt"), "StillAlive IsDown IsUp Unsettled NotOutstanding NoRoom"),
+        cases_of("CarrierFault", text_of(f"{ROOT}/crates/interface/src/carrier.rt"), " ".join(own_refusals())),
     )
 
 

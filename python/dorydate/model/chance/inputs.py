@@ -5,6 +5,7 @@ from __future__ import annotations
 import random
 
 from dorydate.model.topology import Topology
+from dorydate.sentences.events import EVENTS, OF_SUBNETS
 
 Given = tuple[list[str], Topology, list[str]]  # options, a network, and the lines of a script
 
@@ -61,10 +62,8 @@ def some_text(chance: random.Random) -> str:
 
 
 # what happens inside a network: plain mailboxes have no part for it
-RAW = [
-    "deliver {line} + 0", "drop 0 - {line}", "resend {imp}", "route {imp}", "enddown {imp} {line}", "endup {imp} 0", "impdown {imp}",
-    "impup {imp}", "forget {imp} 1", "abandon 0/1 3/{imp} 255", "ask 0/1 3/{imp} 255",
-]  # fmt: skip
+SOME = {"L": "{line}", "+|-": "{way}", "K": "{line}", "I": "{imp}", "J": "1", "S": "0/1", "D": "3/{imp}", "N": "255"}
+RAW = [" ".join([word, *(SOME[it] for it in EVENTS[word].operands)]) for word in OF_SUBNETS]
 
 
 def some_script(chance: random.Random, network: Topology) -> list[str]:
@@ -82,7 +81,8 @@ def some_script(chance: random.Random, network: Topology) -> list[str]:
             case "calm":
                 lines.append(f"calm {chance.choice([0, 1, 1, 2])}")
             case "raw":
-                lines.append(chance.choice(RAW).format(imp=chance.randrange(1, 64), line=chance.choice([0, 4294967295])))
+                event, imp = chance.choice(RAW), chance.randrange(1, 64)
+                lines.append(event.format(imp=imp, way="+-"[imp % 2], line=chance.choice([0, 4294967295])))
             case "":
                 lines.append(chance.choice(["", "#", "# take 0/1\r", "#\xff\0"]))
             case kind:

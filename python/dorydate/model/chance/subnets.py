@@ -15,6 +15,7 @@ from dorydate.model.names import Flow, HostName
 from dorydate.model.packets import MOST_IMPS
 from dorydate.model.script import Event
 from dorydate.model.subnet import Subnet
+from dorydate.sentences.events import EVENTS, OF_RAW
 
 EVENTS = 100
 LARGEST_EVENTS = 400
@@ -23,6 +24,7 @@ WEIGHTS = {
     "out": 14, "take": 6, "calm": 2, "deliver": 20, "drop": 8, "resend": 3, "route": 2, "giveup": 4, "ask": 5, "abandon": 1, "forget": 1,
     "enddown": 2, "endup": 3, "impdown": 0.5, "impup": 2, "hostdown": 1, "hostup": 4, "alive": 3,
 }  # fmt: skip
+WEIGHTS |= {word: 1 for word in OF_RAW if word not in WEIGHTS}
 
 
 class Chance:
@@ -79,37 +81,37 @@ class Chance:
         """The parts of an event of a kind: as a rule about what is there."""
         imps = [number for number, _ in self.imps] * 6 + [self.random.randrange(1, 64)]
         sure = self.random.random() < 0.9
-        match kind:
-            case "out":
+        match kind, EVENTS[kind].shape if kind in EVENTS else "":
+            case "out", _:
                 length = self.random.choice(self.lengths)
                 return self.random.choice(self.flows), "".join(self.random.choice("01") for _ in range(length))
-            case "calm":
+            case _, "ROUNDS":
                 return (self.random.choice([0, 1, 1, 2, 3]),)
-            case "take" | "hostdown" | "hostup":
+            case _, "H":
                 return (self.random.choice(self.hosts),)
-            case "resend" | "route" | "impdown" | "impup":
+            case _, "I":
                 return (self.random.choice(imps),)
-            case "forget":
+            case _, "I J":
                 return self.random.choice(imps), self.random.choice(imps)
-            case "giveup" | "ask" | "abandon":
+            case _, "S D N":
                 up = [imp for imp in self.subnet.imps.values() if imp] if sure else []
                 held = [flow for imp in up for flow in ([*imp.slots] if kind == "abandon" else [*imp.outstanding])]
                 return (self.random.choice(held or self.flows),)
-            case "alive":
+            case "alive", _:
                 alive = self.subnet.alive() if sure else []
                 if alive:
                     flow, number, _ = self.random.choice(alive)
                 else:
                     flow, number = self.random.choice(self.flows), self.random.choice([0, 1, 256, NUMBERS.window, NUMBERS.count - 1])
                 return flow, (number + self.random.choice([0, 0, 1, 256])) % NUMBERS.count
-            case "deliver" | "drop":
+            case _, "L +|- K":
                 live = self.subnet.live if sure else []
                 ways = [(line, way) for line, ways in enumerate(live) for way in "+-" if ways[way]]
                 if not ways:
                     return self.random.choice([0, 1, 9]), self.random.choice("+-"), self.random.choice([0, 1, 300])
                 line, way = self.random.choice(ways)
                 return line, way, self.random.choice([0, self.random.randrange(len(live[line][way]))])
-            case "enddown" | "endup":
+            case _, "I L":
                 ends = [(imp, line) for line, joined in enumerate(self.ends) for imp in joined] if sure else []
                 return self.random.choice(ends or [(self.random.choice(imps), self.random.choice([0, 1, 9]))])
         raise ValueError(kind)
