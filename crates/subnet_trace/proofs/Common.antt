@@ -71,9 +71,9 @@ pub use Rattle.subnet.specs.Working.{SubnetRound, SubnetStep, SubnetTake, subnet
 pub use Rattle.subnet.specs.declared.Ends.{Ends}
 pub use Rattle.subnet_trace.specs.Elements.{all_refreshing, all_turning, calling, calm_left, can_resend, carrying, delivering, from_subnet, imp_left, is_heard, is_working, live_frames, numbers_from, refreshing, round_from_line, round_left, round_of, round_of_hosts, sending, telling, turning}
 pub use Rattle.subnet_trace.specs.Fates.{end_fate}
-pub use Rattle.subnet_trace.specs.Parts.{Imp, Line, all_flows, all_parts, flows_at, is_part, part_name, parts_members, parts_of_net}
+pub use Rattle.subnet_trace.specs.Parts.{Imp, Line, all_flows, all_parts, flows_at, is_part, part_name, parts_members, parts_of_net, scope_of}
 pub use Rattle.subnet_trace.specs.Printing.{changed_at, concluded_text, flows_there, heard_list, known_part, members_behind, named, next_behind, place_after, place_after_members}
-pub use Rattle.subnet_trace.specs.Scopes.{HasFlowsIn, IsOnlyIn, OnlyIn, has_imp, has_line, scope_of}
+pub use Rattle.subnet_trace.specs.Scopes.{HasFlowsIn, IsOnlyIn, OnlyIn, has_imp, has_line}
 pub use Rattle.subnet_trace.specs.Steps.{IsNext, call_of, turn_begun}
 pub use Rattle.subnet_trace.specs.Texts.{bit_text, bits_text, channel_text, content_members, distances_text, finite_from, frame_text, heard_text, held_members, host_object, imp_text, kept_of, kept_part, kind_word, line_text, next_from, next_members, next_text, packet_text, port_object, slot_text, source_part, sources_of, told_text, whole_text}
 pub use Rattle.subnet_trace.specs.Told.{IsAnswerTold, IsChannelTold, IsContentTold, IsFlowNamed, IsFrameTold, IsHeardTold, IsHostTold, IsKeptTold, IsLineTold, IsMessageTold, IsOneNetwork, IsPacketTold, IsPieceTold, IsPlaced, IsPortTold, IsReached, IsSlotTold, IsSourceTold, IsTold, IsToldAt, SameTexts, ends_of}

@@ -1,8 +1,7 @@
 -- All that is in a subnet can be printed after each event, if it could be before.
-use Rattle.subnet_trace.proofs.Common.{◌≡◌, ℕ, zero, suc, ◌+◌, List, [], ◌∷◌, length, map, Option, Some, None, IfSome, slice_get, refl, ap, ◌∙◌, arith, length-set, All-cons, All-head, All-nil, All-set, All-tail, All-weaker, All, Host, HostMessage, NetEvent, Crossing, Direction, PacketFields, SlotState, carried_by, Channel, Content, Frame, from_line, ask, end_down, end_up, resend, route, ImpTurn, State, abandon, forget, give_up, host_down, host_up, from_host, to_host, Port, IsNetEvent, at_imp, crossings_of, deliver, delivered, drop_frame, imp_started, imp_stopped, logging, offer_out, quiet_round, site_at, stepped, step_refusal, take_in, taken_by_host, Net, Wire, ends_at, far_end, frames_on, imp_at, port_of, wire_at, with_turn, opened_from, opened_imp, opening_subnet, IsSound, Ends, IsChannelTold, IsContentTold, IsFlowNamed, IsFrameTold, IsHeardTold, IsKeptTold, IsLineTold, IsOneNetwork, IsPacketTold, IsPieceTold, IsPlaced, IsPortTold, IsSlotTold, IsSourceTold, IsTold, IsToldAt, flow_named}
+use Rattle.subnet_trace.proofs.Common.{◌≡◌, ℕ, zero, suc, ◌+◌, List, [], ◌∷◌, length, map, Option, Some, None, IfSome, slice_get, refl, ap, ◌∙◌, arith, length-set, All-cons, All-head, All-nil, All-set, All-tail, All-weaker, All, Host, HostMessage, NetEvent, Crossing, Direction, PacketFields, SlotState, carried_by, Channel, Content, Frame, from_line, resend, route, ImpTurn, State, from_host, to_host, Port, IsNetEvent, at_imp, deliver, delivered, drop_frame, imp_started, imp_stopped, offer_out, quiet_round, site_at, stepped, step_refusal, take_in, Net, Wire, ends_at, far_end, frames_on, imp_at, port_of, wire_at, with_turn, opened_from, opened_imp, opening_subnet, IsSound, Ends, IsChannelTold, IsContentTold, IsFlowNamed, IsFrameTold, IsHeardTold, IsKeptTold, IsLineTold, IsOneNetwork, IsPacketTold, IsPieceTold, IsPlaced, IsPortTold, IsSlotTold, IsSourceTold, IsTold, IsToldAt, flow_named}
 use Rattle.std.proofs.Common.{count_by}
 use Rattle.interface.specs.declared.NetEvent.TheVariants as net
-use Rattle.interface.specs.declared.crossing.Crossing.TheVariants as crossing
 use Rattle.packetiser.specs.PacketFields.{IsPacket}
 use Rattle.packetiser.specs.Slots.{IsPieceFor, IsSlot}
 use Rattle.imp_channel.specs.declared.frame.Content.TheVariants as content
@@ -51,11 +50,11 @@ imp_knows [] i all = tt
 imp_knows (o ∷ imps) zero all = All-head ImpKnows o imps all
 imp_knows (o ∷ imps) (suc i) all = imp_knows imps i (All-tail ImpKnows o imps all)
 
--- a call of an IMP that keeps what is known in it
-call_known : {o : Net} (n : Net) (i : ℕ) (call : State → ImpTurn) → ((s : State) → Knows s → TurnKnows (call s)) → IsKnown o n → IsKnown o (at_imp (imp_at n.imps i) i call n)
-call_known {o} n i call keeps is = by (imp_at n.imps i) (imp_knows n.imps i is.imps) ((at_keeps n i call).placed is.there) (at_keeps n i call).network where
-  by : (here : Option State) → ImpKnows here → IsPlaced (at_imp here i call n) → IsOneNetwork n (at_imp here i call n) → IsKnown o (at_imp here i call n)
-  by None knows there same = is
+-- a call of an IMP that keeps what is known in it, whatever crossed
+call_known : {o : Net} (n : Net) (i : ℕ) (call : State → ImpTurn) (log : List Crossing) → ((s : State) → Knows s → TurnKnows (call s)) → IsKnown o n → IsKnown o (record (at_imp (imp_at n.imps i) i call n) { log = log })
+call_known {o} n i call log keeps is = by (imp_at n.imps i) (imp_knows n.imps i is.imps) ((at_keeps n i call log).placed is.there) (at_keeps n i call log).network where
+  by : (here : Option State) → ImpKnows here → IsPlaced (record (at_imp here i call n) { log = log }) → IsOneNetwork n (record (at_imp here i call n) { log = log }) → IsKnown o (record (at_imp here i call n) { log = log })
+  by None knows there same = record { imps = is.imps; lines = is.lines; there = there; places = is.places; network = one_network o n (record n { log = log }) is.network same }
   by (Some s) knows there same =
       let turn : TurnKnows (call s) = keeps s knows in
       record {
@@ -63,17 +62,14 @@ call_known {o} n i call keeps is = by (imp_at n.imps i) (imp_knows n.imps i is.i
         lines = put_all_holds FrameFits n.lines i (call s).frames is.lines turn.frames;
         there = there;
         places = length-set n.imps i (Some (call s).state) ∙ is.places;
-        network = one_network o n (with_turn i (call s) n) is.network same;
+        network = one_network o n (record (with_turn i (call s) n) { log = log }) is.network same;
       }
 
-logged_known : {o : Net} (entries : List Crossing) (n : Net) → IsKnown o n → IsKnown o (logging entries n)
-logged_known entries n is = record { imps = is.imps; lines = is.lines; there = is.there; places = is.places; network = record { hosts = is.network.hosts; sites = is.network.sites; lines = is.network.lines } }
-
 pub offer_known : {o : Net} (n : Net) (m : HostMessage) → IsFlowNamed m.flow → IsKnown o n → IsKnown o (offer_out n m)
-offer_known n m named is = logged_known (crossing.Out m ∷ []) (at_imp (imp_at n.imps m.flow.source.imp) m.flow.source.imp (λ s. from_host s m) n) (call_known n m.flow.source.imp (λ s. from_host s m) (λ s. from_host_knows m s named) is)
+offer_known n m named is = call_known n m.flow.source.imp (λ s. from_host s m) _ (λ s. from_host_knows m s named) is
 
 pub take_known : {o : Net} (n : Net) (h : Host) → IsKnown o n → IsKnown o (take_in n h)
-take_known n h is = logged_known (crossings_of (taken_by_host n h)) (at_imp (imp_at n.imps h.imp) h.imp (λ s. to_host s h.host) n) (call_known n h.imp (λ s. to_host s h.host) (to_host_knows h.host) is)
+take_known n h is = call_known n h.imp (λ s. to_host s h.host) _ (to_host_knows h.host) is
 
 -- ---- frames that are delivered
 
@@ -94,7 +90,7 @@ deliver_known {o} n l d k sound is = by (slice_get (frames_on d (wire_at n.lines
   by None here = is
   by (Some f) here =
       let i : ℕ = far_end d (wire_at n.lines l) in
-      call_known n i (λ s. from_line s (port_of n.lines i l) f) (λ s. from_line_knows (port_of n.lines i l) f s (carried_told f.content here)) is
+      call_known n i (λ s. from_line s (port_of n.lines i l) f) _ (λ s. from_line_knows (port_of n.lines i l) f s (carried_told f.content here)) is
 
 drop_known : {o : Net} (n : Net) (l : ℕ) (d : Direction) (k : ℕ) → IsKnown o n → IsKnown o (drop_frame n l d k)
 drop_known {o} n l d k is = record {
@@ -106,10 +102,10 @@ drop_known {o} n l d k is = record {
 }
 
 resend_known : {o : Net} (n : Net) (i : ℕ) → IsKnown o n → IsKnown o (at_imp (imp_at n.imps i) i resend n)
-resend_known n i is = call_known n i resend resend_knows is
+resend_known n i is = call_known n i resend _ resend_knows is
 
 route_known : {o : Net} (n : Net) (i : ℕ) → IsKnown o n → IsKnown o (at_imp (imp_at n.imps i) i route n)
-route_known n i is = call_known n i route route_knows is
+route_known n i is = call_known n i route _ route_knows is
 
 -- ---- a quiet round
 
@@ -134,8 +130,8 @@ step_known n (net.Deliver l d k) valid ok sound is = deliver_known n l d k sound
 step_known n (net.Drop l d k) valid ok sound is = drop_known n l d k is
 step_known n (net.Resend i) valid ok sound is = resend_known n i is
 step_known n (net.Route i) valid ok sound is = route_known n i is
-step_known n (net.EndDown i l) valid ok sound is = call_known n i (λ s. end_down s (port_of n.lines i l)) (end_down_knows (port_of n.lines i l)) is
-step_known n (net.EndUp i l) valid ok sound is = call_known n i (λ s. end_up s (port_of n.lines i l)) (end_up_knows (port_of n.lines i l)) is
+step_known n (net.EndDown i l) valid ok sound is = call_known n i _ _ (end_down_knows (port_of n.lines i l)) is
+step_known n (net.EndUp i l) valid ok sound is = call_known n i _ _ (end_up_knows (port_of n.lines i l)) is
 step_known {o} n (net.ImpDown i) valid ok sound is = record {
   imps = All-set ImpKnows n.imps i None tt is.imps;
   lines = is.lines;
@@ -153,12 +149,12 @@ step_known {o} n (net.ImpUp i) valid ok sound is =
       places = length-set n.imps i (Some (started_imp i hosts ports)) ∙ is.places;
       network = one_network o n (imp_started n i) is.network (step_keeps n (net.ImpUp i) ok).network;
     }
-step_known n (net.HostDown h) valid ok sound is = logged_known (crossing.Down h ∷ []) (at_imp (imp_at n.imps h.imp) h.imp (λ s. host_down s h.host) n) (call_known n h.imp (λ s. host_down s h.host) (host_down_knows h.host) is)
-step_known n (net.HostUp h) valid ok sound is = logged_known (crossing.Up h ∷ []) (at_imp (imp_at n.imps h.imp) h.imp (λ s. host_up s h.host) n) (call_known n h.imp (λ s. host_up s h.host) (host_up_knows h.host) is)
-step_known n (net.GiveUp f) valid ok sound is = call_known n f.source.imp (λ s. give_up s f) (λ s. give_up_knows f s (flow_named f valid)) is
-step_known n (net.Forget at from) valid ok sound is = call_known n at (λ s. forget s from) (forget_knows from) is
-step_known n (net.Abandon f) valid ok sound is = call_known n f.destination.imp (λ s. abandon s f) (abandon_knows f) is
-step_known n (net.Ask f) valid ok sound is = call_known n f.source.imp (λ s. ask s f) (ask_knows f) is
+step_known n (net.HostDown h) valid ok sound is = call_known n h.imp _ _ (host_down_knows h.host) is
+step_known n (net.HostUp h) valid ok sound is = call_known n h.imp _ _ (host_up_knows h.host) is
+step_known n (net.GiveUp f) valid ok sound is = call_known n f.source.imp _ _ (λ s. give_up_knows f s (flow_named f valid)) is
+step_known n (net.Forget at from) valid ok sound is = call_known n at _ _ (forget_knows from) is
+step_known n (net.Abandon f) valid ok sound is = call_known n f.destination.imp _ _ (abandon_knows f) is
+step_known n (net.Ask f) valid ok sound is = call_known n f.source.imp _ _ (ask_knows f) is
 
 -- ---- the opening
 

@@ -55,16 +55,7 @@ refused_call n (net.Deliver l d k) f may refused =
     ap (λ (k : ℕ). deliver n l d k) may ∙ none_delivered n l d (no_frame n l d f (ap (λ (k : ℕ). frame_refusal n l d k) (sym may) ∙ refused))
 refused_call n (net.Drop l d k) f may refused =
     ap (λ (k : ℕ). drop_frame n l d k) may ∙ none_dropped n l d (no_frame n l d f (ap (λ (k : ℕ). frame_refusal n l d k) (sym may) ∙ refused))
-refused_call n (net.EndDown i l) f may refused = absurd may
-refused_call n (net.EndUp i l) f may refused = absurd may
-refused_call n (net.ImpDown i) f may refused = absurd may
-refused_call n (net.ImpUp i) f may refused = absurd may
-refused_call n (net.HostDown h) f may refused = absurd may
-refused_call n (net.HostUp h) f may refused = absurd may
-refused_call n (net.GiveUp g) f may refused = absurd may
-refused_call n (net.Forget at from) f may refused = absurd may
-refused_call n (net.Abandon g) f may refused = absurd may
-refused_call n (net.Ask g) f may refused = absurd may
+refused_call n e f may refused = absurd may
 
 given_takes : (n : Net) (h : Host) → gives n h ≡ true → take_refusal n h ≡ None
 given_takes n h given = by (take_refusal n h) given where

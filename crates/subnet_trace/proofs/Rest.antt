@@ -1,5 +1,5 @@
 -- What an event's parts do not name is as before.
-use Rattle.subnet_trace.proofs.Common.{◌≡◌, ◌≢◌, ℕ, zero, suc, ◌+◌, ◌-◌, ◌<◌, ◌≤◌, ◌==◌, ◌&&◌, ◌||◌, ◌⊎◌, inl, inr, nat_lt, not, Bool, false, List, [], ◌∷◌, if◌then◌else◌, filter, length, map, Option, Some, None, Result, Ok, Err, is_some, slice_get, slice_set, refl, sym, ap, ◌∙◌, subst, arith, false≢true, nat_tests, get_or-set_other, length-set, range_with_len, is_halt, is_memory, Host, CarrierFault, HostMessage, Inbound, NetEvent, Crossing, Direction, or_false, Frame, ImpTurn, State, from_host, host_down, host_up, to_host, Outgoing, Shown, GoesOn, Happens, IsOneCall, outcome_of, RawEvent, Fails, Kept, running, accepted, at_imp, at_up, deliver, delivered, drop_frame, frame_refusal, imp_refusal, imp_started, imp_stopped, is_imp, offer_out, site_at, step_refusal, stepped, take_in, Ends, Net, Wire, ends_at, far_end, followed_by, frames_on, imp_at, line_from, no_wire, put_all, put_on, put_one, wire_at, with_frame, with_turn, opened_from, opened_imp, opening_subnet, subnet_calls, Imp, Line, is_part, IsOneNetwork, IsPlaced, ends_of, eqb-true, Decided}
+use Rattle.subnet_trace.proofs.Common.{◌≡◌, ◌≢◌, ℕ, zero, suc, ◌+◌, ◌-◌, ◌<◌, ◌≤◌, ◌==◌, ◌&&◌, ◌||◌, ◌⊎◌, inl, inr, nat_lt, not, Bool, false, List, [], ◌∷◌, if◌then◌else◌, filter, length, map, Option, Some, None, Result, Ok, Err, is_some, slice_get, slice_set, refl, sym, ap, ◌∙◌, subst, arith, false≢true, nat_tests, get_or-set_other, length-set, range_with_len, is_halt, is_memory, Host, CarrierFault, HostMessage, Inbound, NetEvent, Crossing, Direction, or_false, Frame, ImpTurn, State, from_host, to_host, Outgoing, Shown, GoesOn, Happens, IsOneCall, outcome_of, RawEvent, Fails, Kept, running, accepted, at_imp, at_up, deliver, delivered, drop_frame, frame_refusal, imp_refusal, imp_started, imp_stopped, is_imp, offer_out, site_at, step_refusal, stepped, take_in, Ends, Net, Wire, ends_at, far_end, followed_by, frames_on, imp_at, line_from, no_wire, put_all, put_on, put_one, wire_at, with_frame, with_turn, opened_from, opened_imp, opening_subnet, subnet_calls, Imp, Line, is_part, IsOneNetwork, IsPlaced, ends_of, eqb-true, Decided}
 use Rattle.std.proofs.Common.{true, slice_index_or}
 use Rattle.std.proofs.Math.Seq.{map-set_same}
 use Rattle.interface.specs.declared.CarrierFault.TheVariants as fault
@@ -8,7 +8,8 @@ use Rattle.interface.specs.declared.event.Direction.TheVariants as way
 use Rattle.script.specs.declared.event.RawEvent.TheVariants as event
 use Rattle.subnet.specs.Events.{first_of, starting_refusal}
 use Rattle.subnet.specs.Net.{dropping}
-use Rattle.subnet_trace.specs.Parts.{Part, SamePart, imp_alone, imp_and_lines, is_named, line_alone, lines_at, parts_of}
+use Rattle.subnet_trace.specs.Parts.{Part, SamePart, imp_alone, imp_and_lines, is_named, line_alone, lines_at, parts_in, parts_of}
+use Rattle.subnet_trace.specs.declared.parts.Scope.TheVariants as scope
 use Rattle.interface.proofs.lemmas.{and_first}
 
 -- ---- frames that an IMP puts on lines
@@ -92,16 +93,21 @@ turn_rest n i turn (Imp j) there none =
     get_or-set_other n.imps i j (Some turn.state) None (apart_from j i (or_false (j == i) (is_named (Imp j) (map (λ l. Line l) (lines_at n i))) none).0)
 turn_rest n i turn (Line l) there none = all_other turn.frames n.lines i l (not_at n i l there none)
 
-imp_rest : (n : Net) (i : ℕ) (call : State → ImpTurn) (p : Part) → IsPlaced n → is_part n p ≡ true → is_named p (imp_and_lines n i) ≡ false → SamePart p n (at_imp (imp_at n.imps i) i call n)
-imp_rest n i call p placed there none = by (imp_at n.imps i) refl where
-  same : (q : Part) → SamePart q n n
+-- whatever crossed, which is no part
+imp_rest : (n : Net) (i : ℕ) (call : State → ImpTurn) (log : List Crossing) (p : Part) → IsPlaced n → is_part n p ≡ true → is_named p (imp_and_lines n i) ≡ false → SamePart p n (record (at_imp (imp_at n.imps i) i call n) { log = log })
+imp_rest n i call log p placed there none = by (imp_at n.imps i) refl where
+  same : (q : Part) → SamePart q n (record n { log = log })
   same (Imp j) = refl
   same (Line l) = refl
 
-  by : (o : Option State) → imp_at n.imps i ≡ o → SamePart p n (at_imp o i call n)
+  logged : (q : Part) (m : Net) → SamePart q n m → SamePart q n (record m { log = log })
+  logged (Imp j) m s = s
+  logged (Line l) m s = s
+
+  by : (o : Option State) → imp_at n.imps i ≡ o → SamePart p n (record (at_imp o i call n) { log = log })
   by None down = same p
   by (Some s) up =
-      turn_rest n i (call s) p there (ap (λ (b : Bool). is_named p (if b then Imp i ∷ map (λ l. Line l) (lines_at n i) else [])) (sym (is_there n i s placed up)) ∙ none)
+      logged p (with_turn i (call s) n) (turn_rest n i (call s) p there (ap (λ (b : Bool). is_named p (if b then Imp i ∷ map (λ l. Line l) (lines_at n i) else [])) (sym (is_there n i s placed up)) ∙ none))
 
 -- ---- the other events
 
@@ -121,11 +127,11 @@ deliver_rest n l d k p placed ok there none = by (slice_get (frames_on d (wire_a
   i = far_end d (wire_at n.lines l)
 
   at_end : is_named p (imp_and_lines n i) ≡ false
-  at_end = ap (λ (b : Bool). is_named p (if b then imp_and_lines n i else [])) (sym (frame_there n l d k ok)) ∙ none
+  at_end = ap (λ (b : Bool). is_named p (parts_in n (if b then scope.ImpAndLines i else scope.Nothing))) (sym (frame_there n l d k ok)) ∙ none
 
   by : (o : Option Frame) → SamePart p n (delivered n l d o)
   by None = same_all p n n refl
-  by (Some f) = imp_rest n i _ p placed there at_end
+  by (Some f) = imp_rest n i _ (delivered n l d (Some f)).log p placed there at_end
 
 drop_rest : (n : Net) (l : ℕ) (d : Direction) (k : ℕ) (p : Part) → frame_refusal n l d k ≡ None → is_named p (line_alone n l) ≡ false → SamePart p n (drop_frame n l d k)
 drop_rest n l d k (Imp j) ok none = refl
@@ -157,20 +163,10 @@ start_rest n i (Line l) ok none = refl
 step_rest : (n : Net) (e : NetEvent) (p : Part) → IsPlaced n → step_refusal n e ≡ None → is_part n p ≡ true → is_named p (parts_of n (event.Net e)) ≡ false → SamePart p n (stepped n e)
 step_rest n (net.Deliver l d k) p placed ok there none = deliver_rest n l d k p placed ok there none
 step_rest n (net.Drop l d k) p placed ok there none = drop_rest n l d k p ok none
-step_rest n (net.Resend i) p placed ok there none = imp_rest n i _ p placed there none
-step_rest n (net.Route i) p placed ok there none = imp_rest n i _ p placed there none
-step_rest n (net.EndDown i l) p placed ok there none = imp_rest n i _ p placed there none
-step_rest n (net.EndUp i l) p placed ok there none = imp_rest n i _ p placed there none
 step_rest n (net.ImpDown i) p placed ok there none = stop_rest n i p ok none
 step_rest n (net.ImpUp i) p placed ok there none = start_rest n i p ok none
-step_rest n (net.HostDown h) (Imp j) placed ok there none = imp_rest n h.imp _ (Imp j) placed there none
-step_rest n (net.HostDown h) (Line l) placed ok there none = imp_rest n h.imp _ (Line l) placed there none
-step_rest n (net.HostUp h) (Imp j) placed ok there none = imp_rest n h.imp _ (Imp j) placed there none
-step_rest n (net.HostUp h) (Line l) placed ok there none = imp_rest n h.imp _ (Line l) placed there none
-step_rest n (net.GiveUp f) p placed ok there none = imp_rest n f.source.imp _ p placed there none
-step_rest n (net.Forget at from) p placed ok there none = imp_rest n at _ p placed there none
-step_rest n (net.Abandon f) p placed ok there none = imp_rest n f.destination.imp _ p placed there none
-step_rest n (net.Ask f) p placed ok there none = imp_rest n f.source.imp _ p placed there none
+-- every other event is a call of one IMP
+step_rest n e p placed ok there none = imp_rest n _ _ (stepped n e).log p placed there none
 
 -- ---- a call that continued
 
@@ -236,11 +232,9 @@ as_left (Line l) old left new s e = ap (λ (x : Net). wire_at x.lines l) e ∙ s
 
 rest_left : (old new : Kept) (e : RawEvent) (p : Part) → IsPlaced old.net → Left old new e → is_part old.net p ≡ true → is_named p (parts_of old.net e) ≡ false → SamePart p old.net new.net
 rest_left old new (event.Out m) p placed (inl same) there none = same_all p old.net new.net (ap (λ (k : Kept). k.net) same)
-rest_left old new (event.Out m) (Imp j) placed (inr left) there none = as_left (Imp j) old.net (offer_out old.net m) new.net (imp_rest old.net m.flow.source.imp _ (Imp j) placed there none) (ap (λ (k : Kept). k.net) left)
-rest_left old new (event.Out m) (Line l) placed (inr left) there none = as_left (Line l) old.net (offer_out old.net m) new.net (imp_rest old.net m.flow.source.imp _ (Line l) placed there none) (ap (λ (k : Kept). k.net) left)
+rest_left old new (event.Out m) p placed (inr left) there none = as_left p old.net (offer_out old.net m) new.net (imp_rest old.net m.flow.source.imp _ (offer_out old.net m).log p placed there none) (ap (λ (k : Kept). k.net) left)
 rest_left old new (event.Take h) p placed (inl same) there none = same_all p old.net new.net (ap (λ (k : Kept). k.net) same)
-rest_left old new (event.Take h) (Imp j) placed (inr left) there none = as_left (Imp j) old.net (take_in old.net h) new.net (imp_rest old.net h.imp _ (Imp j) placed there none) (ap (λ (k : Kept). k.net) left)
-rest_left old new (event.Take h) (Line l) placed (inr left) there none = as_left (Line l) old.net (take_in old.net h) new.net (imp_rest old.net h.imp _ (Line l) placed there none) (ap (λ (k : Kept). k.net) left)
+rest_left old new (event.Take h) p placed (inr left) there none = as_left p old.net (take_in old.net h) new.net (imp_rest old.net h.imp _ (take_in old.net h).log p placed there none) (ap (λ (k : Kept). k.net) left)
 rest_left old new (event.Net e) p placed (inl same) there none = same_all p old.net new.net (ap (λ (k : Kept). k.net) same)
 rest_left old new (event.Net e) p placed (inr left) there none = as_left p old.net (stepped old.net e) new.net (step_rest old.net e p placed left.0 there none) (ap (λ (k : Kept). k.net) left.1)
 rest_left old new (event.Calm rounds) p placed left there none = absurd left
@@ -283,10 +277,10 @@ unchanged n m e = record {
   places = ap (λ (x : Net). length x.imps) e;
 }
 
-pub at_keeps : (n : Net) (i : ℕ) (call : State → ImpTurn) → Keeps n (at_imp (imp_at n.imps i) i call n)
-at_keeps n i call = by (imp_at n.imps i) refl where
-  by : (o : Option State) → imp_at n.imps i ≡ o → Keeps n (at_imp o i call n)
-  by None down = unchanged n n refl
+pub at_keeps : (n : Net) (i : ℕ) (call : State → ImpTurn) (log : List Crossing) → Keeps n (record (at_imp (imp_at n.imps i) i call n) { log = log })
+at_keeps n i call log = by (imp_at n.imps i) refl where
+  by : (o : Option State) → imp_at n.imps i ≡ o → Keeps n (record (at_imp o i call n) { log = log })
+  by None down = record { network = record { hosts = refl; sites = refl; lines = refl }; placed = λ placed. placed; places = refl }
   by (Some s) up = record {
     network = record { hosts = refl; sites = refl; lines = sym (all_ends (call s).frames n.lines i) };
     placed = λ placed. one_placed n i (Some (call s).state) (is_there n i s placed up) placed;
@@ -295,7 +289,7 @@ at_keeps n i call = by (imp_at n.imps i) refl where
 
 deliver_keeps : (n : Net) (l : ℕ) (d : Direction) (o : Option Frame) → Keeps n (delivered n l d o)
 deliver_keeps n l d None = unchanged n n refl
-deliver_keeps n l d (Some f) = at_keeps n (far_end d (wire_at n.lines l)) _
+deliver_keeps n l d (Some f) = at_keeps n (far_end d (wire_at n.lines l)) _ (delivered n l d (Some f)).log
 
 dropping_ends : (d : Direction) (k : ℕ) (w : Wire) → ends_of (dropping d k w) ≡ ends_of w
 dropping_ends way.Forward k w = refl
@@ -308,16 +302,9 @@ drop_keeps n l d k = record {
   places = refl;
 }
 
-logged : (n m : Net) (log : List Crossing) → Keeps n m → Keeps n (record m { log = log })
-logged n m log k = record { network = record { hosts = k.network.hosts; sites = k.network.sites; lines = k.network.lines }; placed = k.placed; places = k.places }
-
 pub step_keeps : (n : Net) (e : NetEvent) → step_refusal n e ≡ None → Keeps n (stepped n e)
 step_keeps n (net.Deliver l d k) ok = deliver_keeps n l d (slice_get (frames_on d (wire_at n.lines l)) k)
 step_keeps n (net.Drop l d k) ok = drop_keeps n l d k
-step_keeps n (net.Resend i) ok = at_keeps n i _
-step_keeps n (net.Route i) ok = at_keeps n i _
-step_keeps n (net.EndDown i l) ok = at_keeps n i _
-step_keeps n (net.EndUp i l) ok = at_keeps n i _
 step_keeps n (net.ImpDown i) ok = record {
   network = record { hosts = refl; sites = refl; lines = refl };
   placed = λ placed. one_placed n i None (refused_none (is_imp n i) (at_up (imp_at n.imps i) accepted) ok) placed;
@@ -328,21 +315,17 @@ step_keeps n (net.ImpUp i) ok = record {
   placed = λ placed. one_placed n i _ (refused_none (is_imp n i) _ ok) placed;
   places = length-set n.imps i _;
 }
-step_keeps n (net.HostDown h) ok = logged n _ _ (at_keeps n h.imp (λ s. host_down s h.host))
-step_keeps n (net.HostUp h) ok = logged n _ _ (at_keeps n h.imp (λ s. host_up s h.host))
-step_keeps n (net.GiveUp f) ok = at_keeps n f.source.imp _
-step_keeps n (net.Forget at from) ok = at_keeps n at _
-step_keeps n (net.Abandon f) ok = at_keeps n f.destination.imp _
-step_keeps n (net.Ask f) ok = at_keeps n f.source.imp _
+-- every other event is a call of one IMP
+step_keeps n e ok = at_keeps n _ _ (stepped n e).log
 
 into : (n left new : Net) → Keeps n left → new ≡ left → Keeps n new
 into n left new k e = subst (Keeps n) (sym e) k
 
 kept_left : (old new : Kept) (e : RawEvent) → Left old new e → Keeps old.net new.net
 kept_left old new (event.Out m) (inl same) = unchanged old.net new.net (ap (λ (k : Kept). k.net) same)
-kept_left old new (event.Out m) (inr left) = into old.net (offer_out old.net m) new.net (logged old.net _ _ (at_keeps old.net m.flow.source.imp (λ s. from_host s m))) (ap (λ (k : Kept). k.net) left)
+kept_left old new (event.Out m) (inr left) = into old.net (offer_out old.net m) new.net (at_keeps old.net m.flow.source.imp (λ s. from_host s m) (offer_out old.net m).log) (ap (λ (k : Kept). k.net) left)
 kept_left old new (event.Take h) (inl same) = unchanged old.net new.net (ap (λ (k : Kept). k.net) same)
-kept_left old new (event.Take h) (inr left) = into old.net (take_in old.net h) new.net (logged old.net _ _ (at_keeps old.net h.imp (λ s. to_host s h.host))) (ap (λ (k : Kept). k.net) left)
+kept_left old new (event.Take h) (inr left) = into old.net (take_in old.net h) new.net (at_keeps old.net h.imp (λ s. to_host s h.host) (take_in old.net h).log) (ap (λ (k : Kept). k.net) left)
 kept_left old new (event.Net e) (inl same) = unchanged old.net new.net (ap (λ (k : Kept). k.net) same)
 kept_left old new (event.Net e) (inr left) = into old.net (stepped old.net e) new.net (step_keeps old.net e left.0) (ap (λ (k : Kept). k.net) left.1)
 kept_left old new (event.Calm rounds) left = absurd left

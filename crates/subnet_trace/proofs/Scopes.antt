@@ -1,5 +1,5 @@
 -- What is outside of an event's scope stays, and the parts that are in it are put in their places.
-use Rattle.subnet_trace.proofs.Common.{◌≡◌, ◌≢◌, inl, inr, ℕ, zero, suc, ◌<◌, ◌≤◌, ◌+◌, ◌==◌, ◌||◌, Bool, true, false, List, [], ◌∷◌, ◌++◌, codes, if◌then◌else◌, length, map, nat_lt, Option, Some, None, Result, Ok, Err, slice_get, refl, sym, ap, ap₂, subst, ◌∙◌, arith, false≢true, nat_tests, get_or-set_other, length-map, Host, CarrierFault, Inbound, NetEvent, Crossing, Direction, Frame, ImpTurn, State, from_host, host_down, host_up, to_host, Shown, shown_crossings, GoesOn, Happens, IsOneCall, outcome_of, RawEvent, Kept, refusal_of, running, step_grows, take_grows, at_imp, deliver, delivered, drop_frame, frame_refusal, imp_started, imp_stopped, is_imp, offer_out, offer_refusal, step_refusal, stepped, take_in, take_refusal, taken_by_host, Net, Wire, far_end, frames_on, imp_at, no_wire, wire_at, with_turn, subnet_calls, Imp, Line, all_parts, part_name, parts_members, named, OnlyIn, has_imp, has_line, scope_of, imp_text, line_text, IsOneNetwork, ends_of, Scope, put_at, put_text, member, object, HasHappened, subnet_inside, PutSoFar, parts_of_net, IsOnlyIn, change_text, AllParts, no_part_changed}
+use Rattle.subnet_trace.proofs.Common.{◌≡◌, ◌≢◌, inl, inr, ℕ, zero, suc, ◌<◌, ◌≤◌, ◌+◌, ◌==◌, ◌||◌, Bool, true, false, List, [], ◌∷◌, ◌++◌, codes, if◌then◌else◌, length, map, nat_lt, Option, Some, None, Result, Ok, Err, slice_get, refl, sym, ap, ap₂, subst, ◌∙◌, arith, false≢true, nat_tests, get_or-set_other, length-map, Host, CarrierFault, Inbound, NetEvent, Crossing, Direction, Frame, ImpTurn, State, from_host, to_host, Shown, shown_crossings, GoesOn, Happens, IsOneCall, outcome_of, RawEvent, Kept, refusal_of, running, step_grows, take_grows, at_imp, deliver, delivered, drop_frame, frame_refusal, imp_started, imp_stopped, is_imp, offer_out, offer_refusal, step_refusal, stepped, take_in, take_refusal, taken_by_host, Net, Wire, far_end, frames_on, imp_at, no_wire, wire_at, subnet_calls, Imp, Line, all_parts, part_name, parts_members, named, OnlyIn, has_imp, has_line, scope_of, imp_text, line_text, IsOneNetwork, ends_of, Scope, put_at, put_text, member, object, HasHappened, subnet_inside, PutSoFar, parts_of_net, IsOnlyIn, change_text, AllParts, no_part_changed}
 use Rattle.std.proofs.Common.{is_ok}
 use Rattle.interface.specs.declared.NetEvent.TheVariants as net
 use Rattle.interface.specs.declared.event.Direction.TheVariants as way
@@ -7,7 +7,7 @@ use Rattle.replay.specs.Output.{shown_refusal}
 use Rattle.replay.specs.Replay.{EventGives}
 use Rattle.script.specs.declared.event.RawEvent.TheVariants as event
 use Rattle.subnet.specs.Net.{dropping}
-use Rattle.subnet_trace.specs.Scopes.{scope_of_delivery}
+use Rattle.subnet_trace.specs.Parts.{scope_of_delivery}
 use Rattle.subnet_trace.specs.declared.parts.Scope.TheVariants as scope
 use Rattle.trace.proofs.lemmas.{happens, is_within, none_put, put_more}
 use Rattle.subnet_trace.proofs.AllMembers.{imps_left, imps_next, imps_over, lines_left, lines_next, none_listed}
@@ -25,21 +25,15 @@ all_stays s old new e = record { imps = λ i none. ap (λ (n : Net). imp_at n.im
 other_than : (i j : ℕ) → (i == j) ≡ false → j ≢ i
 other_than i j e same = grind (arith, nat_tests)
 
-turn_stays : (n : Net) (i : ℕ) (turn : ImpTurn) → Stays (scope.ImpAndLines i) n (with_turn i turn n)
-turn_stays n i turn = record {
-  imps = λ j none. get_or-set_other n.imps i j (Some turn.state) None (other_than i j none);
-  wires = λ l none. all_other turn.frames n.lines i l none;
-}
-
-at_stays : (n : Net) (i : ℕ) (call : State → ImpTurn) → Stays (scope.ImpAndLines i) n (at_imp (imp_at n.imps i) i call n)
-at_stays n i call = by (imp_at n.imps i) where
-  by : (o : Option State) → Stays (scope.ImpAndLines i) n (at_imp o i call n)
-  by None = all_stays (scope.ImpAndLines i) n n refl
-  by (Some s) = turn_stays n i (call s)
-
--- what crossed is no part
-logged_stays : (s : Scope) (n m : Net) (log : List Crossing) → Stays s n m → Stays s n (record m { log = log })
-logged_stays s n m log h = record { imps = h.imps; wires = h.wires }
+-- whatever crossed, which is no part
+at_stays : (n : Net) (i : ℕ) (call : State → ImpTurn) (log : List Crossing) → Stays (scope.ImpAndLines i) n (record (at_imp (imp_at n.imps i) i call n) { log = log })
+at_stays n i call log = by (imp_at n.imps i) where
+  by : (o : Option State) → Stays (scope.ImpAndLines i) n (record (at_imp o i call n) { log = log })
+  by None = record { imps = λ j none. refl; wires = λ l none. refl }
+  by (Some s) = record {
+    imps = λ j none. get_or-set_other n.imps i j (Some (call s).state) None (other_than i j none);
+    wires = λ l none. all_other (call s).frames n.lines i l none;
+  }
 
 deliver_stays : (n : Net) (l : ℕ) (d : Direction) (k : ℕ) → frame_refusal n l d k ≡ None → Stays (scope_of_delivery n l d) n (deliver n l d k)
 deliver_stays n l d k ok = by (slice_get (frames_on d (wire_at n.lines l)) k) where
@@ -48,7 +42,7 @@ deliver_stays n l d k ok = by (slice_get (frames_on d (wire_at n.lines l)) k) wh
 
   by : (o : Option Frame) → Stays (scope_of_delivery n l d) n (delivered n l d o)
   by None = all_stays (scope_of_delivery n l d) n n refl
-  by (Some f) = subst (λ (s : Scope). Stays s n (delivered n l d (Some f))) (sym is) (at_stays n (far_end d (wire_at n.lines l)) _)
+  by (Some f) = subst (λ (s : Scope). Stays s n (delivered n l d (Some f))) (sym is) (at_stays n (far_end d (wire_at n.lines l)) _ (delivered n l d (Some f)).log)
 
 drop_stays : (n : Net) (l : ℕ) (d : Direction) (k : ℕ) → Stays (scope.Line l) n (drop_frame n l d k)
 drop_stays n l d k = record { imps = λ i none. refl; wires = λ m none. get_or-set_other n.lines l m (dropping d k (wire_at n.lines l)) no_wire (apart_from m l none) }
@@ -62,18 +56,10 @@ start_stays n i = record { imps = λ j none. get_or-set_other n.imps i j _ None 
 step_stays : (n : Net) (e : NetEvent) → step_refusal n e ≡ None → Stays (scope_of n (event.Net e)) n (stepped n e)
 step_stays n (net.Deliver l d k) ok = deliver_stays n l d k ok
 step_stays n (net.Drop l d k) ok = drop_stays n l d k
-step_stays n (net.Resend i) ok = at_stays n i _
-step_stays n (net.Route i) ok = at_stays n i _
-step_stays n (net.EndDown i l) ok = at_stays n i _
-step_stays n (net.EndUp i l) ok = at_stays n i _
 step_stays n (net.ImpDown i) ok = stop_stays n i
 step_stays n (net.ImpUp i) ok = start_stays n i
-step_stays n (net.HostDown h) ok = logged_stays (scope.ImpAndLines h.imp) n _ _ (at_stays n h.imp (λ s. host_down s h.host))
-step_stays n (net.HostUp h) ok = logged_stays (scope.ImpAndLines h.imp) n _ _ (at_stays n h.imp (λ s. host_up s h.host))
-step_stays n (net.GiveUp f) ok = at_stays n f.source.imp _
-step_stays n (net.Forget at from) ok = at_stays n at _
-step_stays n (net.Abandon f) ok = at_stays n f.destination.imp _
-step_stays n (net.Ask f) ok = at_stays n f.source.imp _
+-- every other event is a call of one IMP
+step_stays n e ok = at_stays n _ _ (stepped n e).log
 
 into : (s : Scope) (n left new : Net) → Stays s n left → new ≡ left → Stays s n new
 into s n left new h e = subst (Stays s n) (sym e) h
@@ -81,10 +67,10 @@ into s n left new h e = subst (Stays s n) (sym e) h
 left_stays : (old new : Kept) (e : RawEvent) → Left old new e → Stays (scope_of old.net e) old.net new.net
 left_stays old new (event.Out m) (inl same) = all_stays _ old.net new.net (ap (λ (k : Kept). k.net) same)
 left_stays old new (event.Out m) (inr left) =
-    into (scope.ImpAndLines m.flow.source.imp) old.net (offer_out old.net m) new.net (logged_stays (scope.ImpAndLines m.flow.source.imp) old.net _ _ (at_stays old.net m.flow.source.imp (λ s. from_host s m))) (ap (λ (k : Kept). k.net) left)
+    into (scope.ImpAndLines m.flow.source.imp) old.net (offer_out old.net m) new.net (at_stays old.net m.flow.source.imp (λ s. from_host s m) (offer_out old.net m).log) (ap (λ (k : Kept). k.net) left)
 left_stays old new (event.Take h) (inl same) = all_stays _ old.net new.net (ap (λ (k : Kept). k.net) same)
 left_stays old new (event.Take h) (inr left) =
-    into (scope.ImpAndLines h.imp) old.net (take_in old.net h) new.net (logged_stays (scope.ImpAndLines h.imp) old.net _ _ (at_stays old.net h.imp (λ s. to_host s h.host))) (ap (λ (k : Kept). k.net) left)
+    into (scope.ImpAndLines h.imp) old.net (take_in old.net h) new.net (at_stays old.net h.imp (λ s. to_host s h.host) (take_in old.net h).log) (ap (λ (k : Kept). k.net) left)
 left_stays old new (event.Net e) (inl same) = all_stays _ old.net new.net (ap (λ (k : Kept). k.net) same)
 left_stays old new (event.Net e) (inr left) = into (scope_of old.net (event.Net e)) old.net (stepped old.net e) new.net (step_stays old.net e left.0) (ap (λ (k : Kept). k.net) left.1)
 left_stays old new (event.Calm rounds) left = absurd left
@@ -114,22 +100,7 @@ lines_same old new one = sym (length-map new.lines ends_of) ∙ sym (ap length o
 scope_same : (old new : Net) (e : RawEvent) → IsOneNetwork old new → scope_of old e ≡ scope_of new e
 scope_same old new (event.Net (net.Deliver l d k)) one =
     ap₂ (λ (n : ℕ) (i : ℕ). if nat_lt l n then scope.ImpAndLines i else scope.Nothing) (sym (lines_same old new one)) (far_of d (wire_at old.lines l) (wire_at new.lines l) (ends_same old.lines new.lines l one.lines))
-scope_same old new (event.Net (net.Drop l d k)) one = refl
-scope_same old new (event.Net (net.Resend i)) one = refl
-scope_same old new (event.Net (net.Route i)) one = refl
-scope_same old new (event.Net (net.EndDown i l)) one = refl
-scope_same old new (event.Net (net.EndUp i l)) one = refl
-scope_same old new (event.Net (net.ImpDown i)) one = refl
-scope_same old new (event.Net (net.ImpUp i)) one = refl
-scope_same old new (event.Net (net.HostDown h)) one = refl
-scope_same old new (event.Net (net.HostUp h)) one = refl
-scope_same old new (event.Net (net.GiveUp f)) one = refl
-scope_same old new (event.Net (net.Forget at from)) one = refl
-scope_same old new (event.Net (net.Abandon f)) one = refl
-scope_same old new (event.Net (net.Ask f)) one = refl
-scope_same old new (event.Out m) one = refl
-scope_same old new (event.Take h) one = refl
-scope_same old new (event.Calm rounds) one = refl
+scope_same old new e one = refl
 
 has_same : (s : Scope) (l : ℕ) (w v : Wire) → ends_of w ≡ ends_of v → has_line s l w ≡ has_line s l v
 has_same (scope.ImpAndLines i) l w v e = ap (λ (x : ℕ × ℕ). x.0 == i || x.1 == i) e

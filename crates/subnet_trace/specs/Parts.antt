@@ -9,6 +9,8 @@ use Rattle.script.specs.declared.event.RawEvent.TheVariants as event
 use Rattle.subnet.specs.Events.{is_imp}
 use Rattle.subnet.specs.Net.{Net, ends_at, far_end, imp_at, wire_at}
 use Rattle.subnet_trace.specs.Texts.{imp_text, kept_of, line_text, sources_of}
+use Rattle.subnet_trace.specs.declared.parts.Scope.{Scope}
+use Rattle.subnet_trace.specs.declared.parts.Scope.TheVariants as scope
 use Rattle.trace.specs.declared.all_parts.AllParts.{AllParts}
 use Rattle.trace.specs.declared.flow_part.FlowPart.{FlowPart}
 use Rattle.trace.specs.Texts.{member, object}
@@ -73,28 +75,40 @@ abbrev pub line_alone : Net → ℕ → List Part
 line_alone n l = if nat_lt l (length n.lines) then Line l ∷ [] else []
 
 -- the IMP at the far end of a line, with its lines
-abbrev pub far_end_of : Net → ℕ → Direction → List Part
-far_end_of n l d = if nat_lt l (length n.lines) then imp_and_lines n (far_end d (wire_at n.lines l)) else []
+abbrev pub scope_of_delivery : Net → ℕ → Direction → Scope
+scope_of_delivery n l d = if nat_lt l (length n.lines) then scope.ImpAndLines (far_end d (wire_at n.lines l)) else scope.Nothing
 
--- the parts that an elementary event can change: an IMP that makes a call, with the lines that it may put frames on
+-- where an elementary event happens: at an IMP that makes a call, with the lines that it may put frames on; at an IMP that stops or
+-- starts; at a line that loses a frame
+abbrev pub scope_of : Net → RawEvent → Scope
+scope_of n (event.Out m) = scope.ImpAndLines m.flow.source.imp
+scope_of n (event.Take h) = scope.ImpAndLines h.imp
+scope_of n (event.Net (net.Deliver l d k)) = scope_of_delivery n l d
+scope_of n (event.Net (net.Drop l d k)) = scope.Line l
+scope_of n (event.Net (net.Resend i)) = scope.ImpAndLines i
+scope_of n (event.Net (net.Route i)) = scope.ImpAndLines i
+scope_of n (event.Net (net.EndDown i l)) = scope.ImpAndLines i
+scope_of n (event.Net (net.EndUp i l)) = scope.ImpAndLines i
+scope_of n (event.Net (net.ImpDown i)) = scope.Imp i
+scope_of n (event.Net (net.ImpUp i)) = scope.Imp i
+scope_of n (event.Net (net.HostDown h)) = scope.ImpAndLines h.imp
+scope_of n (event.Net (net.HostUp h)) = scope.ImpAndLines h.imp
+scope_of n (event.Net (net.GiveUp f)) = scope.ImpAndLines f.source.imp
+scope_of n (event.Net (net.Forget at from)) = scope.ImpAndLines at
+scope_of n (event.Net (net.Abandon f)) = scope.ImpAndLines f.destination.imp
+scope_of n (event.Net (net.Ask f)) = scope.ImpAndLines f.source.imp
+scope_of n (event.Calm rounds) = scope.Nothing
+
+-- the parts of such a place that the network has
+abbrev pub parts_in : Net → Scope → List Part
+parts_in n (scope.ImpAndLines i) = imp_and_lines n i
+parts_in n (scope.Imp i) = imp_alone n i
+parts_in n (scope.Line l) = line_alone n l
+parts_in n scope.Nothing = []
+
+-- the parts that an elementary event can change
 abbrev pub parts_of : Net → RawEvent → List Part
-parts_of n (event.Out m) = imp_and_lines n m.flow.source.imp
-parts_of n (event.Take h) = imp_and_lines n h.imp
-parts_of n (event.Net (net.Deliver l d k)) = far_end_of n l d
-parts_of n (event.Net (net.Drop l d k)) = line_alone n l
-parts_of n (event.Net (net.Resend i)) = imp_and_lines n i
-parts_of n (event.Net (net.Route i)) = imp_and_lines n i
-parts_of n (event.Net (net.EndDown i l)) = imp_and_lines n i
-parts_of n (event.Net (net.EndUp i l)) = imp_and_lines n i
-parts_of n (event.Net (net.ImpDown i)) = imp_alone n i
-parts_of n (event.Net (net.ImpUp i)) = imp_alone n i
-parts_of n (event.Net (net.HostDown h)) = imp_and_lines n h.imp
-parts_of n (event.Net (net.HostUp h)) = imp_and_lines n h.imp
-parts_of n (event.Net (net.GiveUp f)) = imp_and_lines n f.source.imp
-parts_of n (event.Net (net.Forget at from)) = imp_and_lines n at
-parts_of n (event.Net (net.Abandon f)) = imp_and_lines n f.destination.imp
-parts_of n (event.Net (net.Ask f)) = imp_and_lines n f.source.imp
-parts_of n (event.Calm rounds) = []
+parts_of n e = parts_in n (scope_of n e)
 
 -- ---- what a part is, and is named
 

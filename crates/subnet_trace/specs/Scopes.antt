@@ -1,40 +1,13 @@
--- Which IMPs and lines an event can change, whether the network has them or not. No public clause cites this file.
-use Rattle.std.specs.Prelude.{◌≡◌, ℕ, Bool, false, ◌==◌, List, if◌then◌else◌, length, nat_lt}
-use Rattle.interface.specs.declared.event.Direction.{Direction}
-use Rattle.interface.specs.declared.event.NetEvent.TheVariants as net
-use Rattle.script.specs.declared.event.RawEvent.{RawEvent}
-use Rattle.script.specs.declared.event.RawEvent.TheVariants as event
-use Rattle.subnet.specs.Net.{Net, Wire, ends_at, far_end, imp_at, wire_at}
+-- Which IMPs and lines are where an event happens, whether the network has them or not. No public clause cites this file.
+use Rattle.std.specs.Prelude.{◌≡◌, ℕ, Bool, false, ◌==◌, List, length}
+use Rattle.subnet.specs.Net.{Net, Wire, ends_at, imp_at, wire_at}
 use Rattle.subnet_trace.specs.Parts.{all_flows, all_parts, parts_members, parts_of_net}
 use Rattle.trace.specs.declared.all_parts.AllParts.{AllParts}
 use Rattle.trace.specs.declared.flow_part.FlowPart.{FlowPart}
 use Rattle.subnet_trace.specs.declared.parts.Scope.{Scope}
 use Rattle.subnet_trace.specs.declared.parts.Scope.TheVariants as scope
 
--- the IMP at the far end of a line, with its lines
-abbrev pub scope_of_delivery : Net → ℕ → Direction → Scope
-scope_of_delivery n l d = if nat_lt l (length n.lines) then scope.ImpAndLines (far_end d (wire_at n.lines l)) else scope.Nothing
-
-abbrev pub scope_of : Net → RawEvent → Scope
-scope_of n (event.Out m) = scope.ImpAndLines m.flow.source.imp
-scope_of n (event.Take h) = scope.ImpAndLines h.imp
-scope_of n (event.Net (net.Deliver l d k)) = scope_of_delivery n l d
-scope_of n (event.Net (net.Drop l d k)) = scope.Line l
-scope_of n (event.Net (net.Resend i)) = scope.ImpAndLines i
-scope_of n (event.Net (net.Route i)) = scope.ImpAndLines i
-scope_of n (event.Net (net.EndDown i l)) = scope.ImpAndLines i
-scope_of n (event.Net (net.EndUp i l)) = scope.ImpAndLines i
-scope_of n (event.Net (net.ImpDown i)) = scope.Imp i
-scope_of n (event.Net (net.ImpUp i)) = scope.Imp i
-scope_of n (event.Net (net.HostDown h)) = scope.ImpAndLines h.imp
-scope_of n (event.Net (net.HostUp h)) = scope.ImpAndLines h.imp
-scope_of n (event.Net (net.GiveUp f)) = scope.ImpAndLines f.source.imp
-scope_of n (event.Net (net.Forget at from)) = scope.ImpAndLines at
-scope_of n (event.Net (net.Abandon f)) = scope.ImpAndLines f.destination.imp
-scope_of n (event.Net (net.Ask f)) = scope.ImpAndLines f.source.imp
-scope_of n (event.Calm rounds) = scope.Nothing
-
--- an IMP is among these, and a line
+-- an IMP is there, and a line
 abbrev pub has_imp : Scope → ℕ → Bool
 has_imp (scope.ImpAndLines i) j = i == j
 has_imp (scope.Imp i) j = i == j

@@ -5,13 +5,13 @@ ghost use Rattle.std.specs.Io.KnownBytes.{Appends};
 ghost use Rattle.replay.specs.Failing.{TellsFailure};
 ghost use Rattle.script.specs.declared.event.RawEvent.TheVariants as raw;
 ghost use Rattle.subnet_trace.specs.Parts as parts;
-ghost use Rattle.subnet_trace.specs.Parts.{Imp, Line, part_name, part_text, parts_members, parts_of_net, all_parts};
+ghost use Rattle.subnet_trace.specs.Parts.{Imp, Line, part_name, part_text, parts_members, parts_of_net, all_parts, scope_of};
 ghost use Rattle.subnet.specs.Events.{is_imp};
 ghost use Rattle.subnet.specs.Net.{imp_at};
 ghost use Rattle.subnet_trace.specs.Printing.{changed_at, flow_members, flows_there, imp_members, members_behind};
 ghost use Rattle.subnet_trace.specs.Printing.{named, place_after_members, put_lists};
 ghost use Rattle.subnet_trace.specs.Scopes as scopes;
-ghost use Rattle.subnet_trace.specs.Scopes.{HasFlowsIn, IsOnlyIn, OnlyIn, scope_of};
+ghost use Rattle.subnet_trace.specs.Scopes.{HasFlowsIn, IsOnlyIn, OnlyIn};
 ghost use Rattle.subnet_trace.specs.Texts.{line_text};
 ghost use Rattle.trace.specs.Changes.{changed, changed_lists, changed_parts, members_of};
 ghost use Rattle.trace.specs.Joined.{extended, part_behind, place_behind};
@@ -44,7 +44,7 @@ enum Scope {
 
 /// Returns which parts the arrival of a frame can change: those of the IMP at the far end of its line.
 fn scope_of_delivery(subnet: &Subnet, line: u32, direction: Direction) -> Scope
-    ensures { result ≡ scopes.scope_of_delivery subnet.now.net line direction }
+    ensures { result ≡ parts.scope_of_delivery subnet.now.net line direction }
 {
     let lines = subnet.lines();
     let place = line as usize;
@@ -56,7 +56,7 @@ fn scope_of_delivery(subnet: &Subnet, line: u32, direction: Direction) -> Scope
 
 /// Returns which parts an event inside the network can change.
 fn scope_of_net(subnet: &Subnet, event: &NetEvent) -> Scope
-    ensures { result ≡ scopes.scope_of subnet.now.net (raw.Net event.now) }
+    ensures { result ≡ scope_of subnet.now.net (raw.Net event.now) }
 {
     match *event {
         NetEvent::Deliver {
@@ -79,7 +79,7 @@ fn scope_of_net(subnet: &Subnet, event: &NetEvent) -> Scope
 
 /// Returns which parts an event can change.
 fn scope_of(subnet: &Subnet, event: &RawEvent) -> Scope
-    ensures { result ≡ scopes.scope_of subnet.now.net event.now }
+    ensures { result ≡ scope_of subnet.now.net event.now }
 {
     match event {
         RawEvent::Out(message) => Scope::ImpAndLines(message.flow.source.imp()),
