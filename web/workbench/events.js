@@ -2,11 +2,14 @@
 
 import { TABLE } from "../../python/dorydate/sentences/events.mjs";
 
-/** @typedef {"raw" | "every" | "carrier" | "subnet" | "programs"} Of what an event is of (python/dorydate/sentences/events.py) */
+/** What an event is of: python/dorydate/sentences/events.py says it. */
+/** @typedef {"raw" | "every" | "carrier" | "subnet" | "programs"} Of */
 
-/** @typedef {{operands: string[], of: string, at: string}} Word what follows a word, what its event is of, and the operand that says where it happens */
+/** What follows a word, what its event is of, and the operand that says where it happens. */
+/** @typedef {{operands: string[], of: string, at: string}} Word */
 
-/** @typedef {keyof typeof TABLE.refusals} Refusal the name of a refusal */
+/** The name of a refusal. */
+/** @typedef {keyof typeof TABLE.refusals} Refusal */
 
 /** @type {{[word: string]: Word}} */
 export const EVENTS = Object.fromEntries(

@@ -20,7 +20,8 @@ from dorydate.sentences.events import OF_CARRIERS, words_of
 Pools = Mapping[str, tuple[Event, ...]]
 SWARM = (0, 1, 1, 4, 16)  # weights of a kind in a schedule that has its own
 CALMS = (1, 1, 1, 2, 2, 3, 5)
-LEFT_OUT = ("route", "abandon")  # events of carriers that no schedule has: calms send distances, and pieces are thrown away by nobody
+# events of carriers that no schedule has: calms send distances, and pieces are thrown away by nobody
+LEFT_OUT = ("route", "abandon")
 LENGTH = 40  # events of a schedule, at most
 # kinds of events that cause lines which a pattern forbids, where nothing else causes them
 CAUSES = {
@@ -65,14 +66,14 @@ def pools(network: Network, texts: Sequence[Text] = (Text(),), links: Sequence[i
 
 def of_carrier(network: Network, flows: Sequence[Flow], places: int) -> dict[str, Iterable[Event]]:
     """What happens inside a network: each event of its carrier, by what its line names."""
-    imps = [it.number for it in network.imps]
+    imps, lines = [it.number for it in network.imps], range(len(network.lines))
     named: Mapping[str, Sequence[tuple[object, ...]]] = {
         "H": [(it,) for it in network.hosts()],
         "S D N": [(it,) for it in flows],
         "I": [(it,) for it in imps],
         "I J": [(a, b) for a in imps for b in imps if a != b],
         "I L": [(imp, line) for imp in imps for line in network.lines_of(imp)],
-        "L +|- K": [(line, way, place) for line in range(len(network.lines)) for way in "+-" for place in range(places)],
+        "L +|- K": [(line, way, place) for line in lines for way in "+-" for place in range(places)],
     }
     kinds = [it for it in (OF_CARRIERS if network.carrier == "subnet" else words_of("carrier")) if it not in LEFT_OUT]
     return {it: [EVENTS[it](*parts) for parts in named[WORDS[it].shape]] for it in kinds}

@@ -1,7 +1,7 @@
 """Lines of scripts: an independent reader of them.
 
-It was written from docs/program.md, but for which operands follow which word: that is in one table. `check model` and `check explain`
-use it.
+It was written from docs/program.md, but for which operands follow which word: that is in one table. `check model` and
+`check explain` use it.
 """
 
 from __future__ import annotations
@@ -22,11 +22,13 @@ FLOW = rf"{HOST} {HOST} {OCTET}"
 OCTETS = r"(-|(?:[0-9A-F][0-9A-F])+)"
 # how an operand is spelled; all others are numbers of 32 bits, but for those of SIZES
 SPELLED = {
-    "S": HOST, "D": HOST, "H": HOST, "P": HOST, "N": OCTET, "I": IMP, "J": IMP, "+|-": "([+-])", "OCTETS": OCTETS, "TEXT": "([ -~]*)",
+    "S": HOST, "D": HOST, "H": HOST, "P": HOST, "N": OCTET, "I": IMP, "J": IMP,
+    "+|-": "([+-])", "OCTETS": OCTETS, "TEXT": "([ -~]*)",
 }  # fmt: skip
 SIZES = {"SIZE": 8, "OCTET": 8, "FRACTION": 8, "MESSAGES": 16}
 FORMS = {
-    word: re.compile(" ".join([word, *(SPELLED.get(name, NUMBER) for name in it.operands)])) for word, it in EVENTS.items()
+    word: re.compile(" ".join([word, *(SPELLED.get(name, NUMBER) for name in it.operands)]))
+    for word, it in EVENTS.items()
 }
 OF_PROGRAM = {word: FORMS[word] for word in words_of("programs")}
 OF_SERVICES = ("server", "user", "type")

@@ -1,7 +1,8 @@
 /**
- * The events of scripts and the refusals of events, of which `./check docs --write` makes this table (python/workshop/documents/event_words.py).
- * After the word of an event come its operands; whether scripts of raw networks have it, of programs or of both, or it happens in every carrier
- * or in a subnet only; and the operand that says where it happens. After a refusal comes who refuses. What follows the name is JSON.
+ * The events of scripts and the refusals of events: a table that `./check docs --write` makes of the definitions
+ * (python/workshop/documents/event_words.py). After the word of an event come its operands; whether scripts of raw
+ * networks have it, of programs or of both, or it happens in every carrier or in a subnet only; and the operand that
+ * says where it happens. After a refusal comes who refuses. What follows the name is JSON.
  */
 export const TABLE = {
 "events": {

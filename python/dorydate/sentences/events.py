@@ -14,9 +14,10 @@ Of = Literal["raw", "every", "carrier", "subnet", "programs"]
 class Word:
     """The word with which an event's line begins.
 
-    `operands` are the words after it, by the names that docs/program.md gives them. `of` says whether the scripts of raw networks
-    have it, of programs or both; or that it happens in every carrier, or in a subnet only, whatever its hosts do. `at` is the operand
-    that says where it happens: the IMP or that of the host, the line, or the direction at whose end it does; empty for rounds.
+    `operands` are the words after it, by their names in the sentences. `of` says whether the scripts of raw networks
+    have it, of programs or both; or that it happens in every carrier, or in a subnet only, whatever its hosts do. `at`
+    is the operand that says where it happens: the IMP or that of the host, the line, or the direction at whose end it
+    does; empty for rounds.
     """
 
     word: str

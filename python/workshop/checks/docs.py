@@ -18,8 +18,8 @@ The drawings of docs/pictures, the page of crates, the page of what must be beli
 no text of a drawing over another one or over a line. Figures in prose have to be those of their tables (workshop.documents.figures), and each crate's octets of
 .antt within its budget, which a commit raises only with a line that says what for (workshop.documents.budget), and walks
 over the cases of an event, a request or a refusal only become fewer (workshop.documents.walks), as do clauses of over 200
-characters (workshop.documents.long_clauses). The table of events and refusals that Python and JavaScript read is made of the
-definitions, and nothing lists them once more (workshop.documents.event_words). No lemma
+characters (workshop.documents.long_clauses). The table of events and refusals that Python and JavaScript read is made
+of the definitions, and nothing lists them once more (workshop.documents.event_words). No lemma
 states what another lemma or one of std states, beyond those that do so already (workshop.documents.stated). Words of the house's dialect are counted against limits that can only fall
 (workshop.documents). With --write these and the page of planted bugs are made anew, and with --lower the limits are lowered to what is counted.
 With --tags a file `tags` is made, by which editors find where a name is declared. With --rule the rules in which all of the words occur are printed (without words an index of all), each with its definition, its functions, its rows and its planted bugs.
@@ -43,9 +43,9 @@ import unittest
 from collections.abc import Iterator
 
 from workshop.checks import release
-from workshop.documents import anchors, believed, budget, clauses, common, crates_page, dead, dialect, event_words, figures
-from workshop.documents import named_crates, notebook, paragraphs, planted, reference, rules, stated, tags, tests
-from workshop.documents import versions, walks
+from workshop.documents import anchors, believed, budget, clauses, common, crates_page, dead, dialect, event_words
+from workshop.documents import figures, named_crates, notebook, paragraphs, planted, reference, rules, stated, tags
+from workshop.documents import tests, versions, walks
 from workshop.drawings import pictures
 from workshop.parts import ROOT
 from workshop.rows import row_names

@@ -1,18 +1,19 @@
 """The table of events and refusals that Python and JavaScript read: python/dorydate/sentences/events.mjs.
 
-It is made from the definitions, so that an event is written down once: its word and its operands are those of its spelling,
-whether plain mailboxes have a part in it is in their refusals, and where it happens is the scope that traces give it. A refusal's
-name is the one that is printed. The order is that of docs/program.md, whose rows have to have the same words with as many
-operands, and the same names.
+It is made from the definitions, so that an event is written down once: its word and its operands are those of its
+spelling, whether plain mailboxes have a part in it is in their refusals, and where it happens is the scope that traces
+give it. A refusal's name is the one that is printed. The order is that of docs/program.md, whose rows have to have the
+same words with as many operands, and the same names.
 
-No source beside it may list them once more: six words of events that carriers have, or six names of refusals, in one list or
-set, or in one text with `|`, commas or spaces between, are refused. A dictionary may have a value for each.
+No source beside it may list them once more: six words of events that carriers have, or six names of refusals, in one
+list or set, or in one text with `|`, commas or spaces between, are refused. A dictionary may have a value for each.
 """
 
 from __future__ import annotations
 
 import ast
 import glob
+import itertools
 import json
 import os
 import re
@@ -32,13 +33,15 @@ ROW = re.compile(r"^\| ((?:`[a-z]+ [A-Z][^`]*`(?:, )?)+) \| .* \|$", re.MULTILIN
 NAMES = ("replay/specs/Output", "world_replay/specs/Printed")
 NAMED_REFUSAL = re.compile(r'^(\w+)_name (?:\w+\.)?\w+ = codes "([A-Z]\w+)"$', re.MULTILINE)
 ENDING = {"Stopped", "OutOfMemory"}  # names of what ends a run, which no event prints
-PART = re.compile(r"(host_text|flow_text|message_text|direction_text|octets_text|decimal) \(?(?:length )?(\w+)|\+\+ (text)\)")
+PART = re.compile(
+    r"(host_text|flow_text|message_text|direction_text|octets_text|decimal) \(?(?:length )?(\w+)|\+\+ (text)\)"
+)
 # the operands that a part is spelled by, and those of numbers and hosts by the names that the definitions give them
 OPERANDS = {"flow_text": "S D N", "message_text": "S D N BITS OCTETS", "direction_text": "+|-", "octets_text": "OCTETS"}
 NAMED = {
-    "h": "H", "peer": "P", "line": "L", "frame": "K", "imp": "I", "at": "I", "from": "J", "rounds": "ROUNDS", "octet": "OCTET",
-    "socket": "SOCKET", "listen": "SOCKET", "base": "SOCKET", "own": "OWN", "foreign": "FOREIGN", "size": "SIZE", "bits": "COUNT",
-    "text": "TEXT",
+    "h": "H", "peer": "P", "line": "L", "frame": "K", "imp": "I", "at": "I", "from": "J", "rounds": "ROUNDS",
+    "octet": "OCTET", "socket": "SOCKET", "listen": "SOCKET", "base": "SOCKET", "own": "OWN", "foreign": "FOREIGN",
+    "size": "SIZE", "bits": "COUNT", "text": "TEXT",
 }  # fmt: skip
 OF_WORDS = {
     "grant": {"messages": "MESSAGES", "bits": "ALLOWED"},
@@ -46,23 +49,26 @@ OF_WORDS = {
 }
 # where an event happens, by what its scope names: an operand whose IMP it is, or the line
 PLACES = {
-    "m.flow.source.imp": "S", "f.source.imp": "S", "f.destination.imp": "D", "h.imp": "H", "i": "I", "at": "I", "l": "L", "l d": "+|-",
+    "m.flow.source.imp": "S", "f.source.imp": "S", "f.destination.imp": "D", "h.imp": "H", "i": "I", "at": "I",
+    "l": "L", "l d": "+|-",
 }  # fmt: skip
 HEAD = """\
 /**
- * The events of scripts and the refusals of events, of which `./check docs --write` makes this table (python/workshop/documents/event_words.py).
- * After the word of an event come its operands; whether scripts of raw networks have it, of programs or of both, or it happens in every carrier
- * or in a subnet only; and the operand that says where it happens. After a refusal comes who refuses. What follows the name is JSON.
+ * The events of scripts and the refusals of events: a table that `./check docs --write` makes of the definitions
+ * (python/workshop/documents/event_words.py). After the word of an event come its operands; whether scripts of raw
+ * networks have it, of programs or of both, or it happens in every carrier or in a subnet only; and the operand that
+ * says where it happens. After a refusal comes who refuses. What follows the name is JSON.
  */
 export const TABLE = """
 
 
 LEAST = 6  # words that make a list
+SEPARATOR = ",\n"
 PLACES_OF_LISTS = ("python/dorydate/**/*.py", "python/workshop/**/*.py", "web/**/*.js", "web/**/*.mjs")
-NO_LISTS = ("/tests/", "/second/", "node_modules", "workshop/documents/tests.py")  # inputs of tests; the second reader reads the definitions
+# inputs of tests, and a reader of the definitions
+NO_LISTS = ("/tests/", "/second/", "node_modules", "workshop/documents/tests.py")
 LIST_OF_SCRIPT = re.compile(r"\[[^\[\]]*\]")  # of JavaScript
-TEXT_OF_SCRIPT = re.compile(r"'([^'\n]*)'|\"([^\"\n]*)\"|/((?:\w+\|)+\w+)/|\((?:\?:)?((?:\w+\|)+\w+)\)")
-BETWEEN = re.compile(r"\s*[|,\s]\s*")
+TEXT_OF_SCRIPT = re.compile(r"'([^'\n]*)'|\"([^\"\n]*)\"|((?:\w+\|)+\w+)")
 
 
 class Unlike(Exception):
@@ -145,12 +151,13 @@ def rows() -> list[Row]:
 
 
 def refusals() -> dict[str, str]:
-    """The refusals that are printed, in the page's order, each with who refuses: a carrier, or what asks a host's program."""
+    """The refusals that are printed, in the page's order, each with who refuses: a carrier, or a host's program."""
     found = {}
     for kind, name in (it for path in NAMES for it in NAMED_REFUSAL.findall(definition(path)) if it[1] not in ENDING):
         found[name] = "carrier" if kind == "fault" else "programs"
     _, _, page = text_of(PAGE).partition("\n| Name | Why |\n|---|---|\n")
-    names = [name for row in page.partition("\n\n")[0].splitlines() for name in re.findall(r"`(\w+)`", row.split("|")[1])]
+    rows = (row.split("|")[1] for row in page.partition("\n\n")[0].splitlines())
+    names = [name for row in rows for name in re.findall(r"`(\w+)`", row)]
     if unlike := {*found} ^ {*names}:
         raise Unlike(f"docs/program.md and the definitions don't have the same refusals: {', '.join(sorted(unlike))}")
     return {name: found[name] for name in names}
@@ -158,7 +165,8 @@ def refusals() -> dict[str, str]:
 
 def group(name: str, lines: Iterable[tuple[str, object]]) -> str:
     """A group of the table, a line for each name."""
-    return f"{json.dumps(name)}: {{\n" + ",\n".join(f"{json.dumps(it)}: {json.dumps(what)}" for it, what in lines) + "\n}"
+    spelled = (f"{json.dumps(it)}: {json.dumps(what)}" for it, what in lines)
+    return f"{json.dumps(name)}: {{\n{SEPARATOR.join(spelled)}\n}}"
 
 
 def made() -> str:
@@ -167,30 +175,39 @@ def made() -> str:
     return f"{HEAD}{{\n{events},\n{group('refusals', refusals().items())}\n}};\n"
 
 
-def texts_in(source: str) -> Iterator[list[str]]:
-    """The texts of each list, set and tuple of a source in Python, and each text as words by itself."""
+def in_a_row(text: str, known: Collection[str]) -> Iterator[set[str]]:
+    """The known words of a text that come one after another."""
+    for is_known, words in itertools.groupby(re.findall(r"\w+", text), known.__contains__):
+        if is_known:
+            yield set(words)
+
+
+def lists_in(source: str, known: Collection[str]) -> Iterator[set[str]]:
+    """The known words of each list, set, tuple, case and text of a source in Python."""
     for node in ast.walk(ast.parse(source)):
+        values: list[ast.expr] = []
         if isinstance(node, (ast.List, ast.Set, ast.Tuple)):
-            yield [it.value for it in node.elts if isinstance(it, ast.Constant) and isinstance(it.value, str)]
+            values = node.elts
         elif isinstance(node, ast.MatchOr):
-            values = (it.value for it in node.patterns if isinstance(it, ast.MatchValue))
-            yield [it.value for it in values if isinstance(it, ast.Constant) and isinstance(it.value, str)]
+            values = [it.value for it in node.patterns if isinstance(it, ast.MatchValue)]
         elif isinstance(node, ast.Constant) and isinstance(node.value, str):
-            yield BETWEEN.split(node.value.strip("()"))
+            yield from in_a_row(node.value, known)
+        yield {it.value for it in values if isinstance(it, ast.Constant) and it.value in known}
 
 
-def texts_of_script(source: str) -> Iterator[list[str]]:
-    """The texts of each list of a source in JavaScript, and each text and each choice of a pattern as words."""
+def lists_of_script(source: str, known: Collection[str]) -> Iterator[set[str]]:
+    """The known words of each list, text and choice of a pattern of a source in JavaScript."""
     for found in LIST_OF_SCRIPT.findall(source):
-        yield re.findall(r"[\"'](\w+)[\"']", found)
+        yield {it for it in re.findall(r"[\"'](\w+)[\"']", found) if it in known}
     for parts in TEXT_OF_SCRIPT.findall(source):
-        yield BETWEEN.split("".join(parts))
+        yield from in_a_row("".join(parts), known)
 
 
 def listed_in(path: str, source: str, known: Iterable[Collection[str]]) -> list[str]:
     """The words of each group that a source lists once more."""
-    lists = [set(it) for it in (texts_in if path.endswith(".py") else texts_of_script)(source)]
-    return [", ".join(sorted(it.intersection(words))) for words in known for it in lists if len(it.intersection(words)) >= LEAST]
+    lists = lists_in if path.endswith(".py") else lists_of_script
+    found = (it for words in known for it in lists(source, words))
+    return [", ".join(sorted(it)) for it in found if len(it) >= LEAST]
 
 
 def second_lists() -> Iterator[str]:
@@ -205,7 +222,8 @@ def second_lists() -> Iterator[str]:
 def faults() -> list[str]:
     """What isn't as it is made, and what is listed once more."""
     try:
-        stale = [] if text_of(TABLE) == made() else ["python/dorydate/sentences/events.mjs isn't as `./check docs --write` makes it"]
+        is_made = text_of(TABLE) == made()
+        stale = [] if is_made else [f"{os.path.relpath(TABLE, ROOT)} isn't as `./check docs --write` makes it"]
         return [*stale, *second_lists()]
     except Unlike as why:
         return [str(why)]

@@ -10,7 +10,7 @@ import unittest
 from unittest import mock
 
 from workshop.documents import anchors, believed, believed_words, budget, clauses, common, crates_page, dead, dialect, walks
-from workshop.documents import figures, long_clauses, named_crates, paragraphs, rules, stated, tags
+from workshop.documents import event_words, figures, long_clauses, named_crates, paragraphs, rules, stated, tags
 from workshop.drawings import facts, formats, hosts, network, pictures, repository
 from workshop.drawings.svg import Drawing
 from workshop.parts import ROOT
@@ -383,6 +383,50 @@ class Walks(unittest.TestCase):
         self.assertEqual([*walks.unnamed("Request", {"one"}, row)], ["CONTRIBUTING.md has no row of `Request`"])
         paths = f"{ROOT}/crates/one/src/a.rt", f"{ROOT}/crates/one/specs/b.antt"
         self.assertEqual(walks.walked_crates(paths), {"one"})
+
+
+class EventWords(unittest.TestCase):
+    KNOWN = [event_words.rows()[at].word for at in range(2, 10)]  # of carriers
+
+    def listed(self, path: str, source: str) -> int:
+        return len(event_words.listed_in(path, source, [self.KNOWN]))
+
+    def test_six_words_in_one_list_are_named(self) -> None:
+        six, five = self.KNOWN[:6], self.KNOWN[:5]
+        for many, words in ((1, six), (0, five), (0, [*five, "other"]), (0, [*five, *five])):
+            self.assertEqual(self.listed("a.py", f"WORDS = {words!r}"), many)
+            self.assertEqual(self.listed("a.py", f"WORDS = {set(words)!r}"), many)
+            self.assertEqual(self.listed("a.py", f"WORDS = re.compile('({'|'.join(words)}) x')"), many)
+            self.assertEqual(self.listed("a.py", f"WORDS = '{' '.join(words)}'.split()"), many)
+            self.assertEqual(self.listed("a.js", f"const WORDS = {words!r};"), many)
+            self.assertEqual(self.listed("a.js", f"const WORDS = /^(?:{'|'.join(words)})$/;"), many)
+            self.assertEqual(self.listed("a.js", f'const WORDS = "{" ".join(words)}".split(" ");'), many)
+
+    def test_six_cases_of_a_match_are_named(self) -> None:
+        cases = " | ".join(f'"{it}"' for it in self.KNOWN)
+        self.assertEqual(self.listed("a.py", f"match kind:\n    case {cases}:\n        pass"), 1)
+
+    def test_a_value_for_each_is_no_list(self) -> None:
+        self.assertEqual(self.listed("a.py", f"WEIGHTS = {dict.fromkeys(self.KNOWN, 1)!r}"), 0)
+        pairs = ", ".join(f"{it}: 1" for it in self.KNOWN)
+        self.assertEqual(self.listed("a.js", f"const WEIGHTS = {{ {pairs} }};"), 0)
+
+    def test_a_page_with_other_words_or_operands_is_named(self) -> None:
+        page = event_words.text_of(event_words.PAGE)
+        for was, now in (("`ask S D N`", "`ask S D`"), ("`resend I`, ", ""), ("| `NoRoom` |", "| `NoPlace` |")):
+            self.assertIn(was, page)
+            with mock.patch.object(event_words, "text_of", lambda path, was=was, now=now: wrong(path, was, now)):
+                self.assertEqual(len(event_words.faults()), 1)
+
+    def test_a_spelling_with_an_operand_that_is_not_known_is_named(self) -> None:
+        with self.assertRaises(event_words.Unlike):
+            event_words.operands_of("resend", "decimal number")
+
+
+def wrong(path: str, was: str, now: str) -> str:
+    """A source, the page with another text in one place."""
+    with open(path, encoding="utf-8") as file:
+        return file.read().replace(was, now) if path == event_words.PAGE else file.read()
 
 
 class Dead(unittest.TestCase):

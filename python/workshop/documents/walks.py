@@ -82,7 +82,8 @@ def cases_of(name: str, text: str, own: str = "") -> Cases:
 
 def own_refusals() -> list[str]:
     """The refusals of carriers whose names mean nothing else."""
-    return [name for name, who in event_words.refusals().items() if who == "carrier" and name not in ("NoSuch", "Blocked")]
+    carriers = [name for name, who in event_words.refusals().items() if who == "carrier"]
+    return [name for name in carriers if name not in ("NoSuch", "Blocked")]
 
 
 @cache
