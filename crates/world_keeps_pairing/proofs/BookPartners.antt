@@ -102,11 +102,11 @@ module _ (hosts : Network) (moments : List Moment) (story : IsStory hosts moment
 
   owns : (h p : Host) → AreOurs hosts h p → (own foreign : ℕ) → OwnOnce (openings h p own foreign moments)
   owns h p ours own foreign =
-      by_sockets OwnOnce h p own foreign moments (λ q. (safe h p ours (record { receive = own; send = foreign })).own_once.0) (λ q. (safe p h (ours.1, ours.0) (record { receive = foreign; send = own })).own_once.1) (λ u. tt)
+      by_sockets OwnOnce h p own foreign moments (λ q. (safe h p ours _).own_once.0) (λ q. (safe p h (ours.1, ours.0) _).own_once.1) (λ u. tt)
 
   takes : (h p : Host) → AreOurs hosts h p → (own foreign : ℕ) → PartnerOnce (openings h p own foreign moments)
   takes h p ours own foreign =
-      by_sockets PartnerOnce h p own foreign moments (λ q. (safe h p ours (record { receive = own; send = foreign })).partner_once.0) (λ q. (safe p h (ours.1, ours.0) (record { receive = foreign; send = own })).partner_once.1) (λ u. tt)
+      by_sockets PartnerOnce h p own foreign moments (λ q. (safe h p ours _).partner_once.0) (λ q. (safe p h (ours.1, ours.0) _).partner_once.1) (λ u. tt)
 
   no_both : (n : ℕ) → is_receive_socket n ≡ true → is_send_socket n ≡ true → (P : Type 0) → P
   no_both n e o P = absurd (even_odd n e o)
@@ -191,13 +191,13 @@ module _ (hosts : Network) (moments : List Moment) (story : IsStory hosts moment
   -- its partner's request went out too
   partner_out : (x : book.Life) → AreOurs hosts x.host x.peer → Contains (mixed_kept hosts.strange moments).book.lives x → IsSome (last_out (control_flow x.peer x.host) (before x.partner_stamp (crossings_of moments)))
   partner_out x ours c =
-      some_place (last_out (control_flow x.peer x.host) (before x.partner_stamp (crossings_of moments)))
+      some_place _
       (ap (λ (l : Life). l.partner)
-      (one_own (life_of (origin_or 0 (crossings_of moments) x.host x.peer) x) (life_of (origin_or 1 (crossings_of moments) x.host x.peer) x) (openings x.host x.peer x.socket x.foreign moments)
+      (one_own _ _ _
       (owns x.host x.peer ours x.socket x.foreign) (life_in 0 x ours c) (life_in 1 x ours c) refl))
 
   pub partner_named : (x : book.Life) → AreOurs hosts x.host x.peer → Contains (mixed_kept hosts.strange moments).book.lives x → IsSome (partner_request (crossings_of moments) x)
-  partner_named x ours c = some_name x (last_out (control_flow x.peer x.host) (before x.partner_stamp (crossings_of moments))) (partner_out x ours c)
+  partner_named x ours c = some_name x _ (partner_out x ours c)
 
   -- and it went out of the host of the life whose own it is
   peers_there : (x y : book.Life) → AreOurs hosts x.host x.peer → AreOurs hosts y.host y.peer → Contains (mixed_kept hosts.strange moments).book.lives x → Contains (mixed_kept hosts.strange moments).book.lives y → partner_request (crossings_of moments) x ≡ Some (own_request y) → (x.peer ≡ y.host) × (y.peer ≡ x.host)

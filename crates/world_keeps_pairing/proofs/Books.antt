@@ -60,32 +60,32 @@ module _ (origin : ℕ → ℕ) (h p : Host) (own foreign : ℕ) where
 
   notice_lives : (g : Host) (n : Notice) (xs : List book.Life) → Here (lives_told g n xs) ≡ (if same_host h g then of_peer n (Here xs) else Here xs)
   notice_lives g (notice.Opened socket peer other asked partner) xs =
-      lives_append xs (new_life g socket peer other asked partner) []
-      ∙ if_both (same_host h g) (same_host p peer && (socket == own && other == foreign)) (record { own = asked; partner = origin partner }) (Here xs)
-  notice_lives g (notice.Ended socket peer other) xs = where_same (lives_between g socket peer other) life_ended (λ x told. refl) xs [] ∙ if_same (same_host h g) (Here xs)
-  notice_lives g (notice.PairReset peer) xs = where_same (lives_with g peer) life_ended (λ x told. refl) xs [] ∙ if_same (same_host h g) (Here xs)
-  notice_lives g (notice.Sent socket bits) xs = where_same (lives_at g socket) (carried bits) (λ x told. refl) xs [] ∙ if_same (same_host h g) (Here xs)
-  notice_lives g (notice.Arrived socket bits) xs = where_same (lives_at g socket) (carried bits) (λ x told. refl) xs [] ∙ if_same (same_host h g) (Here xs)
-  notice_lives g (notice.Returned socket messages bits) xs = where_same (lives_at g socket) (returned messages bits) (λ x told. refl) xs [] ∙ if_same (same_host h g) (Here xs)
-  notice_lives g n xs = if_same (same_host h g) (Here xs)
+      lives_append xs _ []
+      ∙ if_both _ _ _ (Here xs)
+  notice_lives g (notice.Ended socket peer other) xs = where_same _ life_ended (λ x told. refl) xs [] ∙ if_same _ (Here xs)
+  notice_lives g (notice.PairReset peer) xs = where_same _ life_ended (λ x told. refl) xs [] ∙ if_same _ (Here xs)
+  notice_lives g (notice.Sent socket bits) xs = where_same _ _ (λ x told. refl) xs [] ∙ if_same _ (Here xs)
+  notice_lives g (notice.Arrived socket bits) xs = where_same _ _ (λ x told. refl) xs [] ∙ if_same _ (Here xs)
+  notice_lives g (notice.Returned socket messages bits) xs = where_same _ _ (λ x told. refl) xs [] ∙ if_same _ (Here xs)
+  notice_lives g n xs = if_same _ (Here xs)
 
   told_on : (b : Bool) (n : Notice) (ns : List Notice) (new old : List Life) → new ≡ (if b then of_peer n old else old) → (if b then all_of_peer ns new else new) ≡ (if b then all_of_peer (n ∷ ns) old else old)
   told_on true n ns new old e = ap (all_of_peer ns) e
   told_on false n ns new old e = e
 
   told_lives : (g : Host) (ns : List Notice) (k : Kept) → Here (all_told g ns k).book.lives ≡ (if same_host h g then all_of_peer ns (Here k.book.lives) else Here k.book.lives)
-  told_lives g [] k = if_same (same_host h g) (Here k.book.lives)
+  told_lives g [] k = if_same _ _
   told_lives g (n ∷ ns) k =
-      told_lives g ns (book_told g n k) ∙ told_on (same_host h g) n ns (Here (lives_told g n k.book.lives)) (Here k.book.lives) (notice_lives g n k.book.lives)
+      told_lives g ns (book_told g n k) ∙ told_on _ n ns _ _ (notice_lives g n k.book.lives)
 
   -- ---- a moment
 
   crossed_same : (c : Crossing) (xs : List book.Life) → Here (lives_crossed c xs) ≡ Here xs
-  crossed_same (crossing.Down g) xs = where_same (lives_on g) life_ended (λ x told. refl) xs []
+  crossed_same (crossing.Down g) xs = where_same _ life_ended (λ x told. refl) xs []
   crossed_same c xs = refl
 
   asked_same : (g : Host) (r : Request) (xs : List book.Life) → Here (lives_asked g r xs) ≡ Here xs
-  asked_same g (request.Grant socket messages bits) xs = where_same (lives_at g socket) (granted messages bits) (λ x told. refl) xs []
+  asked_same g (request.Grant socket messages bits) xs = where_same _ _ (λ x told. refl) xs []
   asked_same g r xs = refl
 
   by_same : (x : Moment) (k : Kept) → Here (kept_by x k).book.lives ≡ Here k.book.lives
@@ -151,5 +151,5 @@ module _ (origin : ℕ → ℕ) (h p : Host) (own foreign : ℕ) where
   -- what a user asks for reports none
   pub asked_none : (s : NcpState) (r : Request) (told : List Life) → all_of_peer (served_notices s r) told ≡ told
   unfolding served_notices
-  asked_none s (request.Contact peer) told = contact_none peer (is_ready (pair_with peer s.peers).phase) told
+  asked_none s (request.Contact peer) told = contact_none peer _ told
   asked_none s r told = refl

@@ -44,10 +44,10 @@ word_of t link p = record { sockets = t; link = link; mark = Ask p }
 
 among_below : (t : Sockets) (xs : List Step) → AreSteps xs → (link q : ℕ) → IsAmong (record { sockets = t; link = link; mark = Ask q }) (said_words Receiver xs) → q < (receiver t xs).next
 among_below t xs r link q i =
-    let a : (k : ℕ) × Asks k q (at t (said_words Receiver xs)) = among_asks t link q (said_words Receiver xs) i in
+    let a : (k : ℕ) × Asks k q (at t (said_words Receiver xs)) = among_asks t link q _ i in
     let h : BothSeen t xs = seen t xs in
     let j : Joined (receiver t xs) (sender t xs) = joined_at t xs r in
-    below_asks a.0 (receiver t xs).next q (receiver t xs).said j.here.below (subst (λ (z : List Mark). Asks a.0 q z) (sym h.receiver.said) a.1)
+    below_asks a.0 _ q (receiver t xs).said j.here.below (subst (λ (z : List Mark). Asks a.0 q z) (sym h.receiver.said) a.1)
 
 -- ---- what an end asked for, it claimed last
 
@@ -84,7 +84,7 @@ says_last t w xs r p link k true e (Ask q) f asked among =
     let is : t ≡ w.sockets = same_is t w.sockets e in
     let same_place : q ≡ p = same_Some q p asked in
     let found : last_link t (claimed (Ask q) w.sockets w.link (said_claims xs)) ≡ Some w.link = rw e refl in
-    elim (in_if (stays Receiver xs) w (record { sockets = t; link = link; mark = Ask p }) (said_words Receiver xs) among) [
+    elim (in_if (stays Receiver xs) w _ _ among) [
       | inl i ↦ found ∙ ap (λ (v : Word). Some v.link) (sym i)
       | inr i ↦
           (let low : p < (receiver t xs).next = among_below t xs r.1 link p i in
@@ -92,13 +92,13 @@ says_last t w xs r p link k true e (Ask q) f asked among =
           absurd (omega (arith, low, later, same_place)))
     ]
 says_last t w xs r p link k true e Close f asked among =
-    elim (in_if (stays Receiver xs) w (record { sockets = t; link = link; mark = Ask p }) (said_words Receiver xs) among) [
+    elim (in_if (stays Receiver xs) w _ _ among) [
       | inl i ↦ absurd (let both : Ask p ≡ Close = ap (λ (v : Word). v.mark) i ∙ f in cc)
       | inr i ↦ k (gone_asked Close (receiver t xs).end p (λ q is. (let both : Close ≡ Ask q = is in absurd (cc))) asked, i)
     ]
 says_last t w xs r p link k false e m f asked among =
     let skip : last_link t (claimed m w.sockets w.link (said_claims xs)) ≡ last_link t (said_claims xs) = skipped m in
-    elim (in_if (stays Receiver xs) w (record { sockets = t; link = link; mark = Ask p }) (said_words Receiver xs) among) [
+    elim (in_if (stays Receiver xs) w _ _ among) [
       | inl i ↦ absurd (let both : true ≡ false = sym (same_self t) ∙ ap (λ (v : Word). same t v.sockets) i ∙ e in cc)
       | inr i ↦ skip ∙ k (asked, i)
     ] where
@@ -107,7 +107,7 @@ says_last t w xs r p link k false e m f asked among =
       skipped Close = refl
 
 hears_asked : (b : Bool) (m : Mark) (es : List sides.Event) (p : ℕ) → (sides.both (with_event (links.when b (One (sides.Hear m))) es)).one.end.asked ≡ Some p → (sides.both es).one.end.asked ≡ Some p
-hears_asked true m es p e = taken_asked m (sides.both es).one.end p (fits m (sides.both es).one.end) e
+hears_asked true m es p e = taken_asked m _ p _ e
 hears_asked false m es p e = e
 
 other_asked : (b : Bool) (move : sides.Move) (es : List sides.Event) (p : ℕ) → (sides.both (with_event (links.when b (Two move)) es)).one.end.asked ≡ Some p → (sides.both es).one.end.asked ≡ Some p
@@ -168,7 +168,7 @@ heard_among t w xs r p link k false e m f fit partner last = inr (k (partner, sk
   skipped Close h = h
 
 says_partner : (b : Bool) (m : Mark) (es : List sides.Event) (p : ℕ) → (sides.both (with_event (links.when b (Two (Say m))) es)).two.end.partner ≡ Some p → (sides.both es).two.end.partner ≡ Some p
-says_partner true m es p e = gone_partner m (sides.both es).two.end p e
+says_partner true m es p e = gone_partner m _ p e
 says_partner false m es p e = e
 
 other_partner : (b : Bool) (move : sides.Move) (es : List sides.Event) (p : ℕ) → (sides.both (with_event (links.when b (One move)) es)).two.end.partner ≡ Some p → (sides.both es).two.end.partner ≡ Some p
@@ -178,7 +178,7 @@ other_partner false move es p e = e
 fits_here : (t : Sockets) (w : Word) (xs : List Step) → AreSteps (Hears Sender w ∷ xs) → (b : Bool) → same t w.sockets ≡ b → (fits w.mark (sender t xs).end ≡ true) ⊎ (b ≡ false)
 fits_here t w xs r true e =
     let run : sides.IsRun (with_event (links.when true (Two (sides.Hear w.mark))) (events_at t xs)) = subst (λ (b : Bool). sides.IsRun (with_event (links.when b (Two (sides.Hear w.mark))) (events_at t xs))) e (run_at t (Hears Sender w ∷ xs) r) in
-    inl (joined_fits w.mark (sides.both (events_at t xs)).two (sides.both (events_at t xs)).one (turned (sides.both (events_at t xs)).one (sides.both (events_at t xs)).two (joined_run (events_at t xs) run.1)) run.0)
+    inl (joined_fits w.mark _ _ (turned _ _ (joined_run _ run.1)) run.0)
 fits_here t w xs r false e = inr refl
 
 pub partner_among : (t : Sockets) (xs : List Step) → AreSteps xs → (p link : ℕ) → Heard t p link xs → Among t p link xs

@@ -22,9 +22,9 @@ older_older xs ys zs h k = (k.0 ++ h.0, k.1 ∙ ap (λ (l : List Word). k.0 ++ l
 
 front_words : (who : Who) (xs ys : List (List Bool)) → stay.IsPrefix xs ys → AreOlder (onto (words_of who xs) []) (onto (words_of who ys) [])
 front_words who xs ys f =
-    let above : AreOlder (onto (words_of who xs) []) (onto (words_of who f.0) (onto (words_of who xs) [])) = onto_above (words_of who f.0) (onto (words_of who xs) []) in
+    let above : AreOlder (onto (words_of who xs) []) (onto (words_of who f.0) (onto (words_of who xs) [])) = onto_above (words_of who f.0) _ in
     let is : onto (words_of who ys) [] ≡ onto (words_of who f.0) (onto (words_of who xs) []) =
-    ap (λ (l : List (List Bool)). onto (words_of who l) []) (sym f.1) ∙ ap (λ (l : List Word). onto l []) (words_join who xs f.0) ∙ onto_join (words_of who xs) (words_of who f.0) [] in
+    ap (λ (l : List (List Bool)). onto (words_of who l) []) (sym f.1) ∙ ap (λ (l : List Word). onto l []) (words_join who xs f.0) ∙ onto_join (words_of who xs) _ [] in
     (above.0, is ∙ above.1)
 
 -- ---- hearing
@@ -33,13 +33,13 @@ receiver_may : (ws : List Word) (xs : List Step) → AreSteps xs → stays Recei
 receiver_may [] xs h stay older = h
 receiver_may (w ∷ ws) xs h stay older =
     receiver_may ws (Hears Receiver w ∷ xs)
-    ((stay, older_older (w ∷ heard_words Receiver xs) (onto ws (w ∷ heard_words Receiver xs)) (said_words Sender xs) (onto_above ws (w ∷ heard_words Receiver xs)) older), h) stay older
+    ((stay, older_older _ _ _ (onto_above ws _) older), h) stay older
 
 sender_may : (ws : List Word) (xs : List Step) → AreSteps xs → stays Sender xs ≡ true → AreOlder (onto ws (heard_words Sender xs)) (said_words Receiver xs) → AreSteps (all_heard Sender ws xs)
 sender_may [] xs h stay older = h
 sender_may (w ∷ ws) xs h stay older =
     sender_may ws (Hears Sender w ∷ xs)
-    ((stay, older_older (w ∷ heard_words Sender xs) (onto ws (w ∷ heard_words Sender xs)) (said_words Receiver xs) (onto_above ws (w ∷ heard_words Sender xs)) older), h) stay older
+    ((stay, older_older _ _ _ (onto_above ws _) older), h) stay older
 
 receiver_may_if : (b : Bool) (ws : List Word) (xs : List Step) → AreSteps xs → (b ≡ true → (stays Receiver xs ≡ true) × AreOlder (onto ws (heard_words Receiver xs)) (said_words Sender xs)) → AreSteps (heard_in b Receiver ws xs)
 receiver_may_if true ws xs h k = receiver_may ws xs h (k refl).0 (k refl).1
@@ -86,7 +86,7 @@ spoken_view a b e v = record v {
 }
 
 spoken_is : (a b : Host) (e : Event) (events : List Event) → view (spoken_by a b e (steps a b events)) ≡ spoken_view a b e (lawful a b events)
-spoken_is a b e events = after_said a b e (steps a b events) ∙ ap (spoken_view a b e) (same_view a b events)
+spoken_is a b e events = after_said a b e _ ∙ ap (spoken_view a b e) (same_view a b events)
 
 older_as : (ws xs ys zs vs : List Word) → xs ≡ ys → zs ≡ vs → AreOlder (onto ws ys) vs → AreOlder (onto ws xs) zs
 older_as ws xs ys zs vs e f h = rw (e, f) h

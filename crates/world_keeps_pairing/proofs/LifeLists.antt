@@ -84,7 +84,7 @@ module _ (origin : ℕ → ℕ) (h p : Host) (own foreign : ℕ) where
   in_at : (x : book.Life) (k : ℕ) (xs : List book.Life) (told : List Life) → k < length xs → get_or xs k x ≡ x → is_between h p own foreign x ≡ true → IsIn (life_of origin x) (with_lives origin h p own foreign xs told)
   in_at x k [] told lt e b = absurd (omega (arith, lt))
   in_at x zero (y ∷ xs) told lt e b =
-      in_more (life_of origin x) xs (with_life origin h p own foreign y told)
+      in_more _ xs _
       (subst (λ (v : book.Life). IsIn (life_of origin x) (with_life origin h p own foreign v told)) (sym e)
       (subst (λ (l : List Life). IsIn (life_of origin x) l) (sym (with_it x told b)) (inl refl)))
   in_at x (suc k) (y ∷ xs) told lt e b = in_at x k xs (with_life origin h p own foreign y told) (omega (arith, lt)) e b
@@ -126,13 +126,13 @@ module _ (origin : ℕ → ℕ) (h p : Host) (own foreign : ℕ) where
         let parts : xs ≡ (two.0 ++ x ∷ two.1) ++ y ∷ two.2 = two.3 in
         let told : with_lives origin h p own foreign xs [] ≡ with_lives origin h p own foreign two.2 (life_of origin y ∷ with_lives origin h p own foreign two.1 (life_of origin x ∷ with_lives origin h p own foreign two.0 [])) =
         ap (λ (l : List book.Life). with_lives origin h p own foreign l []) two.3
-        ∙ lives_join (two.0 ++ x ∷ two.1) (y ∷ two.2) []
-        ∙ ap (λ (l : List Life). with_lives origin h p own foreign two.2 (with_life origin h p own foreign y l)) (lives_join two.0 (x ∷ two.1) [])
+        ∙ lives_join (two.0 ++ x ∷ two.1) _ []
+        ∙ ap (λ (l : List Life). with_lives origin h p own foreign two.2 (with_life origin h p own foreign y l)) (lives_join two.0 _ [])
         ∙ ap (λ (l : List Life). with_lives origin h p own foreign two.2 (with_life origin h p own foreign y (with_lives origin h p own foreign two.1 l))) (with_it x older bx)
-        ∙ ap (λ (l : List Life). with_lives origin h p own foreign two.2 l) (with_it y (with_lives origin h p own foreign two.1 (life_of origin x ∷ older)) by) in
+        ∙ ap (λ (l : List Life). with_lives origin h p own foreign two.2 l) (with_it y _ by) in
         let upper : IsOnce key (life_of origin y ∷ with_lives origin h p own foreign two.1 (life_of origin x ∷ older)) =
-        once_under two.2 (life_of origin y ∷ with_lives origin h p own foreign two.1 (life_of origin x ∷ older)) (subst (λ (l : List Life). IsOnce key l) told once) in
-        (none_under (key (life_of origin y)) two.1 (life_of origin x ∷ older) upper.0).0 same
+        once_under two.2 _ (subst (λ (l : List Life). IsOnce key l) told once) in
+        (none_under _ two.1 _ upper.0).0 same
 
 -- ---- the lives that are between hosts with programs, in the order of the book
 
@@ -196,6 +196,6 @@ module _ (hosts : Network) where
   -- and two of them are two of the book
   pub two_in_book : (lives : List book.Life) (x y : book.Life) → AreTwo (lives_among hosts.strange lives) x y → AreTwo lives x y
   two_in_book lives x y two =
-      let s : Split hosts lives (two.1 ++ y ∷ two.2) x = split lives two.0 (two.1 ++ y ∷ two.2) x (two.3 ∙ append_assoc two.0 (x ∷ two.1) (y ∷ two.2)) in
+      let s : Split hosts lives (two.1 ++ y ∷ two.2) x = split lives two.0 _ x (two.3 ∙ append_assoc two.0 (x ∷ two.1) (y ∷ two.2)) in
       let t : Split hosts s.back two.2 y = split s.back two.1 two.2 y s.later in
       (s.front, t.front, t.back, s.is ∙ ap (λ (l : List book.Life). s.front ++ x ∷ l) t.is ∙ sym (append_assoc s.front (x ∷ t.front) (y ∷ t.back)))

@@ -40,7 +40,7 @@ module _ (said taken : List Claim) where
   queued_links c q mute h = subst (λ (claims : List Claim). Links claims taken q.entries) (sym (claims_join q.queue (c ∷ []) said ∙ mute (all_claims q.queue said))) h
 
   end_links : (socket : ℕ) (change : Entry → Entry) (q : PairState) → ((e : Entry) → IsQuiet e (change e)) → LinksOf said taken q → LinksOf said taken (with_end socket change q)
-  end_links socket change q quiet h = links_changed (all_claims q.queue said) taken (is_mine_on socket) change q.entries quiet h
+  end_links socket change q quiet h = links_changed (all_claims q.queue said) taken _ change q.entries quiet h
 
   closed_links : (socket : ℕ) (q : PairState) → LinksOf said taken q → LinksOf said taken (closed_end socket q)
   closed_links socket q h =
@@ -48,13 +48,13 @@ module _ (said taken : List Claim) where
 
   sender_links : (a b size : ℕ) (q : PairState) → is_send_socket a ≡ true → LinksOf said taken q → LinksOf said taken (requested (sending_end a b size) (command.Str a b size) q)
   sender_links a b size q odd h =
-      subst (λ (claims : List Claim). Links claims taken (q.entries ++ sending_end a b size ∷ [])) (sym (claims_join q.queue (command.Str a b size ∷ []) said))
-      (links_joined (all_claims q.queue said) taken (sending_end a b size) q.entries (λ l on. absurd (and_never (not (is_receive_socket a)) on)) (λ even mine. absurd (let no : true ≡ false = sym even ∙ send_odd a odd in cc)) (λ asked. refl)
-      (λ l on. absurd (and_never (is_receive_socket a) on)) h)
+      subst (λ (claims : List Claim). Links claims taken (q.entries ++ sending_end a b size ∷ [])) (sym (claims_join q.queue _ said))
+      (links_joined (all_claims q.queue said) taken _ q.entries (λ l on. absurd (and_never _ on)) (λ even mine. absurd (let no : true ≡ false = sym even ∙ send_odd a odd in cc)) (λ asked. refl)
+      (λ l on. absurd (and_never _ on)) h)
 
   receiver_links : (a b : ℕ) (l : Option ℕ) (q : PairState) → is_receive_socket a ≡ true → is_send_socket b ≡ true → free_link q.entries ≡ l → entry_at a b q.entries ≡ None → LinksOf said taken q → LinksOf said taken (receiver_requested a b l q)
   receiver_links a b None q even odd free none h = h
-  receiver_links a b (Some link) q even odd free none h = receiver_joined said taken a b link (receiving_end a b link) q.queue q.entries even odd refl refl refl refl free none h
+  receiver_links a b (Some link) q even odd free none h = receiver_joined said taken a b link _ q.queue q.entries even odd refl refl refl refl free none h
 
   owner_links : (s : NcpState) (o : Option (Host × Entry)) (change : Entry → PairState → PairState) (h : Host) → ((e : Entry) (q : PairState) → LinksOf said taken q → LinksOf said taken (change e q))
       → LinksOf said taken (pair_with h s.peers) → LinksOf said taken (pair_with h (at_owner s o change).peers)
@@ -63,10 +63,10 @@ module _ (said taken : List Claim) where
 
   close_links : (s : NcpState) (socket : ℕ) (h : Host) → LinksOf said taken (pair_with h s.peers) → (b : Bool) → listens_on socket s.listening ≡ b → LinksOf said taken (pair_with h (closed_socket s socket).peers)
   close_links s socket h k true e = rw e k
-  close_links s socket h k false e = rw e (owner_links s (owner_of socket s.peers) (λ y. closed_end socket) h (λ y q. closed_links socket q) k)
+  close_links s socket h k false e = rw e (owner_links s (owner_of socket s.peers) _ h (λ y q. closed_links socket q) k)
 
   untaken : (s : NcpState) (peer : Host) (a b : ℕ) → is_taken s peer a b ≡ false → entry_at a b (pair_with peer s.peers).entries ≡ None
-  untaken s peer a b e = none_is (entry_at a b (pair_with peer s.peers).entries) (or_false (is_used s a) (is_some (entry_at a b (pair_with peer s.peers).entries)) e).1
+  untaken s peer a b e = none_is _ (or_false (is_used s a) _ e).1
 
   mute_interrupt : (e : Entry) (claims : List Claim) → claim_of (interrupt_of e) claims ≡ claims
   mute_interrupt e claims = by (is_receiving e) where
@@ -117,8 +117,8 @@ module _ (said taken : List Claim) where
     by false = settled_links t h
 
   answered_links : (peer : Host) (kind : Answer) (link : ℕ) (t : TurnState) → LinksOf said taken t.pair → LinksOf said taken (answered_turn peer kind link t).pair
-  answered_links peer answer.Rfnm link t h = linked_settled said taken (freed link t.pair).busy (desk_of (freed link t.pair) t.listening) h
-  answered_links peer kind link t h = failed_links peer (record t { pair = freed link t.pair }) h
+  answered_links peer answer.Rfnm link t h = linked_settled said taken _ (desk_of (freed link t.pair) t.listening) h
+  answered_links peer kind link t h = failed_links peer _ h
 
   answer_by : (s : NcpState) (kind : Answer) (f : Flow) (h : Host) → LinksOf said taken (pair_with h s.peers) → (b c : Bool) → same_host s.own f.source ≡ b → is_busy (pair_with f.destination s.peers).busy f.link.0 ≡ c
       → LinksOf said taken (pair_with h (accepted_answer s kind f).0.peers)
@@ -129,4 +129,4 @@ module _ (said taken : List Claim) where
 
   pub answer_links : (s : NcpState) (kind : Answer) (f : Flow) (stamp : ℕ) (h : Host) → LinksOf said taken (pair_with h s.peers) → LinksOf said taken (pair_with h (accepted s (inbound.Answer kind f) stamp).0.peers)
   unfolding accepted
-  answer_links s kind f stamp h k = answer_by s kind f h k (same_host s.own f.source) (is_busy (pair_with f.destination s.peers).busy f.link.0) refl refl
+  answer_links s kind f stamp h k = answer_by s kind f h k _ _ refl refl

@@ -39,14 +39,14 @@ find_some test (y ∷ xs) x e = by (test y) refl (λ k. find_some test xs x k) w
   by false t rest = rest (rw t at e)
 
 free_is : (es : List Entry) (link : ℕ) → free_link es ≡ Some link → list_any (receives_on link) es ≡ false
-free_is es link e = not_true (list_any (receives_on link) es) (find_some (λ l. not (list_any (receives_on l) es)) connection_links link e)
+free_is es link e = not_true _ (find_some (λ l. not (list_any (receives_on l) es)) connection_links link e)
 
 module _ (said taken_claims : List Claim) where
   linked_queued : (c : Command) (d : DeskState) → ((claims : List Claim) → claim_of c claims ≡ claims) → Linked said taken_claims d → Linked said taken_claims (command_queued c d)
   linked_queued c d mute h = subst (λ (claims : List Claim). Links claims taken_claims d.entries) (sym (claims_join d.queue (c ∷ []) said ∙ mute (all_claims d.queue said))) h
 
   linked_error : (code : ℕ) (octets : List ℕ) (d : DeskState) → Linked said taken_claims d → Linked said taken_claims (command_queued (error code octets) d)
-  linked_error code octets d h = linked_queued (error code octets) d (λ claims. refl) h
+  linked_error code octets d h = linked_queued _ d (λ claims. refl) h
 
   linked_if : (b : Bool) (d e : DeskState) → Linked said taken_claims d → Linked said taken_claims e → Linked said taken_claims (if b then d else e)
   linked_if true d e h k = h
@@ -55,22 +55,22 @@ module _ (said taken_claims : List Claim) where
   pub linked_settled : (busy : List ℕ) (d : DeskState) → Linked said taken_claims d → Linked said taken_claims (settled busy d)
   linked_settled busy d h =
       subst (λ (claims : List Claim). Links claims taken_claims (map (λ e. closed_when (must_close busy e) e) d.entries))
-      (sym (claims_join d.queue (map cls_of (filter (must_close busy) d.entries)) said ∙ cls_claims (filter (must_close busy) d.entries) (all_claims d.queue said)))
-      (links_map (all_claims d.queue said) taken_claims (λ e. closed_when (must_close busy e) e) d.entries
+      (sym (claims_join d.queue _ said ∙ cls_claims (filter (must_close busy) d.entries) _))
+      (links_map (all_claims d.queue said) taken_claims _ d.entries
       (λ e. record { own = refl; foreign = refl; link = refl; mine = refl; partner = λ k. k; asked = λ k. k }) h)
 
   linked_swept : (peer : Host) (d : DeskState) → Linked said taken_claims d → Linked said taken_claims (swept peer d)
-  linked_swept peer d h = links_filter (all_claims d.queue said) taken_claims (λ e. not (is_over e)) d.entries h
+  linked_swept peer d h = links_filter (all_claims d.queue said) taken_claims _ d.entries h
 
   -- an end that is refused has no link
   refused_joined : (own foreign stamp : ℕ) (claims taken : List Claim) (es : List Entry) → Links claims taken es → Links claims taken (es ++ refused_end own foreign stamp ∷ [])
   refused_joined own foreign stamp claims taken es h =
-      links_joined claims taken (refused_end own foreign stamp) es (λ l on. absurd (and_never (not (is_receive_socket own)) on)) (λ even mine. absurd (let both : false ≡ true = mine in cc)) (λ asked. absurd (let both : false ≡ true = asked in cc))
-      (λ l on. absurd (and_never (is_receive_socket own) on)) h
+      links_joined claims taken _ es (λ l on. absurd (and_never _ on)) (λ even mine. absurd (let both : false ≡ true = mine in cc)) (λ asked. absurd (let both : false ≡ true = asked in cc))
+      (λ l on. absurd (and_never _ on)) h
 
   linked_refused : (own foreign stamp : ℕ) (d : DeskState) → Linked said taken_claims d → Linked said taken_claims (commands.refused own foreign stamp d)
   linked_refused own foreign stamp d h =
-      linked_queued (cls_of (refused_end own foreign stamp)) (entry_joined (refused_end own foreign stamp) d) (λ claims. refl) (refused_joined own foreign stamp (all_claims d.queue said) taken_claims d.entries h)
+      linked_queued (cls_of (refused_end own foreign stamp)) (entry_joined (refused_end own foreign stamp) d) (λ claims. refl) (refused_joined own foreign stamp _ taken_claims d.entries h)
 
   -- a new receiving end, with its request
   pub receiver_joined : (own foreign link : ℕ) (e : Entry) (queue : List Command) (es : List Entry) → is_receive_socket own ≡ true → is_send_socket foreign ≡ true → e.own ≡ own → e.foreign ≡ foreign → e.link ≡ Some link → e.asked ≡ None
@@ -79,20 +79,20 @@ module _ (said taken_claims : List Claim) where
       let claims : List Claim = all_claims queue said in
       let good : (is_receive_socket own && is_send_socket foreign) ≡ true = ap (λ (b : Bool). b && is_send_socket foreign) even ∙ odd in
       let is : all_claims (queue ++ command.Rts own foreign link ∷ []) said ≡ record { sockets = record { receive = own; send = foreign }; link = link } ∷ all_claims queue said =
-      claims_join queue (command.Rts own foreign link ∷ []) said ∙ ap (λ (b : Bool). if b then record { sockets = record { receive = own; send = foreign }; link = link } ∷ all_claims queue said else all_claims queue said) good in
+      claims_join queue _ said ∙ ap (λ (b : Bool). if b then record { sockets = record { receive = own; send = foreign }; link = link } ∷ all_claims queue said else all_claims queue said) good in
       subst (λ (cs : List Claim). Links cs taken_claims (es ++ e ∷ [])) (sym is)
       (links_joined (record { sockets = record { receive = own; send = foreign }; link = link } ∷ all_claims queue said) taken_claims e es
       (λ l on. absurd (let no : true ≡ false = sym (both (not (is_receive_socket e.own)) (is_link l e.link) on).0 ∙ ap (λ (n : ℕ). not (is_receive_socket n)) o ∙ ap not even in cc))
       (λ even mine l last. (let named : Some link ≡ Some l =
       sym (ap (λ (n : ℕ). last_link (record { receive = n; send = e.foreign }) (record { sockets = record { receive = own; send = foreign }; link = link } ∷ all_claims queue said)) o
       ∙ ap (λ (n : ℕ). last_link (record { receive = own; send = n }) (record { sockets = record { receive = own; send = foreign }; link = link } ∷ all_claims queue said)) f
-      ∙ claim_first (record { receive = own; send = foreign }) link (all_claims queue said)) ∙ last in
+      ∙ claim_first (record { receive = own; send = foreign }) link _) ∙ last in
       let same : link ≡ l = cc in
       ap (λ (x : Option ℕ). is_link l x) linked ∙ ap (λ (n : ℕ). n == l) same ∙ eq_refl l))
       (λ asked. absurd (let no : false ≡ true = ap (λ (x : Option ℕ). is_some x) (sym unasked) ∙ asked in cc))
       (λ l on. (let there : is_link l (Some link) ≡ true = ap (λ (x : Option ℕ). is_link l x) (sym linked) ∙ (both (is_receive_socket e.own) (is_link l e.link) on).1 in
       ap (λ (n : ℕ). list_any (receives_on n) es) (sym (eqb-true link l there)) ∙ free_is es link free))
-      (links_said (all_claims queue said) taken_claims own foreign link es (none_found own foreign es none) h)) where
+      (links_said _ taken_claims own foreign link es (none_found own foreign es none) h)) where
         eq_refl : (n : ℕ) → (n == n) ≡ true
         eq_refl n = eq-eqb n n refl
 
@@ -100,22 +100,22 @@ module _ (said taken_claims : List Claim) where
 
   linked_matched : (peer : Host) (own foreign : ℕ) (c : Command) (e : Entry) (change : Entry → Entry) (d : DeskState) → ((e : Entry) → IsQuiet e (change e)) → Linked said taken_claims d → Linked said taken_claims (matched_once peer own foreign c e change d)
   linked_matched peer own foreign c e change d q h =
-      linked_if (is_some e.partner) (commands.faulted ERRONEOUS c d) (commands.matched peer own foreign change d) (linked_error ERRONEOUS (spelling c) d h) (links_changed (all_claims d.queue said) taken_claims (is_at own foreign) change d.entries q h)
+      linked_if _ _ _ (linked_error ERRONEOUS _ d h) (links_changed (all_claims d.queue said) taken_claims _ change d.entries q h)
 
   linked_str : (own foreign size stamp : ℕ) (l : Option ℕ) (d : DeskState) → is_receive_socket own ≡ true → is_send_socket foreign ≡ true → free_link d.entries ≡ l → entry_at own foreign d.entries ≡ None → Linked said taken_claims d
       → Linked said taken_claims (str_linked own foreign size stamp l d)
   linked_str own foreign size stamp None d even odd free none h = linked_refused own foreign stamp d h
   linked_str own foreign size stamp (Some link) d even odd free none h =
-      receiver_joined own foreign link (asked_with_size stamp size (receiving_end own foreign link)) d.queue d.entries even odd refl refl refl refl free none h
+      receiver_joined own foreign link _ d.queue d.entries even odd refl refl refl refl free none h
 
   linked_str_heard : (own foreign size stamp : ℕ) (l : Option Listener) (d : DeskState) → is_receive_socket own ≡ true → is_send_socket foreign ≡ true → entry_at own foreign d.entries ≡ None → Linked said taken_claims d → Linked said taken_claims (str_heard own foreign size stamp l d)
   linked_str_heard own foreign size stamp None d even odd none h = linked_refused own foreign stamp d h
-  linked_str_heard own foreign size stamp (Some l) d even odd none h = linked_str own foreign size stamp (free_link d.entries) d even odd refl none h
+  linked_str_heard own foreign size stamp (Some l) d even odd none h = linked_str own foreign size stamp _ d even odd refl none h
 
   linked_str_by : (peer : Host) (own foreign size stamp : ℕ) (e : Option Entry) (d : DeskState) → is_receive_socket own ≡ true → is_send_socket foreign ≡ true → entry_at own foreign d.entries ≡ e → Linked said taken_claims d → Linked said taken_claims (str_taken_by peer own foreign size stamp e d)
-  linked_str_by peer own foreign size stamp None d even odd none h = linked_str_heard own foreign size stamp (listener_on own d.listening) d even odd none h
+  linked_str_by peer own foreign size stamp None d even odd none h = linked_str_heard own foreign size stamp _ d even odd none h
   linked_str_by peer own foreign size stamp (Some e) d even odd none h =
-      linked_matched peer own foreign (command.Str foreign own size) e (asked_with_size stamp size) d (λ x. record { own = refl; foreign = refl; link = refl; mine = refl; partner = λ k. refl; asked = λ k. k }) h
+      linked_matched peer own foreign (command.Str foreign own size) e _ d (λ x. record { own = refl; foreign = refl; link = refl; mine = refl; partner = λ k. refl; asked = λ k. k }) h
 
   linked_closed : (peer : Host) (busy : List ℕ) (own foreign : ℕ) (e : Entry) (d : DeskState) → Linked said taken_claims d → Linked said taken_claims (closed_once peer busy own foreign e d)
   linked_closed peer busy own foreign e d h =
@@ -130,7 +130,7 @@ module _ (said taken_claims : List Claim) where
   linked_cls peer busy own foreign (Some e) d h = linked_closed peer busy own foreign e d h
 
   linked_at : (c : Command) (change : Entry → DeskState → DeskState) (f : Found) (d : DeskState) → ((e : Entry) → Linked said taken_claims (change e d)) → Linked said taken_claims d → Linked said taken_claims (at_end c change f d)
-  linked_at c change Unconnected d k h = linked_error NOT_CONNECTED (spelling c) d h
+  linked_at c change Unconnected d k h = linked_error NOT_CONNECTED _ d h
   linked_at c change Ending d k h = h
   linked_at c change (Open e) d k h = k e
 
@@ -139,7 +139,7 @@ module _ (said taken_claims : List Claim) where
 
   linked_ret : (link messages bits : ℕ) (e : Entry) (d : DeskState) → Linked said taken_claims d → Linked said taken_claims (ret_taken link messages bits e d)
   linked_ret link messages bits e d h =
-      linked_if (nat_le messages e.allocation.messages && nat_le bits e.allocation.bits) _ _ (quiet_change (receives_on link) (commands.returned messages bits) d (λ x. record { own = refl; foreign = refl; link = refl; mine = refl; partner = λ k. k; asked = λ k. k }) h)
+      linked_if _ _ _ (quiet_change _ _ d (λ x. record { own = refl; foreign = refl; link = refl; mine = refl; partner = λ k. k; asked = λ k. k }) h)
       (linked_error ERRONEOUS (spelling (command.Ret link messages bits)) d h)
 
   -- all commands but an RTS
@@ -169,17 +169,17 @@ module _ (said taken_claims : List Claim) where
   -- ---- data
 
   linked_arrived : (link : ℕ) (e : Entry) (text : List Bool) (o : Option DataHeader) (d : DeskState) → Linked said taken_claims d → Linked said taken_claims (arrived_if link e text o d)
-  linked_arrived link e text None d h = linked_error ERRONEOUS (octets_of text) d h
+  linked_arrived link e text None d h = linked_error ERRONEOUS _ d h
   linked_arrived link e text (Some k) d h =
-      linked_if (is_acceptable e k) _ _ (quiet_change (receives_on link) _ d (λ x. record { own = refl; foreign = refl; link = refl; mine = refl; partner = λ k. k; asked = λ k. k }) h) (linked_error ERRONEOUS (octets_of text) d h)
+      linked_if _ _ _ (quiet_change _ _ d (λ x. record { own = refl; foreign = refl; link = refl; mine = refl; partner = λ k. k; asked = λ k. k }) h) (linked_error ERRONEOUS _ d h)
 
   linked_found : (link : ℕ) (text : List Bool) (f : Found) (d : DeskState) → Linked said taken_claims d → Linked said taken_claims (data_found link text f d)
-  linked_found link text Unconnected d h = linked_error NOT_CONNECTED (octets_of text) d h
+  linked_found link text Unconnected d h = linked_error NOT_CONNECTED _ d h
   linked_found link text Ending d h = h
-  linked_found link text (Open e) d h = linked_arrived link e text (header_of text) d h
+  linked_found link text (Open e) d h = linked_arrived link e text _ d h
 
   pub linked_data : (link : ℕ) (text : List Bool) (d : DeskState) → Linked said taken_claims d → Linked said taken_claims (data_taken link text d)
-  linked_data link text d h = linked_found link text (receiver_on link d) d h
+  linked_data link text d h = linked_found link text _ d h
 
 -- ---- an RTS, which names a free link
 
@@ -203,21 +203,21 @@ module _ (said taken_claims : List Claim) (own foreign link : ℕ) (odd : is_rec
   rts_heard_linked : (stamp : ℕ) (l : Option Listener) (d : DeskState) → entry_at own foreign d.entries ≡ None → Linked said taken_claims d → Linked said (record { sockets = record { receive = foreign; send = own }; link = link } ∷ taken_claims) (rts_heard own foreign link stamp l d)
   rts_heard_linked stamp None d none h =
       linked_queued said (record { sockets = record { receive = foreign; send = own }; link = link } ∷ taken_claims) (cls_of (refused_end own foreign stamp)) (entry_joined (refused_end own foreign stamp) d) (λ claims. refl)
-      (refused_joined said taken_claims own foreign stamp (all_claims d.queue said) (record { sockets = record { receive = foreign; send = own }; link = link } ∷ taken_claims) d.entries
-      (links_heard (all_claims d.queue said) taken_claims own foreign link d.entries (none_found own foreign d.entries none) h))
+      (refused_joined said taken_claims own foreign stamp _ _ d.entries
+      (links_heard _ taken_claims own foreign link d.entries (none_found own foreign d.entries none) h))
   rts_heard_linked stamp (Some l) d none h =
-      linked_queued said (record { sockets = record { receive = foreign; send = own }; link = link } ∷ taken_claims) (command.Str own foreign l.size) (entry_joined (asked_on_link stamp link (sending_end own foreign l.size)) (answered_on own d)) (λ claims. refl)
-      (rts_joined (asked_on_link stamp link (sending_end own foreign l.size)) (all_claims d.queue said) d.entries refl refl refl refl refl none h)
+      linked_queued said (record { sockets = record { receive = foreign; send = own }; link = link } ∷ taken_claims) _ (entry_joined (asked_on_link stamp link (sending_end own foreign l.size)) (answered_on own d)) (λ claims. refl)
+      (rts_joined _ _ d.entries refl refl refl refl refl none h)
 
   rts_by_linked : (peer : Host) (stamp : ℕ) (o : Option Entry) (d : DeskState) → entry_at own foreign d.entries ≡ o → ((e : Entry) → o ≡ Some e → is_some e.partner ≡ false) → One (map (is_at own foreign) d.entries) → Linked said taken_claims d
       → Linked said (record { sockets = record { receive = foreign; send = own }; link = link } ∷ taken_claims) (rts_taken_by peer own foreign link stamp o d)
-  rts_by_linked peer stamp None d f fresh one h = rts_heard_linked stamp (listener_on own d.listening) d f h
+  rts_by_linked peer stamp None d f fresh one h = rts_heard_linked stamp _ d f h
   rts_by_linked peer stamp (Some e) d f fresh one h =
       subst (λ (b : Bool). Linked said (record { sockets = record { receive = foreign; send = own }; link = link } ∷ taken_claims) (if b then commands.faulted ERRONEOUS (command.Rts foreign own link) d else commands.matched peer own foreign (asked_on_link stamp link) d)) (sym (fresh e refl))
-      (links_linked (all_claims d.queue said) taken_claims own foreign link (asked_on_link stamp link) d.entries odd even (λ x. (refl, refl, refl, refl, refl, refl)) one h)
+      (links_linked _ taken_claims own foreign link _ d.entries odd even (λ x. (refl, refl, refl, refl, refl, refl)) one h)
 
   pub rts_linked : (peer : Host) (stamp : ℕ) (d : DeskState) → list_any (sends_on link) d.entries ≡ false → ((e : Entry) → entry_at own foreign d.entries ≡ Some e → is_some e.partner ≡ false) → One (map (is_at own foreign) d.entries) → Linked said taken_claims d
       → Linked said (record { sockets = record { receive = foreign; send = own }; link = link } ∷ taken_claims) (rts_taken peer own foreign link stamp d)
   rts_linked peer stamp d free fresh one h =
       subst (λ (b : Bool). Linked said (record { sockets = record { receive = foreign; send = own }; link = link } ∷ taken_claims) (if b then commands.faulted ERRONEOUS (command.Rts foreign own link) d else rts_taken_by peer own foreign link stamp (entry_at own foreign d.entries) d)) (sym free)
-      (rts_by_linked peer stamp (entry_at own foreign d.entries) d refl fresh one h)
+      (rts_by_linked peer stamp _ d refl fresh one h)

@@ -68,14 +68,14 @@ front_none (Ask p ∷ ms) ns h = absurd h
 front_none (Close ∷ ms) ns h = front_none ms ns h
 
 pending_one : (s : Sockets) (c : Command) (base : List Claim) → NoAsk (mark_of 0 s.receive s.send c) → last_link s (claim_of c base) ≡ last_link s base
-pending_one s (command.Rts r n link) base h = pending_by s r n link base (r == s.receive && n == s.send) (is_receive_socket r && is_send_socket n) refl h
+pending_one s (command.Rts r n link) base h = pending_by s r n link base _ _ refl h
 pending_one s c base h = refl
 
 -- what waits of another end names nothing for these sockets
 last_same : (s : Sockets) (cs : List Command) (xs ys : List Claim) → last_link s xs ≡ last_link s ys → NoAsk (marks 0 s.receive s.send cs) → last_link s (all_claims cs xs) ≡ last_link s ys
 last_same s [] xs ys e h = e
 last_same s (c ∷ cs) xs ys e h =
-    last_same s cs (claim_of c xs) ys (pending_one s c xs (front_none (mark_of 0 s.receive s.send c) (marks 0 s.receive s.send cs) h) ∙ e) (none_later (mark_of 0 s.receive s.send c) (marks 0 s.receive s.send cs) h)
+    last_same s cs (claim_of c xs) ys (pending_one s c xs (front_none (mark_of 0 s.receive s.send c) _ h) ∙ e) (none_later (mark_of 0 s.receive s.send c) _ h)
 
 -- ---- ends of two sockets
 
@@ -99,7 +99,7 @@ there_by : (origin : ℕ → ℕ) (own foreign : ℕ) (es : List Entry) (ws : Li
 there_by origin own foreign es ws x h some = by (list_any (is_at own foreign) es) refl where
   by : (b : Bool) → list_any (is_at own foreign) es ≡ b → There origin own foreign es ws x
   by true e =
-      let f : Split (is_at own foreign) es = any_split (is_at own foreign) es e in
+      let f : Split (is_at own foreign) es = any_split _ es e in
       record {
         front = f.front;
         end = f.end;
@@ -195,7 +195,7 @@ module _ (origin : ℕ → ℕ) where
 
 mine_here : (origin : ℕ → ℕ) (own foreign : ℕ) (front : List Entry) (e : Entry) (rest : List Entry) (words : List Mark) (x : End) → Stand true origin 0 (at own foreign (front ++ e ∷ rest)) (Ask 0 ∷ words) x → is_at own foreign e ≡ true → e.mine ≡ true
 mine_here origin own foreign front e rest words x h t =
-    let one : Stand true origin 0 (standing e ∷ []) (Ask 0 ∷ words) x = stands_alone true origin 0 own foreign front e rest (Ask 0 ∷ words) x t h in (due_ask e.mine e.asked e.closing words one.1).own
+    let one : Stand true origin 0 (standing e ∷ []) (Ask 0 ∷ words) x = stands_alone true origin 0 own foreign front e rest _ x t h in (due_ask e.mine e.asked e.closing words one.1).own
 
 mine_from : (origin : ℕ → ℕ) (own foreign : ℕ) (front rest : List Entry) (words : List Mark) (x : End) → Stand true origin 0 (at own foreign (front ++ rest)) (Ask 0 ∷ words) x → Each (λ e. is_at own foreign e ≡ true → e.mine ≡ true) rest
 mine_from origin own foreign front [] words x h = tt

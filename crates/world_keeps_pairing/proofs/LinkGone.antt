@@ -26,7 +26,7 @@ some_commands (suc n) (c ∷ cs) h = (h.0, some_commands n cs h.1)
 
 pub words_tagged : (who : Who) (place : ℕ) (text : List Bool) → words_of who (tagged place text ∷ []) ≡ words_by who place (orders_of text)
 words_tagged who place text =
-    append-nil (words_by who (untagged (tagged place text)).0 (orders_of (untagged (tagged place text)).1))
+    append-nil (words_by who _ (orders_of (untagged (tagged place text)).1))
     ∙ ap (λ (parts : ℕ × List Bool). words_by who parts.0 (orders_of parts.1)) (untagged_is place text)
 
 -- words on link 0

@@ -45,7 +45,7 @@ pairs_if false w ws p h = h
 
 said_pairs : (ws : List Word) (xs : List Step) → AllPairs ws → AllPairs (said_words Receiver xs) → AllPairs (said_words Receiver (all_said Receiver ws xs))
 said_pairs [] xs p h = h
-said_pairs (w ∷ ws) xs p h = said_pairs ws (Says Receiver w ∷ xs) p.1 (pairs_if (stays Receiver xs) w (said_words Receiver xs) p.0 h)
+said_pairs (w ∷ ws) xs p h = said_pairs ws (Says Receiver w ∷ xs) p.1 (pairs_if _ w _ p.0 h)
 
 -- ---- one command
 
@@ -60,7 +60,7 @@ close_if true r n xs = refl
 close_if false r n xs = refl
 
 claims_next : (stamp : ℕ) (c : Command) (xs : List Step) → said_claims (all_said Receiver (word_by Receiver stamp (Legal c)) xs) ≡ claim_of c (said_claims xs)
-claims_next stamp (command.Rts r n l) xs = claim_if (is_receive_socket r && is_send_socket n) r n l stamp xs
+claims_next stamp (command.Rts r n l) xs = claim_if _ r n l stamp xs
 claims_next stamp (command.Cls a b) xs = close_if (is_receive_socket a && is_send_socket b) a b xs
 claims_next stamp c xs = refl
 
@@ -79,7 +79,7 @@ module _ (origin other : ℕ → ℕ) (peer : Host) (stamp : ℕ) (taken : List 
       let good : (is_receive_socket r && is_send_socket n) ≡ true = ap (λ (b : Bool). b && is_send_socket n) ok.1 ∙ ok.3 in
       subst (λ (b : Bool). NameFree (if b then record { sockets = record { receive = r; send = n }; link = l; mark = Ask stamp } ∷ [] else []) xs) (sym good)
       (is_free origin r n l rest taken es xs ok.1 ok.3 steps pairs ends h, tt)
-  one_free (command.Cls a b) rest es xs ok steps pairs ends h = close_free (is_receive_socket a && is_send_socket b) a b xs
+  one_free (command.Cls a b) rest es xs ok steps pairs ends h = close_free _ a b xs
   one_free c rest es xs ok steps pairs ends h = tt
 
   self_mark : (a b : ℕ) → (if a == a && b == b then Ask 0 ∷ [] else []) ≡ Ask 0 ∷ []
@@ -88,13 +88,13 @@ module _ (origin other : ℕ → ℕ) (peer : Host) (stamp : ℕ) (taken : List 
   asked_gone : (o : ℕ → ℕ) (a b : ℕ) (claims : List Claim) (es : List Entry) (words : List Mark) (x : End) → Stand true o 0 (at a b es) ((if a == a && b == b then Ask 0 ∷ [] else []) ++ words) x → Links claims taken es → Links claims taken (changed_at a b (asked_at stamp) es)
   asked_gone o a b claims es words x h k =
       let waits : Stand true o 0 (at a b es) (Ask 0 ∷ words) x = subst (λ (ms : List Mark). Stand true o 0 (at a b es) (ms ++ words) x) (self_mark a b) h in
-      links_asked claims taken a b (asked_at stamp) es (λ e. (refl, refl, refl, refl, refl)) (one_at true o 0 a b es (Ask 0 ∷ words) x waits) (mine_by o a b es words x waits) k
+      links_asked claims taken a b _ es (λ e. (refl, refl, refl, refl, refl)) (one_at true o 0 a b es _ x waits) (mine_by o a b es words x waits) k
 
   one_links : (c : Command) (rest : List Command) (d : DeskState) (xs : List Step) (claims : List Claim) → IsCommand c → Receives origin d.entries (c ∷ rest) xs → Sends d.entries (c ∷ rest) → Links claims taken d.entries → Links claims taken (command_gone peer stamp c d).entries
-  one_links (command.Rts a b l) rest d xs claims ok r s h = asked_gone origin a b claims d.entries (marks 0 a b rest) _ (r (record { receive = a; send = b }) (ok.1, ok.3) 0) h
-  one_links (command.Str a b size) rest d xs claims ok r s h = asked_gone other a b claims d.entries (marks 0 a b rest) _ (s (record { receive = b; send = a }) (ok.3, ok.1) 0).1 h
+  one_links (command.Rts a b l) rest d xs claims ok r s h = asked_gone origin a b claims d.entries _ _ (r (record { receive = a; send = b }) (ok.1, ok.3) 0) h
+  one_links (command.Str a b size) rest d xs claims ok r s h = asked_gone other a b claims d.entries _ _ (s (record { receive = b; send = a }) (ok.3, ok.1) 0).1 h
   one_links (command.Cls a b) rest d xs claims ok r s h =
-      links_filter claims taken (λ e. not (is_over e)) (changed_at a b cls_sent d.entries)
+      links_filter claims taken _ _
       (links_changed claims taken (is_at a b) cls_sent d.entries (λ e. record { own = refl; foreign = refl; link = refl; mine = refl; partner = λ k. k; asked = λ k. k }) h)
   one_links c rest d xs claims ok r s h = h
 
@@ -108,8 +108,8 @@ module _ (origin other : ℕ → ℕ) (peer : Host) (stamp : ℕ) (taken : List 
 
   sends_next : (c : Command) (rest : List Command) (d : DeskState) → Sends d.entries (c ∷ rest) → Sends (command_gone peer stamp c d).entries rest
   sends_next c rest d r = λ s q place. (
-    all_gone (mark_of stamp s.send s.receive c) (r s q place).0,
-    one_gone other s.send s.receive place peer stamp c d (marks place s.send s.receive rest) (r s q place).0 (r s q place).1,
+    all_gone (mark_of stamp s.send s.receive c) _,
+    one_gone other s.send s.receive place peer stamp c d _ _ (r s q place).1,
   )
 
   -- all commands that go out

@@ -123,8 +123,8 @@ module _ (hosts : Network) (origin : Host → Host → ℕ → ℕ) where
   takes (Asked g r) moments story run ranged from t = tt
 
   links : (a b : Host) (x : Moment) (moments : List Moment) → AreOurs hosts a b → IsStory hosts (x ∷ moments) → IsRun hosts (events_of (x ∷ moments)) → AreServed hosts (x ∷ moments) → ((h : Host) → hosts.strange h ≡ false → IsRanged (program h moments)) → IsOrigin origin x moments → AllTied hosts origin moments → Linked a b (x ∷ moments)
-  links a b (Crossed (crossing.Out m)) moments ours story run served ranged from t = out_linked a b m moments ours story ranged t (same_host a m.flow.source) (same_host b m.flow.destination) refl refl
-  links a b (Crossed (crossing.In m)) moments ours story run served ranged from t = in_links a b m moments ours story run ranged from t (same_host a m.flow.destination) (same_host b m.flow.source) refl refl
+  links a b (Crossed (crossing.Out m)) moments ours story run served ranged from t = out_linked a b m moments ours story ranged t _ _ refl refl
+  links a b (Crossed (crossing.In m)) moments ours story run served ranged from t = in_links a b m moments ours story run ranged from t _ _ refl refl
   links a b (Crossed (crossing.Answer kind f)) moments ours story run served ranged from t = told_links a b kind f moments (t.linked a b ours)
   links a b (Crossed (crossing.Down g)) moments ours story run served ranged from t = down_links a b g moments (t.linked a b ours)
   links a b (Crossed (crossing.Up g)) moments ours story run served ranged from t = up_links a b g moments (t.linked a b ours)
@@ -186,7 +186,7 @@ module _ (o f : ℕ) (even : is_receive_socket o ≡ true) (odd : is_send_socket
   none_queued : (cs : List Command) (claims : List Claim) → asks (marks 0 o f cs) ≡ 0 → last_link s (all_claims cs claims) ≡ last_link s claims
   none_queued [] claims none = refl
   none_queued (c ∷ cs) claims none =
-      let parts : asks (mark_of 0 o f c ++ marks 0 o f cs) ≡ asks (mark_of 0 o f c) + asks (marks 0 o f cs) = asks_append (mark_of 0 o f c) (marks 0 o f cs) in
+      let parts : asks (mark_of 0 o f c ++ marks 0 o f cs) ≡ asks (mark_of 0 o f c) + asks (marks 0 o f cs) = asks_append (mark_of 0 o f c) _ in
       none_queued cs (claim_of c claims) (omega (arith, parts, none)) ∙ other_claim c claims (omega (arith, parts, none))
 
   -- where one request for them waits, it is the last
@@ -199,15 +199,15 @@ module _ (o f : ℕ) (even : is_receive_socket o ≡ true) (odd : is_send_socket
 
         first : last_link s (claim_of (command.Rts o f l) claims) ≡ Some l
         first =
-            ap (λ (t : Bool). last_link s (if t then record { sockets = record { receive = o; send = f }; link = l } ∷ claims else claims)) (both_on (is_receive_socket o) (is_send_socket f) even odd)
+            ap (λ (t : Bool). last_link s (if t then record { sockets = record { receive = o; send = f }; link = l } ∷ claims else claims)) (both_on _ _ even odd)
             ∙ claim_first s l claims
 
         here : asks (mark_of 0 o f (command.Rts o f l) ++ marks 0 o f cs) ≤ 1 → last_link s (all_claims cs (claim_of (command.Rts o f l) claims)) ≡ Some l
         here k =
-            let parts : asks (mark_of 0 o f (command.Rts o f l) ++ marks 0 o f cs) ≡ asks (mark_of 0 o f (command.Rts o f l)) + asks (marks 0 o f cs) = asks_append (mark_of 0 o f (command.Rts o f l)) (marks 0 o f cs) in
-            none_queued cs (claim_of (command.Rts o f l) claims) (omega (arith, parts, asked, k)) ∙ first
+            let parts : asks (mark_of 0 o f (command.Rts o f l) ++ marks 0 o f cs) ≡ asks (mark_of 0 o f (command.Rts o f l)) + asks (marks 0 o f cs) = asks_append (mark_of 0 o f (command.Rts o f l)) _ in
+            none_queued cs _ (omega (arith, parts, asked, k)) ∙ first
   last_queued l (c ∷ cs) claims (suc i) less is few =
-      let parts : asks (mark_of 0 o f c ++ marks 0 o f cs) ≡ asks (mark_of 0 o f c) + asks (marks 0 o f cs) = asks_append (mark_of 0 o f c) (marks 0 o f cs) in
+      let parts : asks (mark_of 0 o f c ++ marks 0 o f cs) ≡ asks (mark_of 0 o f c) + asks (marks 0 o f cs) = asks_append (mark_of 0 o f c) _ in
       last_queued l cs (claim_of c claims) i (omega (arith, less)) is (omega (arith, parts, few))
 
 -- ---- lists
@@ -235,8 +235,8 @@ link_known l (Some k) e = ap (λ (n : ℕ). Some n) (eqb-true k l e)
 few : (origin : ℕ → ℕ) (q : PairState) (e : Entry) (x : End) → HasEnd origin e.own e.foreign q x → Among q.entries e → asks (marks 0 e.own e.foreign q.queue) ≤ 1
 few origin q e x h i =
     let one : Stand true origin 0 (standing e ∷ []) (marks 0 e.own e.foreign q.queue) x =
-    stands_alone true origin 0 e.own e.foreign i.front e i.rest (marks 0 e.own e.foreign q.queue) x (own_at e) (subst (λ (xs : List Entry). Stand true origin 0 (at e.own e.foreign xs) (marks 0 e.own e.foreign q.queue) x) i.is (h.ends 0)) in
-    let parts : asks (request_due 0 e.mine e.asked ++ close_waits e.closing) ≡ asks (request_due 0 e.mine e.asked) + asks (close_waits e.closing) = asks_append (request_due 0 e.mine e.asked) (close_waits e.closing) in
+    stands_alone true origin 0 e.own e.foreign i.front e i.rest _ x (own_at e) (subst (λ (xs : List Entry). Stand true origin 0 (at e.own e.foreign xs) (marks 0 e.own e.foreign q.queue) x) i.is (h.ends 0)) in
+    let parts : asks (request_due 0 e.mine e.asked ++ close_waits e.closing) ≡ asks (request_due 0 e.mine e.asked) + asks (close_waits e.closing) = asks_append (request_due 0 e.mine e.asked) _ in
     let all : asks (marks 0 e.own e.foreign q.queue) ≡ asks (request_due 0 e.mine e.asked ++ close_waits e.closing) = ap asks one.1 in
     let first : asks (request_due 0 e.mine e.asked) ≤ 1 = one_due e.mine e.asked in
     let none : asks (close_waits e.closing) ≡ 0 = none_in_close e.closing in
@@ -248,7 +248,7 @@ once_by origin own foreign q x h = by (at own foreign q.entries) (marks 0 own fo
   by : (ss : List Standing) (words : List Mark) → Stand true origin 0 ss words x → asks words ≤ 1
   by [] words s = let none : asks words ≡ 0 = ap asks s.0 in omega (arith, none)
   by (s ∷ []) words i =
-      let parts : asks (request_due 0 s.mine s.asked ++ close_waits s.closing) ≡ asks (request_due 0 s.mine s.asked) + asks (close_waits s.closing) = asks_append (request_due 0 s.mine s.asked) (close_waits s.closing) in
+      let parts : asks (request_due 0 s.mine s.asked ++ close_waits s.closing) ≡ asks (request_due 0 s.mine s.asked) + asks (close_waits s.closing) = asks_append (request_due 0 s.mine s.asked) _ in
       let all : asks words ≡ asks (request_due 0 s.mine s.asked ++ close_waits s.closing) = ap asks i.1 in
       let first : asks (request_due 0 s.mine s.asked) ≤ 1 = one_due s.mine s.asked in
       let none : asks (close_waits s.closing) ≡ 0 = none_in_close s.closing in
@@ -264,21 +264,21 @@ module _ (hosts : Network) (moments : List Moment) (addresses : HaveAddresses ho
   tied : AllTied hosts (origin_in (crossings_of moments)) moments
   tied =
       let c : Coupled hosts moments = coupled hosts addresses moments run time in
-      all_tied hosts (origin_in (crossings_of moments)) moments (are_origins 0 (crossings_of moments) [] moments refl) c.story c.run served
+      all_tied hosts _ moments (are_origins 0 _ [] moments refl) c.story c.run served
 
   pub queued_commands : (a b : Host) → AreOurs hosts a b → AreCommands (pair_with b (program a moments).peers).queue
-  queued_commands a b ours = (pair_range b (program a moments).peers (programs_ranged hosts moments served a ours.0).pairs).commands
+  queued_commands a b ours = (pair_range b _ (programs_ranged hosts moments served a ours.0).pairs).commands
 
   -- for two sockets there is one request at most that waits, so two of them name one link
   pub queued_once : (a b : Host) → AreOurs hosts a b → (own foreign l k : ℕ) → Contains (pair_with b (program a moments).peers).queue (command.Rts own foreign l) → Contains (pair_with b (program a moments).peers).queue (command.Rts own foreign k) → l ≡ k
   queued_once a b ours own foreign l k one other =
-      let is : IsCommand (command.Rts own foreign l) = command_at (pair_with b (program a moments).peers).queue (command.Rts own foreign l) one.0 one.1 one.2 (queued_commands a b ours) in
+      let is : IsCommand (command.Rts own foreign l) = command_at _ _ one.0 one.1 one.2 (queued_commands a b ours) in
       let once : asks (marks 0 own foreign (pair_with b (program a moments).peers).queue) ≤ 1 =
-      once_by (origin_in (crossings_of moments) a b) own foreign (pair_with b (program a moments).peers) _ ((tied.tied a b ours).receiver (record { receive = own; send = foreign }) (is.1, is.3)) in
+      once_by _ own foreign _ _ ((tied.tied a b ours).receiver (record { receive = own; send = foreign }) (is.1, is.3)) in
       let first : last_link (record { receive = own; send = foreign }) (all_claims (pair_with b (program a moments).peers).queue []) ≡ Some l =
-      last_queued own foreign is.1 is.3 l (pair_with b (program a moments).peers).queue [] one.0 one.1 one.2 once in
+      last_queued own foreign is.1 is.3 l _ [] one.0 one.1 one.2 once in
       let second : last_link (record { receive = own; send = foreign }) (all_claims (pair_with b (program a moments).peers).queue []) ≡ Some k =
-      last_queued own foreign is.1 is.3 k (pair_with b (program a moments).peers).queue [] other.0 other.1 other.2 once in
+      last_queued own foreign is.1 is.3 k _ [] other.0 other.1 other.2 once in
       let both : Some l ≡ Some k = sym first ∙ second in
       cc
 

@@ -42,7 +42,7 @@ said_are a b events =
 
 pub offered_pair : (s : NcpState) (stamp : ℕ) (g : Peer) (x : Parcel) → next_in s.peers ≡ Some (g, x) → pair_with g.host (offered s stamp).0.peers ≡ pair_after x g.pair (parcel_gone g.host stamp g.pair.busy x (desk_of g.pair s.listening))
 unfolding offered
-offered_pair s stamp g x is = rw is (put g.host (pair_after x g.pair (parcel_gone g.host stamp g.pair.busy x (desk_of g.pair s.listening))) s.peers)
+offered_pair s stamp g x is = rw is (put g.host _ s.peers)
 
 -- ---- what goes out to a peer
 
@@ -67,7 +67,7 @@ module _ (origin : Host → Host → ℕ → ℕ) (hosts : Network) (a b : Host)
       (may_turn s q Sender b a (origin b a) hosts (ours.1, ours.0) (Crossed (crossing.Out m)) moments story (ranged b ours.1) (t.sender_next s q) (t.sender s q)))
 
   base_receiver : (s : Sockets) → receiver s xs ≡ receiver s (steps a b (law_events moments))
-  base_receiver s = receiver_waits s vs (steps a b (law_events moments))
+  base_receiver s = receiver_waits s vs _
 
   pub out_here : same_host a m.flow.source ≡ true → same_host b m.flow.destination ≡ true → NameFree ws xs × LinksOf (said_claims (all_said Receiver ws xs)) (heard_claims (steps b a (law_events moments))) (pair_with b (offered (program a moments) (places moments)).0.peers)
   out_here from to =
@@ -122,13 +122,13 @@ pub message_pair : (s : NcpState) (m : HostMessage) (stamp : ℕ) → same_host 
 unfolding accepted
 message_pair s m stamp own = by (same_host s.own m.flow.destination) refl where
   by : (b : Bool) → same_host s.own m.flow.destination ≡ b → pair_with m.flow.source (accepted_message s m stamp).0.peers ≡ (message_taken m.flow.source stamp m.flow.link.0 m.text (turn_of s m.flow.source)).pair
-  by true e = rw e (put m.flow.source (message_taken m.flow.source stamp m.flow.link.0 m.text (turn_of s m.flow.source)).pair s.peers)
+  by true e = rw e (put m.flow.source _ s.peers)
   by false e = absurd (let both : true ≡ false = sym own ∙ e in cc)
 
 data_links : (said taken : List Claim) (link : ℕ) (text : List Bool) (t : TurnState) → LinksOf said taken t.pair → LinksOf said taken (if_ready (data_taken link text) t).pair
 data_links said taken link text t h = by (phases.is_ready t.pair.phase) where
   by : (b : Bool) → LinksOf said taken (if b then with_desk t (data_taken link text (desk_of t.pair t.listening)) else t).pair
-  by true = linked_data said taken link text (desk_of t.pair t.listening) h
+  by true = linked_data said taken link text _ h
   by false = h
 
 -- host `a` takes the message of `b`; the names are those of the message
@@ -196,7 +196,7 @@ module _ (origin : Host → Host → ℕ → ℕ) (hosts : Network) (m : HostMes
   quiet_heard n none k =
       subst (λ (cs : List Claim). LinksOf said0 cs q1)
       (sym (ap (λ (ts : List (List Bool)). heard_claims (heard_in (stay.stays m.flow.destination m.flow.source (law_events moments)) Sender (words_of Receiver ts) ys)) none
-      ∙ ap heard_claims (heard_nothing (stay.stays m.flow.destination m.flow.source (law_events moments)) ys))) k
+      ∙ ap heard_claims (heard_nothing _ ys))) k
 
   on_zero : (z : Bool) → (m.flow.link.0 == 0) ≡ z → (if z then orders_taken m.flow.source (places moments) (orders_of m.text) turn else if_ready (data_taken m.flow.link.0 m.text) turn).pair ≡ q1
   on_zero z e = ap (λ (b : Bool). (if b then orders_taken m.flow.source (places moments) (orders_of m.text) turn else if_ready (data_taken m.flow.link.0 m.text) turn).pair) (sym e)
@@ -209,10 +209,10 @@ module _ (origin : Host → Host → ℕ → ℕ) (hosts : Network) (m : HostMes
   boxed0 n e = boxed_is s0 (refl, refl) Sender (origin m.flow.destination m.flow.source) hosts m moments ours story run n e
 
   stays0 : (b : Bool) → message_on m.flow.link.0 m.text ≡ Other m.text → phases.is_ready (pair_with m.flow.source (program m.flow.destination moments).peers).phase ≡ b → stay.stays m.flow.destination m.flow.source (law_events moments) ≡ b
-  stays0 b is r = stays_as s0 (refl, refl) Sender (origin m.flow.destination m.flow.source) hosts m moments ours story run place0.0 (boxed0 (Other m.text) is) b r
+  stays0 b is r = stays_as s0 (refl, refl) Sender (origin m.flow.destination m.flow.source) hosts m moments ours story run place0.0 (boxed0 _ is) b r
 
   joint0 : (m.flow.link.0 == 0) ≡ true → message_on m.flow.link.0 m.text ≡ Other m.text → AreJoint (orders_of m.text)
-  joint0 zero is = plain_joint (orders_of m.text) (subst (λ (n : Message). IsApart m.flow.link.0 m.text n) is (story.0 ours) zero)
+  joint0 zero is = plain_joint _ (subst (λ (n : Message). IsApart m.flow.link.0 m.text n) is (story.0 ours) zero)
 
   at_zero : (m.flow.link.0 == 0) ≡ true → Sort m.flow.link.0 m.text → Linked m.flow.destination m.flow.source (Crossed (crossing.In m) ∷ moments)
   at_zero zero (AnRst z orders is) =
@@ -259,7 +259,7 @@ module _ (origin : Host → Host → ℕ → ℕ) (hosts : Network) (m : HostMes
   free_at : (m.flow.link.0 == 0) ≡ true → phases.is_ready (pair_with m.flow.source (program m.flow.destination moments).peers).phase ≡ true → Sort m.flow.link.0 m.text → AreFree m.flow.source (places moments) (orders_of m.text) turn
   free_at zero ready (AnRst z orders is) = subst (λ (os : List Order). AreFree m.flow.source (places moments) os turn) (sym orders) (tt, tt)
   free_at zero ready (AnRrp z orders is) = subst (λ (os : List Order). AreFree m.flow.source (places moments) os turn) (sym orders) (tt, tt)
-  free_at zero ready (AText is) = (text_links place0.0 (boxed0 (Other m.text) is) zero (from place0.0 place0.1 zero) (joint0 zero is) ready (stays0 true is ready)).0
+  free_at zero ready (AText is) = (text_links place0.0 (boxed0 _ is) zero (from place0.0 place0.1 zero) (joint0 zero is) ready (stays0 true is ready)).0
 
   pub in_free : TakesFreeAt hosts (Crossed (crossing.In m)) moments
   in_free = λ our ready zero. free_at zero ready (sort_of m.flow.link.0 m.text)

@@ -56,7 +56,7 @@ few_stand : (swept : Bool) (origin : ℕ → ℕ) (place : ℕ) (ss : List Stand
 few_stand swept origin place ss ws x h a b more e = subst (λ (l : List Standing). Stand swept origin place l ws x) e h
 
 pub one_at : (swept : Bool) (origin : ℕ → ℕ) (place own foreign : ℕ) (es : List Entry) (ws : List Mark) (x : End) → Stand swept origin place (at own foreign es) ws x → One (map (is_at own foreign) es)
-one_at swept origin place own foreign es ws x h = one_by own foreign es (few_stand swept origin place (at own foreign es) ws x h)
+one_at swept origin place own foreign es ws x h = one_by own foreign es (few_stand swept origin place _ ws x h)
 
 -- an end among others, found by a test
 pub record Split (test : Entry → Bool) (es : List Entry) : Type 0 where
@@ -93,7 +93,7 @@ stands_alone swept origin place own foreign front e rest ws x here h =
     let parts : at own foreign (front ++ e ∷ rest) ≡ at own foreign front ++ standing e ∷ at own foreign rest =
     at_append own foreign front (e ∷ rest) ∙ ap (λ (ss : List Standing). at own foreign front ++ ss) (at_one own foreign e rest true here) in
     let k : Stand swept origin place (at own foreign front ++ standing e ∷ at own foreign rest) ws x = subst (λ (ss : List Standing). Stand swept origin place ss ws x) parts h in
-    subst (λ (ss : List Standing). Stand swept origin place ss ws x) (alone swept origin place (at own foreign front) (standing e) (at own foreign rest) ws x k) k
+    subst (λ (ss : List Standing). Stand swept origin place ss ws x) (alone swept origin place (at own foreign front) _ _ ws x k) k
 
 pub own_at : (e : Entry) → is_at e.own e.foreign e ≡ true
 own_at e = ap (λ (b : Bool). b && e.foreign == e.foreign) (eq-eqb e.own e.own refl) ∙ eq-eqb e.foreign e.foreign refl
@@ -116,19 +116,19 @@ module _ (origin : ℕ → ℕ) where
   free_now xs w p es queue steps mark ends h = by (list_any (sends_on w.link) es) refl where
     by : (b : Bool) → list_any (sends_on w.link) es ≡ b → b ≡ false
     by true e =
-        let f : Split (sends_on w.link) es = any_split (sends_on w.link) es e in
-        let q : SendsBy (heard_claims xs) f.end = each_split (SendsBy (heard_claims xs)) f.front f.end f.rest (subst (λ (l : List Entry). Each (SendsBy (heard_claims xs)) l) f.is h) in
+        let f : Split (sends_on w.link) es = any_split _ es e in
+        let q : SendsBy (heard_claims xs) f.end = each_split _ f.front f.end f.rest (subst (λ (l : List Entry). Each (SendsBy (heard_claims xs)) l) f.is h) in
         let k : (is_some f.end.partner ≡ true) × (last_link (record { receive = f.end.foreign; send = f.end.own }) (heard_claims xs) ≡ Some w.link) × (is_receive_socket f.end.foreign ≡ true) = q w.link f.on in
         let sending : not (is_receive_socket f.end.own) ≡ true = (both (not (is_receive_socket f.end.own)) (is_link w.link f.end.link) f.on).0 in
-        let odd : is_send_socket f.end.own ≡ true = odd_send f.end.own (not_true (is_receive_socket f.end.own) sending) in
+        let odd : is_send_socket f.end.own ≡ true = odd_send f.end.own (not_true _ sending) in
         let t : Sockets = record { receive = f.end.foreign; send = f.end.own } in
-        let stand : Stand true origin 0 (at f.end.own f.end.foreign es) (marks 0 f.end.own f.end.foreign queue) (sender (record { receive = f.end.foreign; send = f.end.own }) xs).end = ends (record { receive = f.end.foreign; send = f.end.own }) (k.2, odd) 0 in
+        let stand : Stand true origin 0 (at f.end.own f.end.foreign es) (marks 0 f.end.own f.end.foreign queue) (sender (record { receive = f.end.foreign; send = f.end.own }) xs).end = ends _ (k.2, odd) 0 in
         let one : Stand true origin 0 (standing f.end ∷ []) (marks 0 f.end.own f.end.foreign queue) (sender (record { receive = f.end.foreign; send = f.end.own }) xs).end =
         stands_alone true origin 0 f.end.own f.end.foreign f.front f.end f.rest _ _ (own_at f.end) (subst (λ (l : List Entry). Stand true origin 0 (at f.end.own f.end.foreign l) (marks 0 f.end.own f.end.foreign queue) (sender (record { receive = f.end.foreign; send = f.end.own }) xs).end) f.is stand) in
         let place : (n : ℕ) × (f.end.partner ≡ Some n) = some_is f.end.partner k.0 in
         let partner : (sender (record { receive = f.end.foreign; send = f.end.own }) xs).end.partner ≡ Some (origin place.0) = end_partner origin 0 f.end _ _ place.0 one place.1 in
         absurd (unused xs w p steps mark (record { receive = f.end.foreign; send = f.end.own })
-        (origin place.0, partner, partner_among (record { receive = f.end.foreign; send = f.end.own }) xs steps.1 (origin place.0) w.link (partner, k.1)))
+        (origin place.0, partner, partner_among _ xs steps.1 _ w.link (partner, k.1)))
     by false e = refl
 
 module _ (origin : ℕ → ℕ) (peer : Host) (stamp : ℕ) (said : List Claim) where

@@ -43,8 +43,8 @@ module _ (s : Sockets) (is_pair : IsPair s) (who : Who) (origin : ℕ → ℕ) (
       (subst (λ (b : Bool). AreAmong (if b then all_of_peer origin m.flow.destination m.flow.source (own_of who s) (foreign_of who s) (accepted (program m.flow.destination moments) (inbound.Message m) (places moments)).1 T else T) more)
       (sym (same_host-refl m.flow.destination))
       (subst (λ (l : List Life). AreAmong l more)
-      (sym (about_peer origin m.flow.destination m.flow.source (own_of who s) (foreign_of who s) m.flow.source (accepted (program m.flow.destination moments) (inbound.Message m) (places moments)).1 T
-      (message_about (program m.flow.destination moments) m (places moments)) (same_host-refl m.flow.source))) k))
+      (sym (about_peer origin m.flow.destination m.flow.source (own_of who s) (foreign_of who s) m.flow.source _ T
+      (message_about _ m _) (same_host-refl m.flow.source))) k))
 
   -- where it reports none
   told_none : (n : Message) → boxed s is_pair who origin hosts m moments ours story run ≡ n → Lives n ≡ x0.lives
@@ -61,18 +61,18 @@ module _ (s : Sockets) (is_pair : IsPair s) (who : Who) (origin : ℕ → ℕ) (
       let heard : at_texts s (other who) (if are m.flow.source m.flow.destination m.flow.source m.flow.destination && 0 == m.flow.link.0 then tagged place m.text ∷ [] else []) ≡ marks_in place (foreign_of who s) (own_of who s) (orders_of m.text) =
       ap (λ (t : Bool). at_texts s (other who) (if t then tagged place m.text ∷ [] else [])) here ∙ heard_is s is_pair who place m.text in
       ap (λ (t : Bool). (hears_if t (at_texts s (other who) (if are m.flow.source m.flow.destination m.flow.source m.flow.destination && 0 == m.flow.link.0 then tagged place m.text ∷ [] else [])) x0).lives) stays
-      ∙ ap (λ (ms : List Mark). (all_hears ms x0).lives) heard ∙ hears_lives (marks_in place (foreign_of who s) (own_of who s) (orders_of m.text)) x0 (fit refl)
+      ∙ ap (λ (ms : List Mark). (all_hears ms x0).lives) heard ∙ hears_lives _ x0 (fit refl)
   text_lives place false zero stays fit =
       ap (λ (t : Bool). (hears_if t (at_texts s (other who) (if are m.flow.source m.flow.destination m.flow.source m.flow.destination && 0 == m.flow.link.0 then tagged place m.text ∷ [] else [])) x0).lives) stays
 
   control_among : Hears s is_pair who origin hosts m moments ours story run → IsFrom s is_pair who origin hosts m moments ours story run → (m.flow.link.0 == 0) ≡ true → Sort m.flow.link.0 m.text
       → Tie s is_pair who m.flow.destination m.flow.source origin moments → Among s is_pair who m.flow.destination m.flow.source origin hosts moments → Among s is_pair who m.flow.destination m.flow.source origin hosts (Crossed (crossing.In m) ∷ moments)
   control_among hears from zero (AnRst z orders is) t k =
-      told_none Reset (boxed_is s is_pair who origin hosts m moments ours story run Reset is) (hears_no_lives (stay.stays m.flow.destination m.flow.source (law_events moments)) x0)
-      (rst_other origin (own_of who s) (foreign_of who s) (program m.flow.destination moments) m (places moments) (own_is s is_pair who origin hosts m moments ours story run) zero orders T) k
+      told_none Reset (boxed_is s is_pair who origin hosts m moments ours story run Reset is) (hears_no_lives _ x0)
+      (rst_other origin (own_of who s) (foreign_of who s) _ m _ (own_is s is_pair who origin hosts m moments ours story run) zero orders T) k
   control_among hears from zero (AnRrp z orders is) t k =
-      told_none Reply (boxed_is s is_pair who origin hosts m moments ours story run Reply is) (hears_no_lives (stay.stays m.flow.destination m.flow.source (law_events moments)) x0)
-      (rrp_other origin (own_of who s) (foreign_of who s) (program m.flow.destination moments) m (places moments) (own_is s is_pair who origin hosts m moments ours story run) zero orders T) k
+      told_none Reply (boxed_is s is_pair who origin hosts m moments ours story run Reply is) (hears_no_lives _ x0)
+      (rrp_other origin (own_of who s) (foreign_of who s) _ m _ (own_is s is_pair who origin hosts m moments ours story run) zero orders T) k
   control_among hears from zero (AText is) t k = by (program_phases.is_ready (pair_with m.flow.source (program m.flow.destination moments).peers).phase) refl where
     place : ℕ
     place = (place_in s is_pair who origin hosts m moments ours story run).0
@@ -91,16 +91,16 @@ module _ (s : Sockets) (is_pair : IsPair s) (who : Who) (origin : ℕ → ℕ) (
         let fit : AllFit (marks_in (origin (places moments)) (foreign_of who s) (own_of who s) (orders_of m.text)) x0.end = (hears ready zero joint).1 in
         told_in (Other (tagged (place_in s is_pair who origin hosts m moments ours story run).0 m.text)) text
         (all_lives_taken (marks_in (origin (places moments)) (foreign_of who s) (own_of who s) (orders_of m.text)) x0.end x0.lives)
-        (text_lives (place_in s is_pair who origin hosts m moments ours story run).0 true zero (stays_as s is_pair who origin hosts m moments ours story run (place_in s is_pair who origin hosts m moments ours story run).0 text true ready)
+        (text_lives _ true zero (stays_as s is_pair who origin hosts m moments ours story run _ text true ready)
         (λ e. subst (λ (n : ℕ). AllFit (marks_in n (foreign_of who s) (own_of who s) (orders_of m.text)) x0.end) there fit)
         ∙ ap (λ (n : ℕ). all_lives_taken (marks_in n (foreign_of who s) (own_of who s) (orders_of m.text)) x0.end x0.lives) (sym there))
-        (message_tells origin (own_of who s) (foreign_of who s) (program m.flow.destination moments) m (places moments) x0.end T x0.lives (own_is s is_pair who origin hosts m moments ours story run) zero ready joint
+        (message_tells origin (own_of who s) (foreign_of who s) _ m _ x0.end T x0.lives (own_is s is_pair who origin hosts m moments ours story run) zero ready joint
         (hears ready zero joint).0 fit t k)
     by false idle =
-        told_none (Other (tagged (place_in s is_pair who origin hosts m moments ours story run).0 m.text)) text
-        (text_lives (place_in s is_pair who origin hosts m moments ours story run).0 false zero (stays_as s is_pair who origin hosts m moments ours story run (place_in s is_pair who origin hosts m moments ours story run).0 text false idle)
+        told_none _ text
+        (text_lives _ false zero (stays_as s is_pair who origin hosts m moments ours story run _ text false idle)
         (λ e. absurd (let no : false ≡ true = e in cc)))
-        (idle_other origin (own_of who s) (foreign_of who s) (program m.flow.destination moments) m (places moments) (own_is s is_pair who origin hosts m moments ours story run) zero idle joint T) k
+        (idle_other origin (own_of who s) (foreign_of who s) _ m _ (own_is s is_pair who origin hosts m moments ours story run) zero idle joint T) k
 
   in_here : Hears s is_pair who origin hosts m moments ours story run → IsFrom s is_pair who origin hosts m moments ours story run → Tie s is_pair who m.flow.destination m.flow.source origin moments
       → Among s is_pair who m.flow.destination m.flow.source origin hosts moments → Among s is_pair who m.flow.destination m.flow.source origin hosts (Crossed (crossing.In m) ∷ moments)
@@ -111,10 +111,10 @@ module _ (s : Sockets) (is_pair : IsPair s) (who : Who) (origin : ℕ → ℕ) (
         let is : message_on m.flow.link.0 m.text ≡ Other m.text = rw away refl in
         let place : ℕ = (place_in s is_pair who origin hosts m moments ours story run).0 in
         let heard : stay.heard_by m.flow.source m.flow.destination 0 (In m.flow.source m.flow.destination m.flow.link.0 (Other (tagged place m.text))) ≡ [] =
-        heard_off (are m.flow.source m.flow.destination m.flow.source m.flow.destination) (0 == m.flow.link.0) (tagged place m.text ∷ []) (eqb-sym 0 m.flow.link.0 ∙ away) in
-        told_in (Other (tagged (place_in s is_pair who origin hosts m moments ours story run).0 m.text)) (boxed_is s is_pair who origin hosts m moments ours story run (Other m.text) is) x0.lives
-        (ap (λ (ts : List (List Bool)). (hears_if (stay.stays m.flow.destination m.flow.source (law_events moments)) (at_texts s (other who) ts) x0).lives) heard ∙ hears_no_lives (stay.stays m.flow.destination m.flow.source (law_events moments)) x0)
-        (data_told origin (own_of who s) (foreign_of who s) (program m.flow.destination moments) m (places moments) T x0.lives (own_is s is_pair who origin hosts m moments ours story run) away k)
+        heard_off _ _ _ (eqb-sym 0 m.flow.link.0 ∙ away) in
+        told_in _ (boxed_is s is_pair who origin hosts m moments ours story run _ is) x0.lives
+        (ap (λ (ts : List (List Bool)). (hears_if (stay.stays m.flow.destination m.flow.source (law_events moments)) (at_texts s (other who) ts) x0).lives) heard ∙ hears_no_lives _ x0)
+        (data_told origin (own_of who s) (foreign_of who s) _ m _ T x0.lives (own_is s is_pair who origin hosts m moments ours story run) away k)
 
 -- any message that is taken
 pub in_among : (s : Sockets) (is_pair : IsPair s) (who : Who) (h p : Host) (origin : ℕ → ℕ) (hosts : Network) (m : HostMessage) (moments : List Moment) (ours : AreOurs hosts h p) (story : IsStory hosts (Crossed (crossing.In m) ∷ moments)) (run : IsRun hosts (events_of (Crossed (crossing.In m) ∷ moments)))

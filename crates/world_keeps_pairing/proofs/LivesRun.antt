@@ -36,7 +36,7 @@ all_among hosts origin (x ∷ moments) from story run served =
     let below : AreServed hosts moments = served_below hosts x moments served in
     let old : AllAmong hosts origin moments = all_among hosts origin moments from.1 story.1 run.2 below in
     let t : AllTied hosts origin moments = all_tied hosts origin moments from.1 story.1 run.2 below in
-    let next : AllTied hosts origin (x ∷ moments) = all_tied hosts origin (x ∷ moments) from story run served in
+    let next : AllTied hosts origin (x ∷ moments) = all_tied hosts origin _ from story run served in
     let ranged : (h : Host) → hosts.strange h ≡ false → IsRanged (program h moments) = programs_ranged hosts moments below in
     let free : TakesFreeAt hosts x moments = takes hosts origin x moments story run ranged from.0 t in
     record {

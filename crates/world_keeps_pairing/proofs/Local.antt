@@ -136,7 +136,7 @@ one_filter test keep [] h = tt
 one_filter test keep (e ∷ es) h = by (test e) (keep e) refl refl (λ k. one_filter test keep es k) where
   by : (b c : Bool) → test e ≡ b → keep e ≡ c → (One (map test es) → One (map test (filter keep es))) → One (map test (filter keep (e ∷ es)))
   by true true f g rest = let off : AllOff (map test es) = rw f at h in rw (g, f) (off_filter test keep es off)
-  by true false f g rest = let off : AllOff (map test es) = rw f at h in rw g (all_one (map test (filter keep es)) (off_filter test keep es off)) where
+  by true false f g rest = let off : AllOff (map test es) = rw f at h in rw g (all_one _ (off_filter test keep es off)) where
     all_one : (bs : List Bool) → AllOff bs → One bs
     all_one [] o = tt
     all_one (b ∷ bs) o = subst (λ (x : Bool). One (x ∷ bs)) (sym o.0) (all_one bs o.1)
@@ -190,32 +190,32 @@ quiet_own e f q h = λ asked. q.mine ∙ h (q.asked asked)
 module _ (said taken : List Claim) where
   pub links_changed : (test : Entry → Bool) (change : Entry → Entry) (es : List Entry) → ((e : Entry) → IsQuiet e (change e)) → Links said taken es → Links said taken (changed_first test change es)
   links_changed test change es q h = record {
-    sends = each_changed (SendsBy taken) test change es (λ e t k. quiet_sends taken e (change e) (q e) k) h.sends;
-    names = each_changed (ReceivesBy said) test change es (λ e t k. quiet_receives said e (change e) (q e) k) h.names;
+    sends = each_changed _ test change es (λ e t k. quiet_sends taken e (change e) (q e) k) h.sends;
+    names = each_changed _ test change es (λ e t k. quiet_receives said e (change e) (q e) k) h.names;
     own = each_changed AsksOwn test change es (λ e t k. quiet_own e (change e) (q e) k) h.own;
-    single = λ l. subst One (sym (flags_changed (receives_on l) test change es (λ e t. receives_is l e (change e) (q e)))) (h.single l);
+    single = λ l. subst One (sym (flags_changed _ test change es (λ e t. receives_is l e (change e) (q e)))) (h.single l);
   }
 
   pub links_map : (change : Entry → Entry) (es : List Entry) → ((e : Entry) → IsQuiet e (change e)) → Links said taken es → Links said taken (map change es)
   links_map change es q h = record {
-    sends = each_map (SendsBy taken) change es (λ e k. quiet_sends taken e (change e) (q e) k) h.sends;
-    names = each_map (ReceivesBy said) change es (λ e k. quiet_receives said e (change e) (q e) k) h.names;
+    sends = each_map _ change es (λ e k. quiet_sends taken e (change e) (q e) k) h.sends;
+    names = each_map _ change es (λ e k. quiet_receives said e (change e) (q e) k) h.names;
     own = each_map AsksOwn change es (λ e k. quiet_own e (change e) (q e) k) h.own;
-    single = λ l. subst One (sym (flags_map (receives_on l) change es (λ e. receives_is l e (change e) (q e)))) (h.single l);
+    single = λ l. subst One (sym (flags_map _ change es (λ e. receives_is l e (change e) (q e)))) (h.single l);
   }
 
   pub links_filter : (keep : Entry → Bool) (es : List Entry) → Links said taken es → Links said taken (filter keep es)
   links_filter keep es h = record {
-    sends = each_filter (SendsBy taken) keep es h.sends;
-    names = each_filter (ReceivesBy said) keep es h.names;
+    sends = each_filter _ keep es h.sends;
+    names = each_filter _ keep es h.names;
     own = each_filter AsksOwn keep es h.own;
     single = λ l. one_filter (receives_on l) keep es (h.single l);
   }
 
   pub links_joined : (e : Entry) (es : List Entry) → SendsBy taken e → ReceivesBy said e → AsksOwn e → ((l : ℕ) → receives_on l e ≡ true → list_any (receives_on l) es ≡ false) → Links said taken es → Links said taken (es ++ e ∷ [])
   links_joined e es sends names own free h = record {
-    sends = each_more (SendsBy taken) e es sends h.sends;
-    names = each_more (ReceivesBy said) e es names h.names;
+    sends = each_more _ e es sends h.sends;
+    names = each_more _ e es names h.names;
     own = each_more AsksOwn e es own h.own;
     single = λ l. one_joined (receives_on l) es e (free l) (h.single l);
   }
@@ -237,9 +237,9 @@ not_at own foreign e off f g =
 pub links_said : (said taken : List Claim) (own foreign link : ℕ) (es : List Entry) → Each (λ e. is_at own foreign e ≡ false) es → Links said taken es → Links (record { sockets = record { receive = own; send = foreign }; link = link } ∷ said) taken es
 links_said said taken own foreign link es off h = record {
   sends = h.sends;
-  names = each_both (λ e. is_at own foreign e ≡ false) (ReceivesBy said) (ReceivesBy (record { sockets = record { receive = own; send = foreign }; link = link } ∷ said)) es
+  names = each_both _ _ _ es
       (λ e away k even mine l last. k even mine l
-      (sym (skip_claim (record { receive = own; send = foreign }) (record { receive = e.own; send = e.foreign }) link said
+      (sym (skip_claim _ _ link said
       (λ on. (let is : record { receive = e.own; send = e.foreign } ≡ record { receive = own; send = foreign } = same_is _ _ on in
       not_at own foreign e away (ap (λ (s : Sockets). s.receive) is) (ap (λ (s : Sockets). s.send) is)))) ∙ last)) off h.names;
   own = h.own;
@@ -249,10 +249,10 @@ links_said said taken own foreign link es off h = record {
 -- a request is heard for sockets of which there is no end
 pub links_heard : (said taken : List Claim) (own foreign link : ℕ) (es : List Entry) → Each (λ e. is_at own foreign e ≡ false) es → Links said taken es → Links said (record { sockets = record { receive = foreign; send = own }; link = link } ∷ taken) es
 links_heard said taken own foreign link es off h = record {
-  sends = each_both (λ e. is_at own foreign e ≡ false) (SendsBy taken) (SendsBy (record { sockets = record { receive = foreign; send = own }; link = link } ∷ taken)) es
+  sends = each_both _ _ _ es
       (λ e away k l on. (let j : (is_some e.partner ≡ true) × (last_link (record { receive = e.foreign; send = e.own }) taken ≡ Some l) × (is_receive_socket e.foreign ≡ true) = k l on in (
         j.0,
-        skip_claim (record { receive = foreign; send = own }) (record { receive = e.foreign; send = e.own }) link taken
+        skip_claim _ _ link taken
             (λ same. (let is : record { receive = e.foreign; send = e.own } ≡ record { receive = foreign; send = own } = same_is _ _ same in
             not_at own foreign e away (ap (λ (s : Sockets). s.send) is) (ap (λ (s : Sockets). s.receive) is)))
             ∙ j.1,
@@ -277,7 +277,7 @@ each_first Q R test change (e ∷ es) one here there h = by (test e) refl (λ k.
   by : (b : Bool) → test e ≡ b → (One (map test es) → Each R (changed_first test change es)) → Each R (if b then change e ∷ es else e ∷ changed_first test change es)
   by true t rest =
       let off : AllOff (map test es) = rw t at one in
-      (here e t h.0, each_both (λ x. test x ≡ false) Q R es (λ x f k. there x f k) (off_each test es off) h.1)
+      (here e t h.0, each_both _ Q R es (λ x f k. there x f k) (off_each test es off) h.1)
   by false t rest = let more : One (map test es) = rw t at one in (there e t h.0, rest more)
 
 link_same : (l link : ℕ) (own : Bool) → (own && is_link l (Some link)) ≡ true → Some link ≡ Some l
@@ -291,7 +291,7 @@ pub links_linked : (said taken : List Claim) (own foreign link : ℕ) (change : 
     → ((e : Entry) → ((change e).own ≡ e.own) × ((change e).foreign ≡ e.foreign) × ((change e).link ≡ Some link) × (is_some (change e).partner ≡ true) × ((change e).asked ≡ e.asked) × ((change e).mine ≡ e.mine))
     → One (map (is_at own foreign) es) → Links said taken es → Links said (record { sockets = record { receive = foreign; send = own }; link = link } ∷ taken) (changed_at own foreign change es)
 links_linked said taken own foreign link change es odd even is one h = record {
-  sends = each_first (SendsBy taken) (SendsBy (record { sockets = record { receive = foreign; send = own }; link = link } ∷ taken)) (is_at own foreign) change es one
+  sends = each_first _ _ _ change es one
       (λ e t k l on. (let s : (e.own ≡ own) × (e.foreign ≡ foreign) = sockets_of own foreign e t in
       let o : (change e).own ≡ own = (is e).0 ∙ s.0 in
       let f : (change e).foreign ≡ foreign = (is e).1 ∙ s.1 in
@@ -299,21 +299,21 @@ links_linked said taken own foreign link change es odd even is one h = record {
         (is e).3,
         ap (λ (n : ℕ). last_link (record { receive = n; send = (change e).own }) (record { sockets = record { receive = foreign; send = own }; link = link } ∷ taken)) f
             ∙ ap (λ (n : ℕ). last_link (record { receive = foreign; send = n }) (record { sockets = record { receive = foreign; send = own }; link = link } ∷ taken)) o
-            ∙ claim_first (record { receive = foreign; send = own }) link taken ∙ link_same l link (not (is_receive_socket (change e).own)) there,
+            ∙ claim_first (record { receive = foreign; send = own }) link taken ∙ link_same l link _ there,
         ap is_receive_socket f ∙ even,
       )))
       (λ e away k l on. (let j : (is_some e.partner ≡ true) × (last_link (record { receive = e.foreign; send = e.own }) taken ≡ Some l) × (is_receive_socket e.foreign ≡ true) = k l on in (
         j.0,
-        skip_claim (record { receive = foreign; send = own }) (record { receive = e.foreign; send = e.own }) link taken
+        skip_claim _ _ link taken
             (λ same. (let s : record { receive = e.foreign; send = e.own } ≡ record { receive = foreign; send = own } = same_is _ _ same in
             not_at own foreign e away (ap (λ (s : Sockets). s.send) s) (ap (λ (s : Sockets). s.receive) s)))
             ∙ j.1,
         j.2,
       ))) h.sends;
-  names = each_changed (ReceivesBy said) (is_at own foreign) change es
+  names = each_changed _ _ change es
       (λ e t k on. absurd (let both : true ≡ false = sym on ∙ ap is_receive_socket ((is e).0 ∙ (sockets_of own foreign e t).0) ∙ odd in cc)) h.names;
-  own = each_changed AsksOwn (is_at own foreign) change es (λ e t k asked. (is e).5 ∙ k (ap (λ (o : Option ℕ). is_some o) (sym (is e).4) ∙ asked)) h.own;
-  single = λ l. subst One (sym (flags_changed (receives_on l) (is_at own foreign) change es
+  own = each_changed AsksOwn _ change es (λ e t k asked. (is e).5 ∙ k (ap (λ (o : Option ℕ). is_some o) (sym (is e).4) ∙ asked)) h.own;
+  single = λ l. subst One (sym (flags_changed _ _ change es
       (λ e t. (let o : (change e).own ≡ own = (is e).0 ∙ (sockets_of own foreign e t).0 in
       ap (λ (b : Bool). b && is_link l (change e).link) (ap is_receive_socket o ∙ odd) ∙ sym (ap (λ (b : Bool). b && is_link l e.link) (ap is_receive_socket (sockets_of own foreign e t).0 ∙ odd)))))) (h.single l);
 }
@@ -323,19 +323,19 @@ pub links_asked : (said taken : List Claim) (own foreign : ℕ) (change : Entry 
     → ((e : Entry) → ((change e).own ≡ e.own) × ((change e).foreign ≡ e.foreign) × ((change e).link ≡ e.link) × ((change e).partner ≡ e.partner) × ((change e).mine ≡ e.mine))
     → One (map (is_at own foreign) es) → Each (λ e. is_at own foreign e ≡ true → e.mine ≡ true) es → Links said taken es → Links said taken (changed_at own foreign change es)
 links_asked said taken own foreign change es is one mine h = record {
-  sends = each_changed (SendsBy taken) (is_at own foreign) change es
+  sends = each_changed _ _ change es
       (λ e t k l on. (let j : (is_some e.partner ≡ true) × (last_link (record { receive = e.foreign; send = e.own }) taken ≡ Some l) × (is_receive_socket e.foreign ≡ true) =
       k l (sym (ap (λ (n : ℕ). not (is_receive_socket n) && is_link l (change e).link) (is e).0 ∙ ap (λ (o : Option ℕ). not (is_receive_socket e.own) && is_link l o) (is e).2) ∙ on) in (
         ap (λ (o : Option ℕ). is_some o) (is e).3 ∙ j.0,
         ap (λ (n : ℕ). last_link (record { receive = n; send = (change e).own }) taken) (is e).1 ∙ ap (λ (n : ℕ). last_link (record { receive = e.foreign; send = n }) taken) (is e).0 ∙ j.1,
         ap is_receive_socket (is e).1 ∙ j.2,
       ))) h.sends;
-  names = each_changed (ReceivesBy said) (is_at own foreign) change es
+  names = each_changed _ _ change es
       (λ e t k even own l last. ap (λ (o : Option ℕ). is_link l o) (is e).2
       ∙ k (ap is_receive_socket (sym (is e).0) ∙ even) (sym (is e).4 ∙ own) l
       (sym (ap (λ (n : ℕ). last_link (record { receive = n; send = (change e).foreign }) said) (is e).0 ∙ ap (λ (n : ℕ). last_link (record { receive = e.own; send = n }) said) (is e).1) ∙ last)) h.names;
   own = each_first (λ e. (is_at own foreign e ≡ true → e.mine ≡ true) × AsksOwn e) AsksOwn (is_at own foreign) change es one (λ e t k asked. (is e).4 ∙ k.0 t) (λ e away k. k.1)
-      (each_both (λ e. is_at own foreign e ≡ true → e.mine ≡ true) AsksOwn (λ e. (is_at own foreign e ≡ true → e.mine ≡ true) × AsksOwn e) es (λ e f k. (f, k)) mine h.own);
-  single = λ l. subst One (sym (flags_changed (receives_on l) (is_at own foreign) change es
+      (each_both _ AsksOwn _ es (λ e f k. (f, k)) mine h.own);
+  single = λ l. subst One (sym (flags_changed _ _ change es
       (λ e t. ap (λ (n : ℕ). is_receive_socket n && is_link l (change e).link) (is e).0 ∙ ap (λ (o : Option ℕ). is_receive_socket e.own && is_link l o) (is e).2))) (h.single l);
 }

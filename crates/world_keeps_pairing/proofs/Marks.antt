@@ -28,7 +28,7 @@ apart_by m n a b never true e = absurd (never (eqb-true m a (both (m == a) (n ==
 apart_by m n a b never false e = refl
 
 apart : (m n a b : ℕ) → (m ≡ a → ⊥) → (m == a && n == b) ≡ false
-apart m n a b never = apart_by m n a b never (m == a && n == b) refl
+apart m n a b never = apart_by m n a b never _ refl
 
 module _ (s : Sockets) (pair : IsPair s) where
   word_at : (r n link : ℕ) (m : Mark) (b c : Bool) → (is_receive_socket r && is_send_socket n) ≡ b → (r == s.receive && n == s.send) ≡ c
@@ -44,7 +44,7 @@ module _ (s : Sockets) (pair : IsPair s) where
   word_at r n link m false false e f = refl
 
   at_word : (r n link : ℕ) (m : Mark) → at s (word r n link m) ≡ (if r == s.receive && n == s.send then m ∷ [] else [])
-  at_word r n link m = word_at r n link m (is_receive_socket r && is_send_socket n) (r == s.receive && n == s.send) refl refl
+  at_word r n link m = word_at r n link m _ _ refl refl
 
   when_turned : (m : Mark) (a b : Bool) → (if a && b then m ∷ [] else []) ≡ (if b && a then m ∷ [] else [])
   when_turned m a b = ap (λ (t : Bool). if t then m ∷ [] else []) (and_turned a b)
@@ -60,23 +60,23 @@ module _ (s : Sockets) (pair : IsPair s) where
   order_at Sender place (Wrong code octets) h = refl
   order_at Sender place (Legal (command.Rts r n link)) h =
       ap (λ (t : Bool). if t then Ask place ∷ [] else []) (sym (apart r n s.send s.receive (λ e. even_odd r h.1 (ap is_send_socket e ∙ pair.1))))
-  order_at Sender place (Legal (command.Str n r size)) h = at_word r n 0 (Ask place) ∙ when_turned (Ask place) (r == s.receive) (n == s.send)
-  order_at Sender place (Legal (command.Cls own foreign)) h = at_word foreign own 0 Close ∙ when_turned Close (foreign == s.receive) (own == s.send)
+  order_at Sender place (Legal (command.Str n r size)) h = at_word r n 0 (Ask place) ∙ when_turned (Ask place) (r == s.receive) _
+  order_at Sender place (Legal (command.Cls own foreign)) h = at_word foreign own 0 Close ∙ when_turned Close (foreign == s.receive) _
   order_at Sender place (Legal c) h = refl
 
   orders_at : (who : Who) (place : ℕ) (orders : List Order) → AreOrders orders → at s (words_by who place orders) ≡ marks_in place (own_of who s) (foreign_of who s) orders
   orders_at who place [] h = refl
   orders_at who place (o ∷ orders) h =
-      at_join s (word_by who place o) (words_by who place orders)
+      at_join s _ _
       ∙ ap (λ (l : List Mark). l ++ at s (words_by who place orders)) (order_at who place o h.0)
       ∙ ap (λ (l : List Mark). mark_in place (own_of who s) (foreign_of who s) o ++ l) (orders_at who place orders h.1)
 
   -- what a text says that carries its place
   pub text_at : (who : Who) (place : ℕ) (text : List Bool) → at_texts s who (tagged place text ∷ []) ≡ marks_in place (own_of who s) (foreign_of who s) (orders_of text)
   text_at who place text =
-      ap (at s) (append-nil (words_by who (untagged (tagged place text)).0 (orders_of (untagged (tagged place text)).1)))
+      ap (at s) (append-nil (words_by who _ (orders_of (untagged (tagged place text)).1)))
       ∙ ap (λ (parts : ℕ × List Bool). at s (words_by who parts.0 (orders_of parts.1))) (untagged_is place text)
-      ∙ orders_at who place (orders_of text) (text_good text)
+      ∙ orders_at who place _ (text_good text)
 
 -- ---- all words are of a receiving socket and a sending one
 
@@ -106,11 +106,11 @@ order_pairs Sender place (Legal c) = tt
 
 orders_pairs : (who : Who) (place : ℕ) (orders : List Order) → AllPairs (words_by who place orders)
 orders_pairs who place [] = tt
-orders_pairs who place (o ∷ orders) = pairs_join (word_by who place o) (words_by who place orders) (order_pairs who place o) (orders_pairs who place orders)
+orders_pairs who place (o ∷ orders) = pairs_join _ _ (order_pairs who place o) (orders_pairs who place orders)
 
 pub texts_pairs : (who : Who) (texts : List (List Bool)) → AllPairs (words_of who texts)
 texts_pairs who [] = tt
-texts_pairs who (x ∷ texts) = pairs_join (words_by who (untagged x).0 (orders_of (untagged x).1)) (words_of who texts) (orders_pairs who (untagged x).0 (orders_of (untagged x).1)) (texts_pairs who texts)
+texts_pairs who (x ∷ texts) = pairs_join _ _ (orders_pairs who _ _) (texts_pairs who texts)
 
 -- ---- all requests of a message are named by its place
 
@@ -134,11 +134,11 @@ close_at place false = tt
 
 mark_at : (place own foreign : ℕ) (o : Order) → AllAt place (mark_in place own foreign o)
 mark_at place own foreign (Wrong code octets) = tt
-mark_at place own foreign (Legal (command.Rts r n link)) = ask_at place (r == own && n == foreign)
-mark_at place own foreign (Legal (command.Str n r size)) = ask_at place (n == own && r == foreign)
-mark_at place own foreign (Legal (command.Cls a b)) = close_at place (a == own && b == foreign)
+mark_at place own foreign (Legal (command.Rts r n link)) = ask_at place _
+mark_at place own foreign (Legal (command.Str n r size)) = ask_at place _
+mark_at place own foreign (Legal (command.Cls a b)) = close_at place _
 mark_at place own foreign (Legal c) = tt
 
 pub marks_at : (place own foreign : ℕ) (orders : List Order) → AllAt place (marks_in place own foreign orders)
 marks_at place own foreign [] = tt
-marks_at place own foreign (o ∷ orders) = at_append place (mark_in place own foreign o) (marks_in place own foreign orders) (mark_at place own foreign o) (marks_at place own foreign orders)
+marks_at place own foreign (o ∷ orders) = at_append place (mark_in place own foreign o) _ (mark_at place own foreign o) (marks_at place own foreign orders)

@@ -62,7 +62,7 @@ module _ (s : Sockets) (is_pair : IsPair s) (who : Who) (origin : ℕ → ℕ) (
       subst (λ (b : Bool). HasEnd origin (own_of who s) (foreign_of who s) (pair_with m.flow.source (if b then acc else program m.flow.destination moments).peers) x) (sym (same_host-refl m.flow.destination)) k
 
   pub place_in : (n : ℕ) × (boxes m.flow.source m.flow.destination (events_of moments) m.flow.link.0 ≡ Waiting n (message_on m.flow.link.0 m.text))
-  place_in = waiting (boxes m.flow.source m.flow.destination (events_of moments) m.flow.link.0) (message_on m.flow.link.0 m.text) run.0.1
+  place_in = waiting _ _ run.0.1
 
   pub boxed_is : (n : Message) → message_on m.flow.link.0 m.text ≡ n → boxed ≡ with_place place_in.0 n
   unfolding place_in
@@ -90,7 +90,7 @@ module _ (s : Sockets) (is_pair : IsPair s) (who : Who) (origin : ℕ → ℕ) (
       let heard : at_texts s (other who) (if are m.flow.source m.flow.destination m.flow.source m.flow.destination && 0 == m.flow.link.0 then tagged place m.text ∷ [] else []) ≡ marks_in place (foreign_of who s) (own_of who s) (orders_of m.text) =
       ap (λ (t : Bool). at_texts s (other who) (if t then tagged place m.text ∷ [] else [])) here ∙ heard_is s is_pair who place m.text in
       sym (ap (λ (t : Bool). (hears_if t (at_texts s (other who) (if are m.flow.source m.flow.destination m.flow.source m.flow.destination && 0 == m.flow.link.0 then tagged place m.text ∷ [] else [])) x0).end) stays
-      ∙ ap (λ (ms : List Mark). (all_hears ms x0).end) heard ∙ hears_end (marks_in place (foreign_of who s) (own_of who s) (orders_of m.text)) x0 (fit refl))
+      ∙ ap (λ (ms : List Mark). (all_hears ms x0).end) heard ∙ hears_end _ x0 (fit refl))
   text_end place false zero stays fit =
       sym (ap (λ (t : Bool). (hears_if t (at_texts s (other who) (if are m.flow.source m.flow.destination m.flow.source m.flow.destination && 0 == m.flow.link.0 then tagged place m.text ∷ [] else [])) x0).end) stays)
 
@@ -121,7 +121,7 @@ module _ (s : Sockets) (is_pair : IsPair s) (who : Who) (origin : ℕ → ℕ) (
   own_is = ap (λ (y : Host). same_host y m.flow.destination) (program_own m.flow.destination moments) ∙ same_host-refl m.flow.destination
 
   pub joint_now : (m.flow.link.0 == 0) ≡ true → message_on m.flow.link.0 m.text ≡ Other m.text → AreJoint (orders_of m.text)
-  joint_now zero is = plain_joint (orders_of m.text) (subst (λ (n : Message). IsApart m.flow.link.0 m.text n) is (story.0 ours) zero)
+  joint_now zero is = plain_joint _ (subst (λ (n : Message). IsApart m.flow.link.0 m.text n) is (story.0 ours) zero)
 
   by_sort : Hears → IsFrom → (m.flow.link.0 == 0) ≡ true → Sort m.flow.link.0 m.text
       → Has origin (own_of who s) (foreign_of who s) m.flow.source acc
@@ -165,14 +165,14 @@ module _ (s : Sockets) (is_pair : IsPair s) (who : Who) (origin : ℕ → ℕ) (
   in_matched hears from t = by (m.flow.link.0 == 0) refl where
     taken : (z : Bool) → (m.flow.link.0 == 0) ≡ z → Has origin (own_of who s) (foreign_of who s) m.flow.source acc
         (if z then after_text origin (own_of who s) (foreign_of who s) (origin (places moments)) (program_phases.is_ready (pair_with m.flow.source (program m.flow.destination moments).peers).phase) (message_on m.flow.link.0 m.text) (orders_of m.text) x0.end else x0.end)
-    taken z e = in_has origin (own_of who s) (foreign_of who s) (program m.flow.destination moments) m (places moments) x0.end own_is (story.0 ours) hears t z e
+    taken z e = in_has origin (own_of who s) (foreign_of who s) (program m.flow.destination moments) m _ x0.end own_is (story.0 ours) hears t z e
 
     by : (z : Bool) → (m.flow.link.0 == 0) ≡ z → Tie s is_pair who m.flow.destination m.flow.source origin (Crossed (crossing.In m) ∷ moments)
     by true zero = by_sort hears from zero (sort_of m.flow.link.0 m.text) (taken true zero)
     by false away =
         let is : message_on m.flow.link.0 m.text ≡ Other m.text = rw away refl in
-        quiet_now (Other (tagged place_in.0 m.text)) (boxed_is (Other m.text) is)
-        (refl, heard_off (are m.flow.source m.flow.destination m.flow.source m.flow.destination) (0 == m.flow.link.0) (tagged place_in.0 m.text ∷ []) (eqb-sym 0 m.flow.link.0 ∙ away), refl)
+        quiet_now _ (boxed_is _ is)
+        (refl, heard_off _ _ _ (eqb-sym 0 m.flow.link.0 ∙ away), refl)
         (has_now x0.end (taken false away))
 
 -- any message that is taken

@@ -70,22 +70,22 @@ module _ (s : Sockets) (is_pair : IsPair s) (who : Who) (h p : Host) (origin : �
     same_turn : (b : Bool) (t old : NcpState) (x : End) → (b ≡ true → HasEnd origin own foreign (pair_with p t.peers) (kept_in (pair_with p t.peers) x)) → Has origin own foreign p old x
         → HasEnd origin own foreign (pair_with p (if b then t else old).peers) (kept_in (pair_with p (if b then t else old).peers) x)
     same_turn true t old x k h = k refl
-    same_turn false t old x k h = same_kept origin own foreign (pair_with p old.peers) x h
+    same_turn false t old x k h = same_kept origin own foreign _ x h
 
     pub down_turn : (g : Host) (moments : List Moment) → IsStory hosts (Crossed (crossing.Down g) ∷ moments) → Tie moments → Tie (Crossed (crossing.Down g) ∷ moments)
     down_turn g moments story t =
         quiet_turn (Crossed (crossing.Down g)) moments story (refl, refl, refl)
-        (same_turn (same_host h g) (opening_state h) (program h moments) (Side_of moments).end (λ e. opening_has origin own foreign h p) t)
+        (same_turn (same_host h g) _ _ _ (λ e. opening_has origin own foreign h p) t)
 
     pub up_turn : (g : Host) (moments : List Moment) → IsStory hosts (Crossed (crossing.Up g) ∷ moments) → Tie moments → Tie (Crossed (crossing.Up g) ∷ moments)
     up_turn g moments story t =
         quiet_turn (Crossed (crossing.Up g)) moments story (refl, refl, refl)
-        (same_turn (same_host h g) (opening_state h) (program h moments) (Side_of moments).end (λ e. opening_has origin own foreign h p) t)
+        (same_turn (same_host h g) _ _ _ (λ e. opening_has origin own foreign h p) t)
 
     pub answer_turn : (kind : Answer) (f : Flow) (moments : List Moment) → IsStory hosts (Crossed (crossing.Answer kind f) ∷ moments) → Tie moments → Tie (Crossed (crossing.Answer kind f) ∷ moments)
     answer_turn kind f moments story t =
         quiet_turn (Crossed (crossing.Answer kind f)) moments story (refl, refl, refl)
-        (same_turn (same_host h f.source) (accepted (program h moments) (inbound.Answer kind f) (places moments)).0 (program h moments) (Side_of moments).end
+        (same_turn _ _ _ _
         (λ e. answer_has origin own foreign (program h moments) kind f (places moments) p (Side_of moments).end t (same_host p f.destination) refl) t)
 
     -- ---- what a user asks for
@@ -107,17 +107,17 @@ module _ (s : Sockets) (is_pair : IsPair s) (who : Who) (h p : Host) (origin : �
     asked_kept : (r : Request) (moments : List Moment) → IsStory hosts (Asked h r ∷ moments) → refusal (program h moments) r ≡ None → Tie moments
         → HasEnd origin own foreign (pair_with p (program h (Asked h r ∷ moments)).peers) (kept_in (pair_with p (program h (Asked h r ∷ moments)).peers) (Side_of moments).end)
     asked_kept r moments story ok t =
-        let now : Has origin own foreign p (served (program h moments) r) (after_request p r (Side_of moments).end) = request_keeps origin own foreign (program h moments) r p (Side_of moments).end ok t in
+        let now : Has origin own foreign p (served (program h moments) r) (after_request p r (Side_of moments).end) = request_keeps origin own foreign _ r p _ ok t in
         let there : Has origin own foreign p (program h (Asked h r ∷ moments)) (after_request p r (Side_of moments).end) =
         subst (λ (b : Bool). Has origin own foreign p (if b then served (program h moments) r else program h moments) (after_request p r (Side_of moments).end)) (sym (same_host-refl h)) now in
-        elim (contact_else p r (Side_of moments).end) [
+        elim (contact_else p r _) [
           | inl c ↦
-              contact_end (same_host p c.0) (pair_with p (program h (Asked h r ∷ moments)).peers) (Side_of moments).end
+              contact_end _ _ _
               (λ same. subst (λ (y : Request). program_phases.is_ready (pair_with p (program h (Asked h y ∷ moments)).peers).phase ≡ false) (sym c.1)
               (contact_unready c.0 moments (subst (λ (y : Request). IsStory hosts (Asked h y ∷ moments)) c.1 story) same))
               (subst (λ (y : Request). Has origin own foreign p (program h (Asked h r ∷ moments)) (after_request p y (Side_of moments).end)) c.1 there)
           | inr same ↦
-              same_kept origin own foreign (pair_with p (program h (Asked h r ∷ moments)).peers) (Side_of moments).end
+              same_kept origin own foreign _ _
               (subst (λ (y : End). Has origin own foreign p (program h (Asked h r ∷ moments)) y) same there)
         ]
 

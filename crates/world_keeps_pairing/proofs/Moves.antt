@@ -62,14 +62,14 @@ receiver_speaks [] xs p h may free = h
 receiver_speaks (w ∷ ws) xs p h may free =
     let t : Sockets = w.sockets in
     let now : MayAllGo (w.mark ∷ at w.sockets ws) (receiver w.sockets xs).end (receiver w.sockets xs).next =
-    may_first (same w.sockets w.sockets) w.mark (at w.sockets ws) (receiver w.sockets xs).end (receiver w.sockets xs).next (same_self w.sockets) (may w.sockets p.0) in
+    may_first _ w.mark _ _ _ (same_self w.sockets) (may w.sockets p.0) in
     receiver_speaks ws (Says Receiver w ∷ xs) p.1 ((((now.0, now.1), free.0)), h) (λ s q. one_next (same s w.sockets) w.mark (at s ws) (events_at s xs) (may s q)) free.1
 
 pub sender_speaks : (ws : List Word) (xs : List Step) → AllPairs ws → AreSteps xs → ((s : Sockets) → IsPair s → MayAllGo (at s ws) (sender s xs).end (sender s xs).next) → AreSteps (all_said Sender ws xs)
 sender_speaks [] xs p h may = h
 sender_speaks (w ∷ ws) xs p h may =
     let now : MayAllGo (w.mark ∷ at w.sockets ws) (sender w.sockets xs).end (sender w.sockets xs).next =
-    may_first (same w.sockets w.sockets) w.mark (at w.sockets ws) (sender w.sockets xs).end (sender w.sockets xs).next (same_self w.sockets) (may w.sockets p.0) in
+    may_first _ w.mark _ _ _ (same_self w.sockets) (may w.sockets p.0) in
     sender_speaks ws (Says Sender w ∷ xs) p.1 ((now.0, now.1), h) (λ s q. two_next (same s w.sockets) w.mark (at s ws) (events_at s xs) (may s q))
 
 -- ---- what is heard fits
@@ -81,23 +81,23 @@ under_heard who (w ∷ ws) xs h = (under_heard who ws (Hears who w ∷ xs) h).1
 one_fits : (b : Bool) (m : Mark) (ms : List Mark) (es : List sides.Event) → IsRun (with_event (links.when b (One (sides.Hear m))) es) → AllFit ms (both (with_event (links.when b (One (sides.Hear m))) es)).one.end
     → AllFit (put b m ms) (both es).one.end
 one_fits true m ms es r h =
-    let fit : fits m (both es).one.end ≡ true = joined_fits m (both es).one (both es).two (joined_run es r.1) r.0 in
+    let fit : fits m _ ≡ true = joined_fits m _ _ (joined_run es r.1) r.0 in
     (fit, subst (λ (e : End). AllFit ms e) (ap (λ (b : Bool). if b then mark_taken m (both es).one.end else (both es).one.end) fit) h)
 one_fits false m ms es r h = h
 
 two_fits : (b : Bool) (m : Mark) (ms : List Mark) (es : List sides.Event) → IsRun (with_event (links.when b (Two (sides.Hear m))) es) → AllFit ms (both (with_event (links.when b (Two (sides.Hear m))) es)).two.end
     → AllFit (put b m ms) (both es).two.end
 two_fits true m ms es r h =
-    let fit : fits m (both es).two.end ≡ true = joined_fits m (both es).two (both es).one (turned (both es).one (both es).two (joined_run es r.1)) r.0 in
+    let fit : fits m _ ≡ true = joined_fits m _ _ (turned _ _ (joined_run es r.1)) r.0 in
     (fit, subst (λ (e : End). AllFit ms e) (ap (λ (b : Bool). if b then mark_taken m (both es).two.end else (both es).two.end) fit) h)
 two_fits false m ms es r h = h
 
 pub receiver_fits : (s : Sockets) (ws : List Word) (xs : List Step) → AreSteps (all_heard Receiver ws xs) → AllFit (at s ws) (receiver s xs).end
 receiver_fits s [] xs h = tt
 receiver_fits s (w ∷ ws) xs h =
-    one_fits (same s w.sockets) w.mark (at s ws) (events_at s xs) (run_at s (Hears Receiver w ∷ xs) (under_heard Receiver ws (Hears Receiver w ∷ xs) h)) (receiver_fits s ws (Hears Receiver w ∷ xs) h)
+    one_fits _ w.mark (at s ws) _ (run_at s (Hears Receiver w ∷ xs) (under_heard Receiver ws _ h)) (receiver_fits s ws (Hears Receiver w ∷ xs) h)
 
 pub sender_fits : (s : Sockets) (ws : List Word) (xs : List Step) → AreSteps (all_heard Sender ws xs) → AllFit (at s ws) (sender s xs).end
 sender_fits s [] xs h = tt
 sender_fits s (w ∷ ws) xs h =
-    two_fits (same s w.sockets) w.mark (at s ws) (events_at s xs) (run_at s (Hears Sender w ∷ xs) (under_heard Sender ws (Hears Sender w ∷ xs) h)) (sender_fits s ws (Hears Sender w ∷ xs) h)
+    two_fits _ w.mark (at s ws) _ (run_at s (Hears Sender w ∷ xs) (under_heard Sender ws _ h)) (sender_fits s ws (Hears Sender w ∷ xs) h)

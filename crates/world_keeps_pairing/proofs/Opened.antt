@@ -61,13 +61,13 @@ module _ (s : Sockets) (is_pair : IsPair s) (who : Who) (h p : Host) (origin : �
   side_lives : (e : Event) (moments : List Moment) → (met_if (stay.begins h p e (law_events moments)) (before h p (at_texts s who) (at_texts s (other who)) e (law_events moments) (Side_of s is_pair who h p origin moments))).lives ≡ After e moments
   side_lives e moments =
       let y : Side = hears_if (stay.stays h p (law_events moments)) (at_texts s (other who) (stay.heard_by p h 0 e)) (all_says (at_texts s who (stay.said_by h p 0 e)) (Side_of s is_pair who h p origin moments)) in
-      met_lives (stay.begins h p e (law_events moments)) (left_if (keeps h p e (law_events moments)) y) ∙ left_lives (keeps h p e (law_events moments)) y
+      met_lives _ _ ∙ left_lives _ y
 
   module _ (ours : AreOurs hosts h p) where
     pub by_lives : (x : Moment) (moments : List Moment) (more : List Life) → After (placed_event (event_in x) (events_of moments)) moments ≡ more
         → AreAmong (if same_host h (host_in x) then Now x moments else Lives_of moments) more → Among (x ∷ moments)
     by_lives x moments more is k =
-        subst (λ (l : List Life). AreAmong (with_lives origin h p (own_of who s) (foreign_of who s) (mixed_kept hosts.strange (x ∷ moments)).book.lives []) l) (sym (side_lives (placed_event (event_in x) (events_of moments)) moments ∙ is))
+        subst (λ (l : List Life). AreAmong (with_lives origin h p (own_of who s) (foreign_of who s) (mixed_kept hosts.strange (x ∷ moments)).book.lives []) l) (sym (side_lives _ moments ∙ is))
         (subst (λ (l : List Life). AreAmong l more) (sym (kept_step origin h p (own_of who s) (foreign_of who s) hosts ours.0 x moments)) k)
 
     -- ---- moments by which nothing is said or heard
@@ -87,8 +87,8 @@ module _ (s : Sockets) (is_pair : IsPair s) (who : Who) (h p : Host) (origin : �
     quiet_among : (x : Moment) (moments : List Moment) → stay.said_by h p 0 (placed_event (event_in x) (events_of moments)) ≡ [] → stay.heard_by p h 0 (placed_event (event_in x) (events_of moments)) ≡ []
         → (same_host h (host_in x) ≡ true → Now x moments ≡ Lives_of moments) → Among moments → Among (x ∷ moments)
     quiet_among x moments said heard same k =
-        by_lives x moments (Side_of s is_pair who h p origin moments).lives (quiet_lives (placed_event (event_in x) (events_of moments)) moments said heard)
-        (same_if (same_host h (host_in x)) (Now x moments) (Lives_of moments) (Side_of s is_pair who h p origin moments).lives same k)
+        by_lives x moments _ (quiet_lives _ moments said heard)
+        (same_if _ _ _ _ same k)
 
     pub down_among : (g : Host) (moments : List Moment) → Among moments → Among (Crossed (crossing.Down g) ∷ moments)
     down_among g moments k = quiet_among (Crossed (crossing.Down g)) moments refl refl (λ e. refl) k
@@ -100,7 +100,7 @@ module _ (s : Sockets) (is_pair : IsPair s) (who : Who) (h p : Host) (origin : �
     answer_among kind f moments k =
         quiet_among (Crossed (crossing.Answer kind f)) moments refl refl
         (λ e. about_none origin h p (own_of who s) (foreign_of who s) f.destination (accepted (program f.source moments) (inbound.Answer kind f) (places moments)).1 (Lives_of moments)
-        (answer_about (program f.source moments) kind f (places moments)) (answer_other origin (own_of who s) (foreign_of who s) (program f.source moments) kind f (places moments) (Lives_of moments))) k
+        (answer_about _ kind f _) (answer_other origin (own_of who s) (foreign_of who s) _ kind f _ _)) k
 
     pub asked_among : (g : Host) (r : Request) (moments : List Moment) → Among moments → Among (Asked g r ∷ moments)
     asked_among g r moments k =
@@ -130,14 +130,14 @@ module _ (s : Sockets) (is_pair : IsPair s) (who : Who) (h p : Host) (origin : �
         subst (λ (y : Host). Has origin (own_of who s) (foreign_of who s) y (program h moments) (Side_of s is_pair who h p origin moments).end) (same_host-true p n.peer.host to) t in
         let tells : AreAmong (with_openings origin (own_of who s) (foreign_of who s) (offered (program h moments) (places moments)).1 (Lives_of moments))
         (all_lives_gone (marks (places moments) (own_of who s) (foreign_of who s) (commands_of n.peer.pair n.parcel)) (Side_of s is_pair who h p origin moments).end (Side_of s is_pair who h p origin moments).lives) =
-        offer_tells origin (own_of who s) (foreign_of who s) (program h moments) (places moments) n.peer n.parcel (Side_of s is_pair who h p origin moments).end (Lives_of moments) (Side_of s is_pair who h p origin moments).lives n.order n.next there k in
+        offer_tells origin (own_of who s) (foreign_of who s) _ _ n.peer n.parcel _ _ _ n.order n.next there k in
         subst (λ (y : HostMessage). AreAmong (all_of_peer origin h p (own_of who s) (foreign_of who s) (offered (program h moments) (places moments)).1 (Lives_of moments))
         (all_lives_gone (read_marks (places moments) (own_of who s) (foreign_of who s) y.flow.link.0 y.text) (Side_of s is_pair who h p origin moments).end (Side_of s is_pair who h p origin moments).lives)) (sym n.message)
         (subst (λ (ms : List Mark). AreAmong (all_of_peer origin h p (own_of who s) (foreign_of who s) (offered (program h moments) (places moments)).1 (Lives_of moments))
         (all_lives_gone ms (Side_of s is_pair who h p origin moments).end (Side_of s is_pair who h p origin moments).lives))
-        (goes_marks origin (own_of who s) (foreign_of who s) (program h moments) (places moments) n.peer n.parcel (pair h n.peer.host (events_of moments)) n.order n.next ranged (story_agrees hosts moments h n.peer.host (ours.0, subst (λ (y : Host). hosts.strange y ≡ false) (same_host-true p n.peer.host to) ours.1) story))
+        (goes_marks origin (own_of who s) (foreign_of who s) _ _ n.peer n.parcel _ n.order n.next ranged (story_agrees hosts moments h n.peer.host (ours.0, subst (λ (y : Host). hosts.strange y ≡ false) (same_host-true p n.peer.host to) ours.1) story))
         (subst (λ (l : List Life). AreAmong l (all_lives_gone (marks (places moments) (own_of who s) (foreign_of who s) (commands_of n.peer.pair n.parcel)) (Side_of s is_pair who h p origin moments).end (Side_of s is_pair who h p origin moments).lives))
-        (sym (about_peer origin h p (own_of who s) (foreign_of who s) n.peer.host (offered (program h moments) (places moments)).1 (Lives_of moments) (offer_about (program h moments) (places moments) n.peer n.parcel n.next) to)) tells))
+        (sym (about_peer origin h p (own_of who s) (foreign_of who s) n.peer.host _ _ (offer_about _ _ n.peer n.parcel n.next) to)) tells))
 
     out_by : (b c : Bool) (ms : List Mark) (x : End) (now old lives : List Life) → (b ≡ true → c ≡ true → AreAmong now (all_lives_gone ms x lives)) → (b ≡ true → c ≡ false → now ≡ old) → AreAmong old lives
         → AreAmong (if b then now else old) (all_lives_gone (when_all b c ms) x lives)

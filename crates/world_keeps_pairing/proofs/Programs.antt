@@ -35,12 +35,12 @@ alone_is test only k (Wrong code octets ∷ o ∷ orders) e = absurd (let no : f
 
 sort_by : (link : ℕ) (text : List Bool) (zero rst rrp : Bool) → (link == 0) ≡ zero → is_alone is_rst (orders_of text) ≡ rst → is_alone is_rrp (orders_of text) ≡ rrp → Sort link text
 sort_by link text false rst rrp e f g = AText (rw e refl)
-sort_by link text true true rrp e f g = AnRst e (alone_is is_rst command.Rst rst_only (orders_of text) f) (rw (e, f) refl)
-sort_by link text true false true e f g = AnRrp e (alone_is is_rrp command.Rrp rrp_only (orders_of text) g) (rw (e, f, g) refl)
+sort_by link text true true rrp e f g = AnRst e (alone_is is_rst command.Rst rst_only _ f) (rw (e, f) refl)
+sort_by link text true false true e f g = AnRrp e (alone_is is_rrp command.Rrp rrp_only _ g) (rw (e, f, g) refl)
 sort_by link text true false false e f g = AText (rw (e, f, g) refl)
 
 pub sort_of : (link : ℕ) (text : List Bool) → Sort link text
-sort_of link text = sort_by link text (link == 0) (is_alone is_rst (orders_of text)) (is_alone is_rrp (orders_of text)) refl refl refl
+sort_of link text = sort_by link text (link == 0) _ _ refl refl refl
 
 -- ---- plain orders have neither RST nor RRP
 
@@ -66,7 +66,7 @@ read_marks place own foreign link text = if link == 0 then marks_in place own fo
 
 parcel_marks : (place own foreign : ℕ) (q : PairState) (p : Pair) (x : Parcel) → Agrees q p → next_of q ≡ Some x → IsReadBack q x → marks place own foreign (commands_of q x) ≡ read_marks place own foreign (link_for x) (text_for q x)
 parcel_marks place own foreign q p (parcel.Bytes e size count) a n back =
-    let may : MayGo q (parcel.Bytes e size count) = what_goes q (parcel.Bytes e size count) n in
+    let may : MayGo q (parcel.Bytes e size count) = what_goes q _ n in
     let away : (parcel.link_of e.link == 0) ≡ false = data_away q e size count a.linked may.1.linked n in
     ap (λ (b : Bool). if b then marks_in place own foreign (orders_of (text_for q (parcel.Bytes e size count))) else []) (sym away)
 parcel_marks place own foreign q p x a n back = sym (ap (marks_in place own foreign) back ∙ legal_marks place own foreign (commands_of q x))
@@ -146,4 +146,4 @@ module _ (origin : ℕ → ℕ) (own foreign : ℕ) where
       subst (λ (y : Host). HasEnd origin own foreign (pair_with y (accepted s (inbound.Answer kind f) stamp).0.peers) (kept_in (pair_with y (accepted s (inbound.Answer kind f) stamp).0.peers) e)) (sym is)
       (answer_keeps origin own foreign s kind f stamp e (subst (λ (y : Host). Has y s e) is h))
   answer_has s kind f stamp p e h false same =
-      subst (λ (q : PairState). HasEnd origin own foreign q (kept_in q e)) (sym (answer_leaves s kind f stamp p same)) (same_kept origin own foreign (pair_with p s.peers) e h)
+      subst (λ (q : PairState). HasEnd origin own foreign q (kept_in q e)) (sym (answer_leaves s kind f stamp p same)) (same_kept origin own foreign _ e h)

@@ -59,36 +59,36 @@ module _ (s : Sockets) where
 
   pub receiver_says : (ws : List Word) (xs : List Step) → receiver s (all_said Receiver ws xs) ≡ all_says (at s ws) (receiver s xs)
   receiver_says [] xs = refl
-  receiver_says (w ∷ ws) xs = receiver_says ws (Says Receiver w ∷ xs) ∙ says_step (same s w.sockets) w.mark (at s ws) (events_at s xs)
+  receiver_says (w ∷ ws) xs = receiver_says ws (Says Receiver w ∷ xs) ∙ says_step _ w.mark (at s ws) _
 
   pub sender_says : (ws : List Word) (xs : List Step) → sender s (all_said Sender ws xs) ≡ all_says (at s ws) (sender s xs)
   sender_says [] xs = refl
-  sender_says (w ∷ ws) xs = sender_says ws (Says Sender w ∷ xs) ∙ says_other (same s w.sockets) w.mark (at s ws) (events_at s xs)
+  sender_says (w ∷ ws) xs = sender_says ws (Says Sender w ∷ xs) ∙ says_other _ w.mark (at s ws) _
 
   pub receiver_hears : (ws : List Word) (xs : List Step) → receiver s (all_heard Receiver ws xs) ≡ all_hears (at s ws) (receiver s xs)
   receiver_hears [] xs = refl
-  receiver_hears (w ∷ ws) xs = receiver_hears ws (Hears Receiver w ∷ xs) ∙ hears_step (same s w.sockets) w.mark (at s ws) (events_at s xs)
+  receiver_hears (w ∷ ws) xs = receiver_hears ws (Hears Receiver w ∷ xs) ∙ hears_step _ w.mark (at s ws) _
 
   pub sender_hears : (ws : List Word) (xs : List Step) → sender s (all_heard Sender ws xs) ≡ all_hears (at s ws) (sender s xs)
   sender_hears [] xs = refl
-  sender_hears (w ∷ ws) xs = sender_hears ws (Hears Sender w ∷ xs) ∙ hears_other (same s w.sockets) w.mark (at s ws) (events_at s xs)
+  sender_hears (w ∷ ws) xs = sender_hears ws (Hears Sender w ∷ xs) ∙ hears_other _ w.mark (at s ws) _
 
   -- the other is as before
   pub receiver_waits : (ws : List Word) (xs : List Step) → receiver s (all_said Sender ws xs) ≡ receiver s xs
   receiver_waits [] xs = refl
-  receiver_waits (w ∷ ws) xs = receiver_waits ws (Says Sender w ∷ xs) ∙ one_alone (same s w.sockets) (Say w.mark) (events_at s xs)
+  receiver_waits (w ∷ ws) xs = receiver_waits ws (Says Sender w ∷ xs) ∙ one_alone (same s w.sockets) _ _
 
   sender_waits : (ws : List Word) (xs : List Step) → sender s (all_said Receiver ws xs) ≡ sender s xs
   sender_waits [] xs = refl
-  sender_waits (w ∷ ws) xs = sender_waits ws (Says Receiver w ∷ xs) ∙ two_alone (same s w.sockets) (Say w.mark) (events_at s xs)
+  sender_waits (w ∷ ws) xs = sender_waits ws (Says Receiver w ∷ xs) ∙ two_alone (same s w.sockets) _ _
 
   receiver_deaf : (ws : List Word) (xs : List Step) → receiver s (all_heard Sender ws xs) ≡ receiver s xs
   receiver_deaf [] xs = refl
-  receiver_deaf (w ∷ ws) xs = receiver_deaf ws (Hears Sender w ∷ xs) ∙ one_alone (same s w.sockets) (sides.Hear w.mark) (events_at s xs)
+  receiver_deaf (w ∷ ws) xs = receiver_deaf ws (Hears Sender w ∷ xs) ∙ one_alone (same s w.sockets) _ _
 
   sender_deaf : (ws : List Word) (xs : List Step) → sender s (all_heard Receiver ws xs) ≡ sender s xs
   sender_deaf [] xs = refl
-  sender_deaf (w ∷ ws) xs = sender_deaf ws (Hears Receiver w ∷ xs) ∙ two_alone (same s w.sockets) (sides.Hear w.mark) (events_at s xs)
+  sender_deaf (w ∷ ws) xs = sender_deaf ws (Hears Receiver w ∷ xs) ∙ two_alone (same s w.sockets) _ _
 
   receiver_hears_if : (b : Bool) (ws : List Word) (xs : List Step) → receiver s (heard_in b Receiver ws xs) ≡ hears_if b (at s ws) (receiver s xs)
   receiver_hears_if true ws xs = receiver_hears ws xs
@@ -133,23 +133,23 @@ module _ (s : Sockets) where
   pub receiver_said : (a b : Host) (e : Event) (xs : List Step) → receiver s (spoken_by a b e xs) ≡ all_says (at s (words_of Receiver (stay.said_by a b 0 e))) (receiver s xs)
   receiver_said a b e xs =
       let ss : List Word = words_of Sender (stay.said_by b a 0 e) in
-      receiver_says (words_of Receiver (stay.said_by a b 0 e)) (all_said Sender ss xs) ∙ ap (all_says (at s (words_of Receiver (stay.said_by a b 0 e)))) (receiver_waits ss xs)
+      receiver_says (words_of Receiver (stay.said_by a b 0 e)) _ ∙ ap (all_says (at s (words_of Receiver (stay.said_by a b 0 e)))) (receiver_waits ss xs)
 
   pub sender_said : (a b : Host) (e : Event) (xs : List Step) → sender s (spoken_by a b e xs) ≡ all_says (at s (words_of Sender (stay.said_by b a 0 e))) (sender s xs)
   sender_said a b e xs =
       let ss : List Word = words_of Sender (stay.said_by b a 0 e) in
-      sender_waits (words_of Receiver (stay.said_by a b 0 e)) (all_said Sender ss xs) ∙ sender_says ss xs
+      sender_waits (words_of Receiver (stay.said_by a b 0 e)) _ ∙ sender_says ss xs
 
   receiver_took : (a b : Host) (e : Event) (events : List Event) (xs : List Step) → receiver s (taken_by a b e events xs) ≡ hears_if (stay.stays a b events) (at s (words_of Sender (stay.heard_by b a 0 e))) (receiver s xs)
   receiver_took a b e events xs =
       let ss : List Word = words_of Receiver (stay.heard_by a b 0 e) in
-      receiver_hears_if (stay.stays a b events) (words_of Sender (stay.heard_by b a 0 e)) (heard_in (stay.stays b a events) Sender ss xs)
-      ∙ ap (hears_if (stay.stays a b events) (at s (words_of Sender (stay.heard_by b a 0 e)))) (receiver_deaf_if (stay.stays b a events) ss xs)
+      receiver_hears_if (stay.stays a b events) (words_of Sender (stay.heard_by b a 0 e)) _
+      ∙ ap (hears_if (stay.stays a b events) (at s (words_of Sender (stay.heard_by b a 0 e)))) (receiver_deaf_if _ ss xs)
 
   sender_took : (a b : Host) (e : Event) (events : List Event) (xs : List Step) → sender s (taken_by a b e events xs) ≡ hears_if (stay.stays b a events) (at s (words_of Receiver (stay.heard_by a b 0 e))) (sender s xs)
   sender_took a b e events xs =
       let ss : List Word = words_of Receiver (stay.heard_by a b 0 e) in
-      sender_deaf_if (stay.stays a b events) (words_of Sender (stay.heard_by b a 0 e)) (heard_in (stay.stays b a events) Sender ss xs) ∙ sender_hears_if (stay.stays b a events) ss xs
+      sender_deaf_if (stay.stays a b events) (words_of Sender (stay.heard_by b a 0 e)) _ ∙ sender_hears_if _ ss xs
 
 -- ---- a half: one host, by what it says and hears
 
@@ -170,15 +170,15 @@ module _ (s : Sockets) (a b : Host) where
       ≡ before a b (at_texts s Receiver) (at_texts s Sender) e events (receiver s (steps a b events))
   receiver_before e events =
       let spoken : List Step = spoken_by a b e (steps a b events) in
-      receiver_leaves s (keeps a b e events) (keeps b a e events) (taken_by a b e events spoken)
-      ∙ ap (left_if (keeps a b e events)) (receiver_took s a b e events spoken ∙ ap (hears_if (stay.stays a b events) (at s (words_of Sender (stay.heard_by b a 0 e)))) (receiver_said s a b e (steps a b events)))
+      receiver_leaves s (keeps a b e events) (keeps b a e events) _
+      ∙ ap (left_if (keeps a b e events)) (receiver_took s a b e events spoken ∙ ap (hears_if (stay.stays a b events) (at s (words_of Sender (stay.heard_by b a 0 e)))) (receiver_said s a b e _))
 
   pub sender_before : (e : Event) (events : List Event) → sender s (steps_left (keeps a b e events) Receiver (steps_left (keeps b a e events) Sender (taken_by a b e events (spoken_by a b e (steps a b events)))))
       ≡ before b a (at_texts s Sender) (at_texts s Receiver) e events (sender s (steps a b events))
   sender_before e events =
       let spoken : List Step = spoken_by a b e (steps a b events) in
-      sender_leaves s (keeps a b e events) (keeps b a e events) (taken_by a b e events spoken)
-      ∙ ap (left_if (keeps b a e events)) (sender_took s a b e events spoken ∙ ap (hears_if (stay.stays b a events) (at s (words_of Receiver (stay.heard_by a b 0 e)))) (sender_said s a b e (steps a b events)))
+      sender_leaves s (keeps a b e events) (keeps b a e events) _
+      ∙ ap (left_if (keeps b a e events)) (sender_took s a b e events spoken ∙ ap (hears_if (stay.stays b a events) (at s (words_of Receiver (stay.heard_by a b 0 e)))) (sender_said s a b e _))
 
   pub receiver_half : (events : List Event) → receiver s (steps a b events) ≡ half a b (at_texts s Receiver) (at_texts s Sender) events
   receiver_half [] = refl
@@ -218,7 +218,7 @@ takes_unsaid m x false h = h
 
 all_unsaid : (ms : List Mark) (x : Side) → Unsaid x.end → Unsaid (all_hears ms x).end
 all_unsaid [] x h = h
-all_unsaid (m ∷ ms) x h = all_unsaid ms (hears m x) (takes_unsaid m x.end (fits m x.end) h)
+all_unsaid (m ∷ ms) x h = all_unsaid ms (hears m x) (takes_unsaid m x.end _ h)
 
 unsaid_if : (b : Bool) (ms : List Mark) (x : Side) → Unsaid x.end → Unsaid (hears_if b ms x).end
 unsaid_if true ms x h = all_unsaid ms x h
@@ -329,16 +329,16 @@ module _ (h p : Host) (spoken heard : List (List Bool) → List Mark) (mute : sp
   begin_mute false q r e = e
 
   mute_by : (e : Event) (events : List Event) → Keeps e events
-  mute_by (Contact x y) events k e = (refl, call_mute (are h p x y) (pair h p events) (both_true _ false k).0 e)
+  mute_by (Contact x y) events k e = (refl, call_mute _ _ (both_true _ false k).0 e)
   mute_by (Out x y l m) events k e =
-      let o : ((pair h p events).begun ≡ false) × ((text : List Bool) → m ≡ Other text → are h p x y ≡ false) = out_mute (are h p x y) l m (pair h p events) e in
+      let o : ((pair h p events).begun ≡ false) × ((text : List Bool) → m ≡ Other text → are h p x y ≡ false) = out_mute _ l m _ e in
       (out_silent x y l m o.1, o.0)
   mute_by (In x y l m) events k e =
-      let none : stay.takes_reset h p (In x y l m) ≡ false = (both_true (stay.ready h p (In x y l m ∷ events)) (stay.takes_reset h p (In x y l m)) k).1 in
-      (refl, take_mute (are h p y x) m (pair h p events) (no_reset x y l m none) e)
-  mute_by (Told x y l a) events k e = (refl, told_mute (are h p x y) l a (pair h p events) (both_true _ false k).0 e)
-  mute_by (Down x) events k e = (refl, begin_mute (same_host h x) (pair h p events) (both_true _ false k).0 e)
-  mute_by (Up x) events k e = (refl, begin_mute (same_host h x) (pair h p events) (both_true _ false k).0 e)
+      let none : stay.takes_reset h p (In x y l m) ≡ false = (both_true _ _ k).1 in
+      (refl, take_mute _ m _ (no_reset x y l m none) e)
+  mute_by (Told x y l a) events k e = (refl, told_mute _ l a _ (both_true _ false k).0 e)
+  mute_by (Down x) events k e = (refl, begin_mute _ _ (both_true _ false k).0 e)
+  mute_by (Up x) events k e = (refl, begin_mute _ _ (both_true _ false k).0 e)
   mute_by Idle events k e = (refl, e)
 
   unsaid_kept : (keep : Bool) (stays : Bool) (ms ns : List Mark) (x : Side) → (keep ≡ true → (ms ≡ []) × Unsaid x.end) → Unsaid (left_if keep (hears_if stays ns (all_says ms x))).end
@@ -349,8 +349,8 @@ module _ (h p : Host) (spoken heard : List (List Bool) → List Mark) (mute : sp
   unsaid [] e = (refl, refl)
   unsaid (e ∷ events) none =
       let b : Side = before h p spoken heard e events (Half events) in
-      subst (λ (x : End). Unsaid x) (sym (met_end (stay.begins h p e events) b))
-      (unsaid_kept (keeps h p e events) (stay.stays h p events) (spoken (stay.said_by h p 0 e)) (heard (stay.heard_by p h 0 e)) (Half events)
+      subst (λ (x : End). Unsaid x) (sym (met_end _ b))
+      (unsaid_kept _ (stay.stays h p events) _ (heard (stay.heard_by p h 0 e)) _
       (λ k. (ap spoken (mute_by e events k none).0 ∙ mute, unsaid events (mute_by e events k none).1)))
 
   -- so where it begins to stay it has no end

@@ -44,17 +44,17 @@ module _ (s : Sockets) (is_pair : IsPair s) (who : Who) (h p : Host) (origin : �
   out_may_here hosts ours m moments next story n ranged below t same =
       let to : same_host p n.peer.host ≡ true = ap (λ (y : HostMessage). same_host p y.flow.destination) (sym n.message) ∙ same in
       subst (λ (y : HostMessage). MayAllGo (read_marks (places moments) (own_of who s) (foreign_of who s) y.flow.link.0 y.text) (Side_of s is_pair who h p origin moments).end next) (sym n.message)
-      (out_may origin (own_of who s) (foreign_of who s) (program h moments) (places moments) n.peer n.parcel (pair h n.peer.host (events_of moments)) (Side_of s is_pair who h p origin moments).end next n.order n.next ranged (story_agrees hosts moments h n.peer.host (ours.0, subst (λ (y : Host). hosts.strange y ≡ false) (same_host-true p n.peer.host to) ours.1) story) below
+      (out_may origin (own_of who s) (foreign_of who s) _ _ n.peer n.parcel _ _ next n.order n.next ranged (story_agrees hosts moments h n.peer.host (ours.0, subst (λ (y : Host). hosts.strange y ≡ false) (same_host-true p n.peer.host to) ours.1) story) below
       (subst (λ (y : Host). Has origin (own_of who s) (foreign_of who s) y (program h moments) (Side_of s is_pair who h p origin moments).end) (same_host-true p n.peer.host to) t))
 
   out_may_turn : (hosts : Network) → AreOurs hosts h p → (m : HostMessage) (moments : List Moment) → IsStory hosts (Crossed (crossing.Out m) ∷ moments) → IsRanged (program h moments) → (Side_of s is_pair who h p origin moments).next ≤ places moments → Tie s is_pair who h p origin moments → May (Crossed (crossing.Out m)) moments
   out_may_turn hosts ours m moments story ranged below t =
       let all : MayAllGo (said_out s is_pair who h p origin m moments) (Side_of s is_pair who h p origin moments).end (Side_of s is_pair who h p origin moments).next =
       subst (λ (n : ℕ). MayAllGo (when_all (same_host h m.flow.source) (same_host p m.flow.destination) (read_marks n (own_of who s) (foreign_of who s) m.flow.link.0 m.text)) (Side_of s is_pair who h p origin moments).end (Side_of s is_pair who h p origin moments).next) (sym (place_is moments))
-      (may_if (same_host h m.flow.source) (same_host p m.flow.destination) (read_marks (places moments) (own_of who s) (foreign_of who s) m.flow.link.0 m.text) (Side_of s is_pair who h p origin moments).end (Side_of s is_pair who h p origin moments).next
+      (may_if _ _ _ _ _
       (λ e f. out_may_here hosts ours m moments (Side_of s is_pair who h p origin moments).next story.1 (subst (λ (y : Host). IsNext (program y moments) m) (sym (same_host-true h m.flow.source e)) (story.0 (subst (λ (y : Host). hosts.strange y ≡ false) (same_host-true h m.flow.source e) ours.0))) ranged below t f)) in
       subst (λ (ms : List Mark). MayAllGo ms (Side_of s is_pair who h p origin moments).end (Side_of s is_pair who h p origin moments).next)
-      (sym (said_is s is_pair who h p m.flow.source m.flow.destination m.flow.link.0 (place (events_of moments)) m.text)) all
+      (sym (said_is s is_pair who h p m.flow.source m.flow.destination m.flow.link.0 _ m.text)) all
 
   pub may_turn : (hosts : Network) → AreOurs hosts h p → (x : Moment) (moments : List Moment) → IsStory hosts (x ∷ moments) → IsRanged (program h moments) → (Side_of s is_pair who h p origin moments).next ≤ places moments → Tie s is_pair who h p origin moments → May x moments
   may_turn hosts ours (Crossed (crossing.Out m)) moments story ranged below t = out_may_turn hosts ours m moments story ranged below t
@@ -72,7 +72,7 @@ module _ (s : Sockets) (is_pair : IsPair s) (who : Who) (h p : Host) (origin : �
   next_is e moments =
       let x : Side = all_says (at_texts s who (stay.said_by h p 0 e)) (Side_of s is_pair who h p origin moments) in
       let y : Side = hears_if (stay.stays h p (law_events moments)) (at_texts s (other who) (stay.heard_by p h 0 e)) x in
-      met_next (stay.begins h p e (law_events moments)) (left_if (keeps h p e (law_events moments)) y) ∙ left_next (keeps h p e (law_events moments)) y
+      met_next _ _ ∙ left_next _ y
       ∙ hears_next (stay.stays h p (law_events moments)) (at_texts s (other who) (stay.heard_by p h 0 e)) x
 
   when_at : (a b : Bool) (n : ℕ) (ms : List Mark) → AllAt n ms → AllAt n (when_all a b ms)
@@ -83,7 +83,7 @@ module _ (s : Sockets) (is_pair : IsPair s) (who : Who) (h p : Host) (origin : �
   pub read_at : (n link : ℕ) (text : List Bool) → AllAt n (read_marks n (own_of who s) (foreign_of who s) link text)
   read_at n link text = by (link == 0) where
     by : (z : Bool) → AllAt n (if z then marks_in n (own_of who s) (foreign_of who s) (orders_of text) else [])
-    by true = marks_at n (own_of who s) (foreign_of who s) (orders_of text)
+    by true = marks_at n (own_of who s) _ (orders_of text)
     by false = tt
 
   out_next : (m : HostMessage) (moments : List Moment) → Next moments ≤ places moments → Next (Crossed (crossing.Out m) ∷ moments) ≤ 1 + places moments
@@ -130,7 +130,7 @@ heard_all false who ws xs e h = absurd (let both : false ≡ true = e in cc)
 -- what they hear may be heard
 pub taken_steps : (a b : Host) (e : Event) (events : List Event) → AreSteps (steps a b (e ∷ events)) → AreSteps (taken_by a b e events (spoken_by a b e (steps a b events)))
 taken_steps a b e events h =
-    under_left (keeps b a e events) Sender _ (under_left (keeps a b e events) Receiver _ (under_met (stay.begins a b e events) _ h))
+    under_left (keeps b a e events) Sender _ (under_left (keeps a b e events) Receiver _ (under_met _ _ h))
 
 -- ---- programs keep their numbers in range
 
@@ -145,18 +145,18 @@ asked_ranged : (hosts : Network) (h g : Host) (r : Request) (moments : List Mome
     → IsRanged (if b then asks.served (program h moments) r else program h moments)
 asked_ranged hosts h g r moments asks off true e k =
     let ok : (refusal (program g moments) r ≡ None) × IsAsked r = asks (subst (λ (y : Host). hosts.strange y ≡ false) (same_host-true h g e) off) in
-    request_ranged (program h moments) r (subst (λ (y : Host). refusal (program y moments) r ≡ None) (sym (same_host-true h g e)) ok.0) ok.1 k
+    request_ranged _ r (subst (λ (y : Host). refusal (program y moments) r ≡ None) (sym (same_host-true h g e)) ok.0) ok.1 k
 asked_ranged hosts h g r moments asks off false e k = k
 
 -- what users ask for isn't refused, and has numbers of their types
 pub programs_ranged : (hosts : Network) (moments : List Moment) → AreServed hosts moments → (h : Host) → hosts.strange h ≡ false → IsRanged (program h moments)
 programs_ranged hosts [] served h off = opening_ranged h
-programs_ranged hosts (Crossed (crossing.Out m) ∷ moments) served h off = if_ranged (same_host h m.flow.source) _ _ (offer_ranged (program h moments) (places moments) (programs_ranged hosts moments served h off)) (programs_ranged hosts moments served h off)
-programs_ranged hosts (Crossed (crossing.In m) ∷ moments) served h off = if_ranged (same_host h m.flow.destination) _ _ (message_ranged (program h moments) m (places moments) (programs_ranged hosts moments served h off)) (programs_ranged hosts moments served h off)
-programs_ranged hosts (Crossed (crossing.Answer kind f) ∷ moments) served h off = if_ranged (same_host h f.source) _ _ (answer_ranged (program h moments) kind f (places moments) (programs_ranged hosts moments served h off)) (programs_ranged hosts moments served h off)
-programs_ranged hosts (Crossed (crossing.Down g) ∷ moments) served h off = if_ranged (same_host h g) _ _ (opening_ranged h) (programs_ranged hosts moments served h off)
-programs_ranged hosts (Crossed (crossing.Up g) ∷ moments) served h off = if_ranged (same_host h g) _ _ (opening_ranged h) (programs_ranged hosts moments served h off)
-programs_ranged hosts (Asked g r ∷ moments) served h off = asked_ranged hosts h g r moments served.0 off (same_host h g) refl (programs_ranged hosts moments served.1 h off)
+programs_ranged hosts (Crossed (crossing.Out m) ∷ moments) served h off = if_ranged _ _ _ (offer_ranged _ _ (programs_ranged hosts moments served h off)) (programs_ranged hosts moments served h off)
+programs_ranged hosts (Crossed (crossing.In m) ∷ moments) served h off = if_ranged _ _ _ (message_ranged _ m _ (programs_ranged hosts moments served h off)) (programs_ranged hosts moments served h off)
+programs_ranged hosts (Crossed (crossing.Answer kind f) ∷ moments) served h off = if_ranged _ _ _ (answer_ranged _ kind f _ (programs_ranged hosts moments served h off)) (programs_ranged hosts moments served h off)
+programs_ranged hosts (Crossed (crossing.Down g) ∷ moments) served h off = if_ranged _ _ _ (opening_ranged h) (programs_ranged hosts moments served h off)
+programs_ranged hosts (Crossed (crossing.Up g) ∷ moments) served h off = if_ranged _ _ _ (opening_ranged h) (programs_ranged hosts moments served h off)
+programs_ranged hosts (Asked g r ∷ moments) served h off = asked_ranged hosts h g r moments served.0 off _ refl (programs_ranged hosts moments served.1 h off)
 
 -- ---- what is heard is in order
 

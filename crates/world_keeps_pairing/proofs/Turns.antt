@@ -48,15 +48,15 @@ module _ (s : Sockets) (pair : IsPair s) (who : Who) where
   said_by_sort : (h p x y : Host) (link place : ℕ) (text : List Bool) → Sort link text → at_texts s who (stay.said_by h p 0 (Out x y link (with_place place (message_on link text))))
       ≡ when_all (same_host h x) (same_host p y) (read_marks place (own_of who s) (foreign_of who s) link text)
   said_by_sort h p x y link place text (AnRst z orders is) =
-      ap (λ (m : Message). at_texts s who (stay.said_by h p 0 (Out x y link (with_place place m)))) is ∙ none_if (same_host h x) (same_host p y)
-      ∙ ap (when_all (same_host h x) (same_host p y)) (sym (signal_marks (own_of who s) (foreign_of who s) place link text _ orders refl (link == 0)))
+      ap (λ (m : Message). at_texts s who (stay.said_by h p 0 (Out x y link (with_place place m)))) is ∙ none_if _ _
+      ∙ ap (when_all (same_host h x) (same_host p y)) (sym (signal_marks _ _ place link text _ orders refl (link == 0)))
   said_by_sort h p x y link place text (AnRrp z orders is) =
-      ap (λ (m : Message). at_texts s who (stay.said_by h p 0 (Out x y link (with_place place m)))) is ∙ none_if (same_host h x) (same_host p y)
-      ∙ ap (when_all (same_host h x) (same_host p y)) (sym (signal_marks (own_of who s) (foreign_of who s) place link text _ orders refl (link == 0)))
+      ap (λ (m : Message). at_texts s who (stay.said_by h p 0 (Out x y link (with_place place m)))) is ∙ none_if _ _
+      ∙ ap (when_all (same_host h x) (same_host p y)) (sym (signal_marks _ _ place link text _ orders refl (link == 0)))
   said_by_sort h p x y link place text (AText is) =
       ap (λ (m : Message). at_texts s who (stay.said_by h p 0 (Out x y link (with_place place m)))) is
-      ∙ ap (at_texts s who) (and_three (same_host h x) (same_host p y) (0 == link) (tagged place text ∷ []))
-      ∙ texts_if (same_host h x) (same_host p y) (0 == link) place text
+      ∙ ap (at_texts s who) (and_three _ _ (0 == link) _)
+      ∙ texts_if _ _ (0 == link) place text
       ∙ ap (λ (z : Bool). when_all (same_host h x) (same_host p y) (if z then marks_in place (own_of who s) (foreign_of who s) (orders_of text) else [])) (eqb-sym 0 link)
 
   -- what a host says by a message that goes out
@@ -93,9 +93,9 @@ module _ (origin : ℕ → ℕ) (own foreign : ℕ) where
     pub tie_by : (z : End) → stay.ready h p (e ∷ older) ≡ program_phases.is_ready q.phase → stay.takes_reset h p e ≡ false → HasEnd origin own foreign q (kept_in q z) → z ≡ turned.end
         → HasEnd origin own foreign q (met_if (stay.begins h p e older) (before h p spoken heard e older x)).end
     tie_by z ready none k is =
-        let keep : keeps h p e older ≡ program_phases.is_ready q.phase = and_kept (stay.ready h p (e ∷ older)) (stay.takes_reset h p e) none ∙ ready in
-        subst (λ (y : End). HasEnd origin own foreign q y) (sym (met_end (stay.begins h p e older) (before h p spoken heard e older x)))
-        (left_end (keeps h p e older) q turned keep (subst (λ (y : End). HasEnd origin own foreign q (kept_in q y)) is k))
+        let keep : keeps h p e older ≡ program_phases.is_ready q.phase = and_kept _ _ none ∙ ready in
+        subst (λ (y : End). HasEnd origin own foreign q y) (sym (met_end _ _))
+        (left_end _ q turned keep (subst (λ (y : End). HasEnd origin own foreign q (kept_in q y)) is k))
 
     -- an event that says nothing of these two
     abbrev pub IsQuiet : Type 0
@@ -104,17 +104,17 @@ module _ (origin : ℕ → ℕ) (own foreign : ℕ) where
     pub tie_quiet : spoken [] ≡ [] → heard [] ≡ [] → stay.ready h p (e ∷ older) ≡ program_phases.is_ready q.phase → IsQuiet → HasEnd origin own foreign q (kept_in q x.end)
         → HasEnd origin own foreign q (met_if (stay.begins h p e older) (before h p spoken heard e older x)).end
     tie_quiet mute deaf ready quiet k =
-        let said : spoken (stay.said_by h p 0 e) ≡ [] = ap spoken quiet.0 ∙ mute in
+        let said : spoken _ ≡ [] = ap spoken quiet.0 ∙ mute in
         let taken : heard (stay.heard_by p h 0 e) ≡ [] = ap heard quiet.1 ∙ deaf in
         tie_by x.end ready quiet.2 k
         (sym (ap (λ (ms : List Mark). (hears_if (stay.stays h p older) ms (all_says (spoken (stay.said_by h p 0 e)) x)).end) taken
-        ∙ hears_none (stay.stays h p older) (all_says (spoken (stay.said_by h p 0 e)) x)
+        ∙ hears_none _ _
         ∙ ap (λ (ms : List Mark). (all_says ms x).end) said))
 
     -- an RST of the peer is taken
     pub tie_reset : stay.takes_reset h p e ≡ true → HasEnd origin own foreign q nothing → HasEnd origin own foreign q (met_if (stay.begins h p e older) (before h p spoken heard e older x)).end
     tie_reset takes k =
-        subst (λ (y : End). HasEnd origin own foreign q y) (sym (met_end (stay.begins h p e older) (before h p spoken heard e older x)))
+        subst (λ (y : End). HasEnd origin own foreign q y) (sym (met_end _ _))
         (by (stay.ready h p (e ∷ older)) (stay.takes_reset h p e) takes) where
           by : (a b : Bool) → b ≡ true → HasEnd origin own foreign q (left_if (a && not b) turned).end
           by true true f = k

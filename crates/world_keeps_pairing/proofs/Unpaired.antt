@@ -14,7 +14,7 @@ abbrev pub IsUnpaired : ℕ → ℕ → Type 0
 IsUnpaired own foreign = ((is_receive_socket own && is_send_socket foreign) ≡ false) × ((is_send_socket own && is_receive_socket foreign) ≡ false)
 
 pub unpaired_turned : (own foreign : ℕ) → IsUnpaired own foreign → IsUnpaired foreign own
-unpaired_turned own foreign u = (and_turned (is_receive_socket foreign) (is_send_socket own) ∙ u.1, and_turned (is_send_socket foreign) (is_receive_socket own) ∙ u.0)
+unpaired_turned own foreign u = (and_turned (is_receive_socket foreign) _ ∙ u.1, and_turned (is_send_socket foreign) _ ∙ u.0)
 
 -- ---- what orders say of them
 
@@ -45,19 +45,19 @@ module _ (own foreign : ℕ) (u : IsUnpaired own foreign) where
   order_closes : (place : ℕ) (o : Order) → IsOrder o → AllClose (mark_in place own foreign o)
   order_closes place (Wrong code octets) h = tt
   order_closes place (Legal (command.Rts r n link)) h =
-      no_ask place (r == own && n == foreign)
+      no_ask place _
       (λ e. let is : ((r == own) ≡ true) × ((n == foreign) ≡ true) = both (r == own) (n == foreign) e in
-      two_true (is_receive_socket own) (is_send_socket foreign) (is_receive_socket r) (is_send_socket n) (ap is_receive_socket (sym (eqb-true r own is.0))) (ap is_send_socket (sym (eqb-true n foreign is.1))) h.1 h.3 u.0)
+      two_true _ _ _ _ (ap is_receive_socket (sym (eqb-true r own is.0))) (ap is_send_socket (sym (eqb-true n foreign is.1))) h.1 h.3 u.0)
   order_closes place (Legal (command.Str n r size)) h =
-      no_ask place (n == own && r == foreign)
+      no_ask place _
       (λ e. let is : ((n == own) ≡ true) × ((r == foreign) ≡ true) = both (n == own) (r == foreign) e in
-      two_true (is_send_socket own) (is_receive_socket foreign) (is_send_socket n) (is_receive_socket r) (ap is_send_socket (sym (eqb-true n own is.0))) (ap is_receive_socket (sym (eqb-true r foreign is.1))) h.1 h.3 u.1)
-  order_closes place (Legal (command.Cls mine yours)) h = close_if (mine == own && yours == foreign)
+      two_true _ _ _ _ (ap is_send_socket (sym (eqb-true n own is.0))) (ap is_receive_socket (sym (eqb-true r foreign is.1))) h.1 h.3 u.1)
+  order_closes place (Legal (command.Cls mine yours)) h = close_if _
   order_closes place (Legal c) h = tt
 
   orders_close : (place : ℕ) (orders : List Order) → AreOrders orders → AllClose (marks_in place own foreign orders)
   orders_close place [] h = tt
-  orders_close place (o ∷ orders) h = closes_append (mark_in place own foreign o) (marks_in place own foreign orders) (order_closes place o h.0) (orders_close place orders h.1)
+  orders_close place (o ∷ orders) h = closes_append (mark_in place own foreign o) _ (order_closes place o h.0) (orders_close place orders h.1)
 
   read_closes : (place link : ℕ) (text : List Bool) → AllClose (read_marks place own foreign link text)
   read_closes place link text = by (link == 0) where
@@ -72,7 +72,7 @@ none_said (Ask p ∷ ms) next h may = absurd h
 none_said (Close ∷ ms) next h may = absurd (let no : false ≡ true = may.0.0 in cc)
 
 pub unsaid : (own foreign place link : ℕ) (text : List Bool) (next : ℕ) → IsUnpaired own foreign → MayAllGo (read_marks place own foreign link text) nothing next → read_marks place own foreign link text ≡ []
-unsaid own foreign place link text next u may = none_said (read_marks place own foreign link text) next (read_closes own foreign u place link text) may
+unsaid own foreign place link text next u may = none_said _ next (read_closes own foreign u place link text) may
 
 -- ---- what waits was said
 
@@ -104,8 +104,8 @@ module _ (hosts : Network) (f : Flow) (ours : AreOurs hosts f.source f.destinati
 
   pub waiting_silent : (log : List Crossing) → AllSilent hosts log → mail.box_of f log ≡ mail.Waiting p text → IsSilent f.link.0 text
   waiting_silent [] all is = absurd (let no : mail.Empty ≡ mail.Waiting p text = is in cc)
-  waiting_silent (crossing.Out m ∷ log) all is = put_silent m _ (mail.box_of f log) all.0 (λ e. waiting_silent log all.1 e) (same_flow f m.flow) refl is
-  waiting_silent (crossing.In m ∷ log) all is = waiting_silent log all (fetched_waits (mail.box_of f log) p text (same_flow f m.flow) is)
-  waiting_silent (crossing.Answer kind g ∷ log) all is = waiting_silent log all (cleared_waits (mail.box_of f log) p text (same_flow f g) is)
+  waiting_silent (crossing.Out m ∷ log) all is = put_silent m _ _ all.0 (λ e. waiting_silent log all.1 e) _ refl is
+  waiting_silent (crossing.In m ∷ log) all is = waiting_silent log all (fetched_waits (mail.box_of f log) p text _ is)
+  waiting_silent (crossing.Answer kind g ∷ log) all is = waiting_silent log all (cleared_waits _ p text _ is)
   waiting_silent (crossing.Down h ∷ log) all is = waiting_silent log all is
-  waiting_silent (crossing.Up h ∷ log) all is = waiting_silent log all (cleared_waits (mail.box_of f log) p text (same_host f.source h) is)
+  waiting_silent (crossing.Up h ∷ log) all is = waiting_silent log all (cleared_waits _ p text _ is)

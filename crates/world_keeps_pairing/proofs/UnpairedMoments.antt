@@ -25,8 +25,8 @@ module _ (hosts : Network) (origin : Host → Host → ℕ → ℕ) (moments : L
       let them : AreOurs hosts m.flow.source n.peer.host = (ours.0, subst (λ (y : HostMessage). hosts.strange y.flow.destination ≡ false) n.message ours.1) in
       let zero : 0 ≤ place = omega arith in
       subst (λ (y : HostMessage). read_marks place own foreign y.flow.link.0 y.text ≡ []) (sym n.message)
-      (unsaid own foreign place (link_for n.parcel) (text_for n.peer.pair n.parcel) 0 u
-      (out_may (origin m.flow.source n.peer.host) own foreign (program m.flow.source moments) place n.peer n.parcel (pair m.flow.source n.peer.host (events_of moments)) _ 0 n.order n.next (ranged m.flow.source ours.0)
+      (unsaid own foreign place _ _ 0 u
+      (out_may (origin m.flow.source n.peer.host) own foreign _ place n.peer n.parcel _ _ 0 n.order n.next (ranged m.flow.source ours.0)
       (story_agrees hosts moments m.flow.source n.peer.host them story.1) zero (old.bare m.flow.source n.peer.host them own foreign u).0))
 
   silent_turn : (x : Moment) → IsStory hosts (x ∷ moments) → AllSilent hosts (crossings_of (x ∷ moments))
@@ -37,13 +37,13 @@ module _ (hosts : Network) (origin : Host → Host → ℕ → ℕ) (moments : L
   -- nor does one that is taken, since it went out
   in_silent : (m : HostMessage) → AreOurs hosts m.flow.source m.flow.destination → mail.IsRun hosts.all (crossings_of (Crossed (crossing.In m) ∷ moments)) → IsSilent m.flow.link.0 m.text
   in_silent m ours run =
-      let w : (place : ℕ) × (mail.box_of m.flow (crossings_of moments) ≡ mail.Waiting place m.text) = waits_with (mail.box_of m.flow (crossings_of moments)) m.text run.0.1 in
+      let w : (place : ℕ) × (mail.box_of m.flow (crossings_of moments) ≡ mail.Waiting place m.text) = waits_with _ m.text run.0.1 in
       waiting_silent hosts m.flow ours w.0 m.text (crossings_of moments) old.silent w.1
 
   bare_turn : (x : Moment) → IsStory hosts (x ∷ moments) → mail.IsRun hosts.all (crossings_of (x ∷ moments)) → AreServed hosts (x ∷ moments) → TakesFreeAt hosts x moments → (a b : Host) → AreOurs hosts a b → (own foreign : ℕ) → IsUnpaired own foreign → IsBare (origin a b) own foreign hosts a b (x ∷ moments)
   bare_turn (Crossed (crossing.Out m)) story run served free a b ours own foreign u =
       out_bare (origin a b) own foreign hosts a b ours m moments story (ranged a ours.0)
-      (λ from to. out_silent m (subst (λ (y : Host). hosts.strange y ≡ false) (same_host-true a m.flow.source from) ours.0, subst (λ (y : Host). hosts.strange y ≡ false) (same_host-true b m.flow.destination to) ours.1) story own foreign (places moments) u) (old.bare a b ours own foreign u)
+      (λ from to. out_silent m (subst (λ (y : Host). hosts.strange y ≡ false) (same_host-true a m.flow.source from) ours.0, subst (λ (y : Host). hosts.strange y ≡ false) (same_host-true b m.flow.destination to) ours.1) story own foreign _ u) (old.bare a b ours own foreign u)
   bare_turn (Crossed (crossing.In m)) story run served free a b ours own foreign u =
       in_bare (origin a b) own foreign hosts a b ours m moments story free (λ our. in_silent m our run foreign own (origin a b (places moments)) (unpaired_turned own foreign u)) (old.bare a b ours own foreign u)
   bare_turn (Crossed (crossing.Answer kind f)) story run served free a b ours own foreign u = answer_bare (origin a b) own foreign hosts a b ours kind f moments (old.bare a b ours own foreign u)

@@ -59,32 +59,32 @@ module _ (origin : ℕ → ℕ) (own foreign : ℕ) (hosts : Network) where
     module _ (ours : AreOurs hosts h p) where
       next : (x : Moment) (moments : List Moment) → Has origin own foreign p (program h (x ∷ moments)) nothing → (same_host h (host_in x) ≡ true → AreAmong (Now x moments) []) → IsBare moments → IsBare (x ∷ moments)
       next x moments end told k =
-          (end, subst (λ (l : List Life). AreAmong l []) (sym (kept_step origin h p own foreign hosts ours.0 x moments)) (if_told (same_host h (host_in x)) (Now x moments) (Lives_at moments) told k.1))
+          (end, subst (λ (l : List Life). AreAmong l []) (sym (kept_step origin h p own foreign hosts ours.0 x moments)) (if_told _ _ _ told k.1))
 
       pub down_bare : (g : Host) (moments : List Moment) → IsBare moments → IsBare (Crossed (crossing.Down g) ∷ moments)
       down_bare g moments k =
-          next (Crossed (crossing.Down g)) moments (if_has (same_host h g) (opening_state h) (program h moments) (λ e. opening_has origin own foreign h p) k.0) (λ e. k.1) k
+          next (Crossed (crossing.Down g)) moments (if_has (same_host h g) _ _ (λ e. opening_has origin own foreign h p) k.0) (λ e. k.1) k
 
       pub up_bare : (g : Host) (moments : List Moment) → IsBare moments → IsBare (Crossed (crossing.Up g) ∷ moments)
       up_bare g moments k =
-          next (Crossed (crossing.Up g)) moments (if_has (same_host h g) (opening_state h) (program h moments) (λ e. opening_has origin own foreign h p) k.0) (λ e. k.1) k
+          next (Crossed (crossing.Up g)) moments (if_has (same_host h g) _ _ (λ e. opening_has origin own foreign h p) k.0) (λ e. k.1) k
 
       pub answer_bare : (kind : Answer) (f : Flow) (moments : List Moment) → IsBare moments → IsBare (Crossed (crossing.Answer kind f) ∷ moments)
       answer_bare kind f moments k =
           let t : NcpState = (accepted (program h moments) (inbound.Answer kind f) (places moments)).0 in
           next (Crossed (crossing.Answer kind f)) moments
-          (if_has (same_host h f.source) (accepted (program h moments) (inbound.Answer kind f) (places moments)).0 (program h moments)
+          (if_has _ _ _
           (λ e. subst (λ (x : End). HasEnd origin own foreign (pair_with p t.peers) x) (kept_nothing (pair_with p t.peers))
-          (answer_has origin own foreign (program h moments) kind f (places moments) p nothing k.0 (same_host p f.destination) refl)) k.0)
-          (λ e. subst (λ (l : List Life). AreAmong l []) (sym (about_none origin h p own foreign f.destination (accepted (program f.source moments) (inbound.Answer kind f) (places moments)).1 (Lives_at moments)
-          (answer_about (program f.source moments) kind f (places moments)) (answer_other origin own foreign (program f.source moments) kind f (places moments) (Lives_at moments)))) k.1) k
+          (answer_has origin own foreign _ kind f _ p nothing k.0 _ refl)) k.0)
+          (λ e. subst (λ (l : List Life). AreAmong l []) (sym (about_none origin h p own foreign f.destination _ _
+          (answer_about _ kind f _) (answer_other origin own foreign _ kind f _ _))) k.1) k
 
       pub asked_bare : (g : Host) (r : Request) (moments : List Moment) → (same_host h g ≡ true → refusal (program h moments) r ≡ None) → IsBare moments → IsBare (Asked g r ∷ moments)
       asked_bare g r moments ok k =
           next (Asked g r) moments
-          (if_has (same_host h g) (served (program h moments) r) (program h moments)
-          (λ e. subst (λ (x : End). Has origin own foreign p (served (program h moments) r) x) (asked_nothing p r) (request_keeps origin own foreign (program h moments) r p nothing (ok e) k.0)) k.0)
-          (λ e. subst (λ (l : List Life). AreAmong l []) (sym (asked_none origin h p own foreign (program g moments) r (Lives_at moments))) k.1) k
+          (if_has _ _ _
+          (λ e. subst (λ (x : End). Has origin own foreign p (served (program h moments) r) x) (asked_nothing p r) (request_keeps origin own foreign _ r p nothing (ok e) k.0)) k.0)
+          (λ e. subst (λ (l : List Life). AreAmong l []) (sym (asked_none origin h p own foreign _ r _)) k.1) k
 
       -- ---- what goes out
 
@@ -94,8 +94,8 @@ module _ (origin : ℕ → ℕ) (own foreign : ℕ) (hosts : Network) where
           let none : same_host p n.peer.host ≡ true → read_marks (places moments) own foreign (link_for n.parcel) (text_for n.peer.pair n.parcel) ≡ [] =
           subst (λ (y : HostMessage). same_host p y.flow.destination ≡ true → read_marks (places moments) own foreign y.flow.link.0 y.text ≡ []) n.message silent in
           subst (λ (x : End). Has origin own foreign p (offered (program h moments) (places moments)).0 x)
-          (gone_nothing (same_host p n.peer.host) (read_marks (places moments) own foreign (link_for n.parcel) (text_for n.peer.pair n.parcel)) none)
-          (out_has origin own foreign (program h moments) (places moments) n.peer n.parcel (pair h n.peer.host (events_of moments)) p nothing n.order n.next ranged (λ to. story_agrees hosts moments h n.peer.host (ours.0, subst (λ (y : Host). hosts.strange y ≡ false) (same_host-true p n.peer.host to) ours.1) story) k.0 (same_host p n.peer.host) refl)
+          (gone_nothing _ _ none)
+          (out_has origin own foreign _ _ n.peer n.parcel _ p nothing n.order n.next ranged (λ to. story_agrees hosts moments h n.peer.host (ours.0, subst (λ (y : Host). hosts.strange y ≡ false) (same_host-true p n.peer.host to) ours.1) story) k.0 _ refl)
 
       out_tells_none : (m : HostMessage) (moments : List Moment) → IsStory hosts moments → (n : IsNext (program h moments) m) → IsRanged (program h moments) → (same_host p m.flow.destination ≡ true → read_marks (places moments) own foreign m.flow.link.0 m.text ≡ []) → IsBare moments
           → (c : Bool) → same_host p n.peer.host ≡ c → AreAmong (all_of_peer origin h p own foreign (offered (program h moments) (places moments)).1 (Lives_at moments)) []
@@ -104,19 +104,19 @@ module _ (origin : ℕ → ℕ) (own foreign : ℕ) (hosts : Network) where
           let none : same_host p n.peer.host ≡ true → read_marks (places moments) own foreign (link_for n.parcel) (text_for n.peer.pair n.parcel) ≡ [] =
           subst (λ (y : HostMessage). same_host p y.flow.destination ≡ true → read_marks (places moments) own foreign y.flow.link.0 y.text ≡ []) n.message silent in
           let mute : marks (places moments) own foreign (commands_of n.peer.pair n.parcel) ≡ [] =
-          goes_marks origin own foreign (program h moments) (places moments) n.peer n.parcel (pair h n.peer.host (events_of moments)) n.order n.next ranged (story_agrees hosts moments h n.peer.host (ours.0, subst (λ (y : Host). hosts.strange y ≡ false) is ours.1) story) ∙ none e in
-          subst (λ (l : List Life). AreAmong l []) (sym (about_peer origin h p own foreign n.peer.host (offered (program h moments) (places moments)).1 (Lives_at moments) (offer_about (program h moments) (places moments) n.peer n.parcel n.next) e))
+          goes_marks origin own foreign _ _ n.peer n.parcel _ n.order n.next ranged (story_agrees hosts moments h n.peer.host (ours.0, subst (λ (y : Host). hosts.strange y ≡ false) is ours.1) story) ∙ none e in
+          subst (λ (l : List Life). AreAmong l []) (sym (about_peer origin h p own foreign n.peer.host _ _ (offer_about _ _ n.peer n.parcel n.next) e))
           (subst (λ (ms : List Mark). AreAmong (with_openings origin own foreign (offered (program h moments) (places moments)).1 (Lives_at moments)) (all_lives_gone ms nothing [])) mute
-          (offer_tells origin own foreign (program h moments) (places moments) n.peer n.parcel nothing (Lives_at moments) [] n.order n.next (subst (λ (y : Host). Has origin own foreign y (program h moments) nothing) is k.0) k.1))
+          (offer_tells origin own foreign _ _ n.peer n.parcel nothing _ [] n.order n.next (subst (λ (y : Host). Has origin own foreign y (program h moments) nothing) is k.0) k.1))
       out_tells_none m moments story n ranged silent k false e =
-          subst (λ (l : List Life). AreAmong l []) (sym (about_other origin h p own foreign n.peer.host (offered (program h moments) (places moments)).1 (Lives_at moments) (offer_about (program h moments) (places moments) n.peer n.parcel n.next) e)) k.1
+          subst (λ (l : List Life). AreAmong l []) (sym (about_other origin h p own foreign n.peer.host _ _ (offer_about _ _ n.peer n.parcel n.next) e)) k.1
 
       pub out_bare : (m : HostMessage) (moments : List Moment) → IsStory hosts (Crossed (crossing.Out m) ∷ moments) → IsRanged (program h moments) → (same_host h m.flow.source ≡ true → same_host p m.flow.destination ≡ true → read_marks (places moments) own foreign m.flow.link.0 m.text ≡ []) → IsBare moments → IsBare (Crossed (crossing.Out m) ∷ moments)
       out_bare m moments story ranged silent k =
           next (Crossed (crossing.Out m)) moments
-          (if_has (same_host h m.flow.source) (offered (program h moments) (places moments)).0 (program h moments) (λ e. out_has_none m moments story.1 (next_here e) ranged (silent e) k) k.0)
+          (if_has _ _ _ (λ e. out_has_none m moments story.1 (next_here e) ranged (silent e) k) k.0)
           (λ e. subst (λ (y : Host). AreAmong (all_of_peer origin h p own foreign (offered (program y moments) (places moments)).1 (Lives_at moments)) []) (same_host-true h m.flow.source e)
-          (out_tells_none m moments story.1 (next_here e) ranged (silent e) k (same_host p (next_here e).peer.host) refl)) k where
+          (out_tells_none m moments story.1 (next_here e) ranged (silent e) k _ refl)) k where
             next_here : same_host h m.flow.source ≡ true → IsNext (program h moments) m
             next_here e = subst (λ (y : Host). IsNext (program y moments) m) (sym (same_host-true h m.flow.source e)) (story.0 (subst (λ (y : Host). hosts.strange y ≡ false) (same_host-true h m.flow.source e) ours.0))
 
@@ -125,15 +125,15 @@ module _ (origin : ℕ → ℕ) (own foreign : ℕ) (hosts : Network) where
       in_other : (m : HostMessage) (moments : List Moment) → same_host p m.flow.source ≡ false → IsBare moments → IsBare (Crossed (crossing.In m) ∷ moments)
       in_other m moments away k =
           next (Crossed (crossing.In m)) moments
-          (if_has (same_host h m.flow.destination) (accepted (program h moments) (inbound.Message m) (places moments)).0 (program h moments)
+          (if_has _ _ _
           (λ e. in_leaves origin own foreign (program h moments) m (places moments) p nothing away k.0) k.0)
-          (λ e. subst (λ (l : List Life). AreAmong l []) (sym (about_other origin h p own foreign m.flow.source (accepted (program m.flow.destination moments) (inbound.Message m) (places moments)).1 (Lives_at moments)
-          (message_about (program m.flow.destination moments) m (places moments)) away)) k.1) k
+          (λ e. subst (λ (l : List Life). AreAmong l []) (sym (about_other origin h p own foreign m.flow.source _ _
+          (message_about _ m _) away)) k.1) k
 
       in_elsewhere : (m : HostMessage) (moments : List Moment) → same_host h m.flow.destination ≡ false → IsBare moments → IsBare (Crossed (crossing.In m) ∷ moments)
       in_elsewhere m moments away k =
           next (Crossed (crossing.In m)) moments
-          (if_has (same_host h m.flow.destination) (accepted (program h moments) (inbound.Message m) (places moments)).0 (program h moments) (λ e. absurd (let no_way : true ≡ false = sym e ∙ away in cc)) k.0)
+          (if_has _ _ _ (λ e. absurd (let no_way : true ≡ false = sym e ∙ away in cc)) k.0)
           (λ e. absurd (let no_way : true ≡ false = sym e ∙ away in cc)) k
 
   module _ (m : HostMessage) (moments : List Moment) (ours : AreOurs hosts m.flow.source m.flow.destination) (story : IsStory hosts (Crossed (crossing.In m) ∷ moments)) (free : TakesFreeAt hosts (Crossed (crossing.In m)) moments) (silent : read_marks (origin (places moments)) foreign own m.flow.link.0 m.text ≡ [])
@@ -145,7 +145,7 @@ module _ (origin : ℕ → ℕ) (own foreign : ℕ) (hosts : Network) where
     own_is = ap (λ (y : Host). same_host y m.flow.destination) (program_own m.flow.destination moments) ∙ same_host-refl m.flow.destination
 
     joint : message_on m.flow.link.0 m.text ≡ Other m.text → (m.flow.link.0 == 0) ≡ true → AreJoint (orders_of m.text)
-    joint is zero = plain_joint (orders_of m.text) (subst (λ (n : Message). IsApart m.flow.link.0 m.text n) is (story.0 ours) zero)
+    joint is zero = plain_joint _ (subst (λ (n : Message). IsApart m.flow.link.0 m.text n) is (story.0 ours) zero)
 
     mute : (m.flow.link.0 == 0) ≡ true → marks_in (origin (places moments)) foreign own (orders_of m.text) ≡ []
     mute zero = subst (λ (b : Bool). (if b then marks_in (origin (places moments)) foreign own (orders_of m.text) else []) ≡ []) zero silent
@@ -153,11 +153,11 @@ module _ (origin : ℕ → ℕ) (own foreign : ℕ) (hosts : Network) where
     end_now : (z : Bool) → (m.flow.link.0 == 0) ≡ z → Has origin own foreign m.flow.source (accepted (program m.flow.destination moments) (inbound.Message m) (places moments)).0 nothing
     end_now z e =
         subst (λ (x : End). Has origin own foreign m.flow.source (accepted (program m.flow.destination moments) (inbound.Message m) (places moments)).0 x) (none z e)
-        (in_has origin own foreign (program m.flow.destination moments) m (places moments) nothing own_is (story.0 ours)
+        (in_has origin own foreign _ m _ nothing own_is (story.0 ours)
         (λ ready zero j. (free ours ready zero, subst (λ (ms : List Mark). AllFit ms nothing) (sym (mute zero)) tt)) k.0 z e) where
           none : (z : Bool) → (m.flow.link.0 == 0) ≡ z
               → (if z then after_text origin own foreign (origin (places moments)) (is_ready (pair_with m.flow.source (program m.flow.destination moments).peers).phase) (message_on m.flow.link.0 m.text) (orders_of m.text) nothing else nothing) ≡ nothing
-          none true zero = text_nothing (origin (places moments)) (is_ready (pair_with m.flow.source (program m.flow.destination moments).peers).phase) (message_on m.flow.link.0 m.text) (orders_of m.text) (mute zero)
+          none true zero = text_nothing (origin (places moments)) (is_ready (pair_with m.flow.source (program m.flow.destination moments).peers).phase) (message_on m.flow.link.0 m.text) _ (mute zero)
           none false zero = refl
 
     abbrev Told : Type 0
@@ -167,29 +167,29 @@ module _ (origin : ℕ → ℕ) (own foreign : ℕ) (hosts : Network) where
     as_told none = subst (λ (l : List Life). AreAmong l []) (sym none) k.1
 
     control_told : (m.flow.link.0 == 0) ≡ true → Sort m.flow.link.0 m.text → Told
-    control_told zero (AnRst z orders is) = as_told (rst_other origin own foreign (program m.flow.destination moments) m (places moments) own_is zero orders (Lives_at m.flow.destination m.flow.source moments))
-    control_told zero (AnRrp z orders is) = as_told (rrp_other origin own foreign (program m.flow.destination moments) m (places moments) own_is zero orders (Lives_at m.flow.destination m.flow.source moments))
+    control_told zero (AnRst z orders is) = as_told (rst_other origin own foreign _ m _ own_is zero orders _)
+    control_told zero (AnRrp z orders is) = as_told (rrp_other origin own foreign _ m _ own_is zero orders _)
     control_told zero (AText is) = by (is_ready (pair_with m.flow.source (program m.flow.destination moments).peers).phase) refl where
       by : (b : Bool) → is_ready (pair_with m.flow.source (program m.flow.destination moments).peers).phase ≡ b → Told
       by true ready =
           subst (λ (ms : List Mark). AreAmong (with_openings origin own foreign (accepted (program m.flow.destination moments) (inbound.Message m) (places moments)).1 (Lives_at m.flow.destination m.flow.source moments)) (all_lives_taken ms nothing [])) (mute zero)
-          (message_tells origin own foreign (program m.flow.destination moments) m (places moments) nothing (Lives_at m.flow.destination m.flow.source moments) [] own_is zero ready (joint is zero) (free ours ready zero)
+          (message_tells origin own foreign _ m _ nothing _ [] own_is zero ready (joint is zero) (free ours ready zero)
           (subst (λ (ms : List Mark). AllFit ms nothing) (sym (mute zero)) tt) k.0 k.1)
-      by false idle = as_told (idle_other origin own foreign (program m.flow.destination moments) m (places moments) own_is zero idle (joint is zero) (Lives_at m.flow.destination m.flow.source moments))
+      by false idle = as_told (idle_other origin own foreign _ m _ own_is zero idle (joint is zero) _)
 
     told_now : (z : Bool) → (m.flow.link.0 == 0) ≡ z → Told
     told_now true zero = control_told zero (sort_of m.flow.link.0 m.text)
-    told_now false away = data_told origin own foreign (program m.flow.destination moments) m (places moments) (Lives_at m.flow.destination m.flow.source moments) [] own_is away k.1
+    told_now false away = data_told origin own foreign _ m _ _ [] own_is away k.1
 
     pub in_here : IsBare m.flow.destination m.flow.source (Crossed (crossing.In m) ∷ moments)
     in_here =
         next m.flow.destination m.flow.source (ours.1, ours.0) (Crossed (crossing.In m)) moments
-        (if_has m.flow.destination m.flow.source (same_host m.flow.destination m.flow.destination) (accepted (program m.flow.destination moments) (inbound.Message m) (places moments)).0 (program m.flow.destination moments)
+        (if_has m.flow.destination m.flow.source _ _ _
         (λ e. end_now (m.flow.link.0 == 0) refl) k.0)
         (λ e. subst (λ (l : List Life). AreAmong l [])
-        (sym (about_peer origin m.flow.destination m.flow.source own foreign m.flow.source (accepted (program m.flow.destination moments) (inbound.Message m) (places moments)).1 (Lives_at m.flow.destination m.flow.source moments)
-        (message_about (program m.flow.destination moments) m (places moments)) (same_host-refl m.flow.source)))
-        (told_now (m.flow.link.0 == 0) refl)) k
+        (sym (about_peer origin m.flow.destination m.flow.source own foreign m.flow.source _ _
+        (message_about _ m _) (same_host-refl m.flow.source)))
+        (told_now _ refl)) k
 
   pub in_bare : (h p : Host) → AreOurs hosts h p → (m : HostMessage) (moments : List Moment) → IsStory hosts (Crossed (crossing.In m) ∷ moments) → TakesFreeAt hosts (Crossed (crossing.In m)) moments → (AreOurs hosts m.flow.source m.flow.destination → read_marks (origin (places moments)) foreign own m.flow.link.0 m.text ≡ []) → IsBare h p moments
       → IsBare h p (Crossed (crossing.In m) ∷ moments)

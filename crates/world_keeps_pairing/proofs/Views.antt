@@ -39,7 +39,7 @@ receiver_says [] xs = by (stays Receiver xs) where
   by true = refl
   by false = refl
 receiver_says (w ∷ ws) xs =
-    receiver_says ws (Says Receiver w ∷ xs) ∙ ap (λ (l : List Word). record (view xs) { receiver_said = l }) (more_if (stays Receiver xs) w ws (said_words Receiver xs))
+    receiver_says ws (Says Receiver w ∷ xs) ∙ ap (λ (l : List Word). record (view xs) { receiver_said = l }) (more_if (stays Receiver xs) w ws _)
 
 pub sender_says : (ws : List Word) (xs : List Step) → view (all_said Sender ws xs) ≡ record (view xs) { sender_said = onto_if (stays Sender xs) ws (said_words Sender xs) }
 sender_says [] xs = by (stays Sender xs) where
@@ -47,7 +47,7 @@ sender_says [] xs = by (stays Sender xs) where
   by true = refl
   by false = refl
 sender_says (w ∷ ws) xs =
-    sender_says ws (Says Sender w ∷ xs) ∙ ap (λ (l : List Word). record (view xs) { sender_said = l }) (more_if (stays Sender xs) w ws (said_words Sender xs))
+    sender_says ws (Says Sender w ∷ xs) ∙ ap (λ (l : List Word). record (view xs) { sender_said = l }) (more_if (stays Sender xs) w ws _)
 
 pub receiver_hears : (ws : List Word) (xs : List Step) → view (all_heard Receiver ws xs) ≡ record (view xs) { receiver_heard = onto ws (heard_words Receiver xs) }
 receiver_hears [] xs = refl
@@ -87,7 +87,7 @@ pub after_said : (a b : Host) (e : Event) (xs : List Step) → view (spoken_by a
 after_said a b e xs =
     let ss : List Word = words_of Sender (stay.said_by b a 0 e) in
     let rs : List Word = words_of Receiver (stay.said_by a b 0 e) in
-    receiver_says rs (all_said Sender ss xs) ∙ ap (λ (v : View). record v { receiver_said = onto_if v.receiver_stays rs v.receiver_said }) (sender_says ss xs)
+    receiver_says rs _ ∙ ap (λ (v : View). record v { receiver_said = onto_if v.receiver_stays rs v.receiver_said }) (sender_says ss xs)
 
 pub after_taken : (a b : Host) (e : Event) (events : List Event) (xs : List Step) → view (taken_by a b e events xs) ≡ record (view xs) {
   receiver_heard = onto_if (stay.stays a b events) (words_of Sender (stay.heard_by b a 0 e)) (heard_words Receiver xs);
@@ -96,8 +96,8 @@ pub after_taken : (a b : Host) (e : Event) (events : List Event) (xs : List Step
 after_taken a b e events xs =
     let ss : List Word = words_of Receiver (stay.heard_by a b 0 e) in
     let rs : List Word = words_of Sender (stay.heard_by b a 0 e) in
-    receiver_hears_if (stay.stays a b events) rs (heard_in (stay.stays b a events) Sender ss xs)
-    ∙ ap (λ (v : View). record v { receiver_heard = onto_if (stay.stays a b events) rs v.receiver_heard }) (sender_hears_if (stay.stays b a events) ss xs)
+    receiver_hears_if (stay.stays a b events) rs _
+    ∙ ap (λ (v : View). record v { receiver_heard = onto_if (stay.stays a b events) rs v.receiver_heard }) (sender_hears_if _ ss xs)
 
 -- all of it, by what it was before
 abbrev pub next : Host → Host → Event → List Event → View → View
@@ -118,11 +118,11 @@ step_view a b e events =
     let spoken : List Step = spoken_by a b e xs in
     let taken : List Step = taken_by a b e events spoken in
     let away : List Step = steps_left (keeps b a e events) Sender taken in
-    meets (stay.begins a b e events) (steps_left (keeps a b e events) Receiver away)
+    meets (stay.begins a b e events) _
     ∙ ap (λ (v : View). if stay.begins a b e events then fresh else v)
-    (receiver_leaves (keeps a b e events) away
+    (receiver_leaves _ away
     ∙ ap (λ (v : View). record v { receiver_stays = keeps a b e events && v.receiver_stays })
-    (sender_leaves (keeps b a e events) taken
+    (sender_leaves _ taken
     ∙ ap (λ (v : View). record v { sender_stays = keeps b a e events && v.sender_stays })
     (after_taken a b e events spoken
     ∙ ap (λ (v : View). record v {
@@ -146,7 +146,7 @@ lawful a b events = record {
 pub words_join : (who : Who) (xs ys : List (List Bool)) → words_of who (xs ++ ys) ≡ words_of who xs ++ words_of who ys
 words_join who [] ys = refl
 words_join who (x ∷ xs) ys =
-    let ws : List Word = words_by who (untagged x).0 (orders_of (untagged x).1) in
+    let ws : List Word = words_by who _ (orders_of (untagged x).1) in
     ap (λ (l : List Word). ws ++ l) (words_join who xs ys) ∙ sym (append_assoc ws (words_of who xs) (words_of who ys))
 
 pub onto_join : (xs ys base : List Word) → onto (xs ++ ys) base ≡ onto ys (onto xs base)
@@ -156,7 +156,7 @@ onto_join (x ∷ xs) ys base = onto_join xs ys (x ∷ base)
 words_more : (who : Who) (begin stay : Bool) (xs ys : List (List Bool))
     → onto (words_of who (if begin then [] else xs ++ (if stay then ys else []))) [] ≡ (if begin then [] else onto_if stay (words_of who ys) (onto (words_of who xs) []))
 words_more who true stay xs ys = refl
-words_more who false true xs ys = ap (λ (l : List Word). onto l []) (words_join who xs ys) ∙ onto_join (words_of who xs) (words_of who ys) []
+words_more who false true xs ys = ap (λ (l : List Word). onto l []) (words_join who xs ys) ∙ onto_join (words_of who xs) _ []
 words_more who false false xs ys = ap (λ (l : List (List Bool)). onto (words_of who l) []) (append-nil xs)
 
 -- the parts of a view that begins anew, or continues
@@ -184,18 +184,18 @@ same_view a b (e ∷ events) =
     let begin : Bool = stay.begins a b e events in
     let turned : stay.begins b a e events ≡ stay.begins a b e events = sym (begins_either a b e events) in
     step_view a b e events ∙ ap (next a b e events) (same_view a b events)
-    ∙ parts (stay.begins a b e events) (keeps a b e events && stay.stays a b events) (keeps b a e events && stay.stays b a events)
-    (onto_if (stay.stays a b events) (words_of Receiver (stay.said_by a b 0 e)) (onto (words_of Receiver (stay.said_in_stay a b 0 events)) []))
-    (onto_if (stay.stays b a events) (words_of Sender (stay.said_by b a 0 e)) (onto (words_of Sender (stay.said_in_stay b a 0 events)) []))
-    (onto_if (stay.stays a b events) (words_of Sender (stay.heard_by b a 0 e)) (onto (words_of Sender (stay.heard_in_stay b a 0 events)) []))
-    (onto_if (stay.stays b a events) (words_of Receiver (stay.heard_by a b 0 e)) (onto (words_of Receiver (stay.heard_in_stay a b 0 events)) []))
-    ∙ six _ (stay.stays a b (e ∷ events)) _ (stay.stays b a (e ∷ events)) _ (onto (words_of Receiver (stay.said_in_stay a b 0 (e ∷ events))) []) _ (onto (words_of Sender (stay.said_in_stay b a 0 (e ∷ events))) [])
-    _ (onto (words_of Sender (stay.heard_in_stay b a 0 (e ∷ events))) []) _ (onto (words_of Receiver (stay.heard_in_stay a b 0 (e ∷ events))) [])
+    ∙ parts (stay.begins a b e events) _ _
+    _
+    _
+    _
+    _
+    ∙ six _ _ _ _ _ _ _ _
+    _ _ _ _
     refl
     (ap (λ (t : Bool). t || (keeps b a e events && stay.stays b a events)) (sym turned))
-    (sym (words_more Receiver begin (stay.stays a b events) (stay.said_in_stay a b 0 events) (stay.said_by a b 0 e)))
+    (sym (words_more Receiver begin _ _ _))
     (ap (λ (t : Bool). if t then [] else onto_if (stay.stays b a events) (words_of Sender (stay.said_by b a 0 e)) (onto (words_of Sender (stay.said_in_stay b a 0 events)) [])) (sym turned)
-    ∙ sym (words_more Sender (stay.begins b a e events) (stay.stays b a events) (stay.said_in_stay b a 0 events) (stay.said_by b a 0 e)))
+    ∙ sym (words_more Sender (stay.begins b a e events) _ _ _))
     (ap (λ (t : Bool). if t then [] else onto_if (stay.stays a b events) (words_of Sender (stay.heard_by b a 0 e)) (onto (words_of Sender (stay.heard_in_stay b a 0 events)) [])) (sym turned)
-    ∙ sym (words_more Sender (stay.begins b a e events) (stay.stays a b events) (stay.heard_in_stay b a 0 events) (stay.heard_by b a 0 e)))
-    (sym (words_more Receiver begin (stay.stays b a events) (stay.heard_in_stay a b 0 events) (stay.heard_by a b 0 e)))
+    ∙ sym (words_more Sender (stay.begins b a e events) _ _ _))
+    (sym (words_more Receiver begin _ _ _))

@@ -50,7 +50,7 @@ drop_went a b n (suc k) [] w = w
 drop_went a b n (suc k) (c ∷ log) w = went_more a b n c log (drop_went a b n k log w)
 
 pub before_went : (a b : Host) (n stamp : ℕ) (log : List Crossing) → Went a b n (book.before stamp log) → Went a b n log
-before_went a b n stamp log w = drop_went a b n (length log - stamp) log w
+before_went a b n stamp log w = drop_went a b n _ log w
 
 -- the last message of a flow went out
 last_by : (f : Flow) (m : HostMessage) (n : ℕ) (log : List Crossing) (b : Bool) → same_flow f m.flow ≡ b → (last_out f log ≡ Some n → Went f.source f.destination n log) → (if b then Some (length log) else last_out f log) ≡ Some n
@@ -62,7 +62,7 @@ last_by f m n log false e rest is = inr (rest is)
 
 pub last_went : (f : Flow) (n : ℕ) (log : List Crossing) → last_out f log ≡ Some n → Went f.source f.destination n log
 last_went f n [] is = absurd (let no_place : None ≡ Some n = is in cc)
-last_went f n (crossing.Out m ∷ log) is = last_by f m n log (same_flow f m.flow) refl (last_went f n log) is
+last_went f n (crossing.Out m ∷ log) is = last_by f m n log _ refl (last_went f n log) is
 last_went f n (crossing.In m ∷ log) is = last_went f n log is
 last_went f n (crossing.Answer kind g ∷ log) is = last_went f n log is
 last_went f n (crossing.Down h ∷ log) is = last_went f n log is
@@ -107,7 +107,7 @@ module _ (h p : Host) where
   says_went : (log : List Crossing) (ms : List Mark) (x : Side) → MarksWent log ms → SideWent log x → SideWent log (all_says ms x)
   says_went log [] x m w = w
   says_went log (Ask n ∷ ms) x m w = says_went log ms (says (Ask n) x) m.1 (m.0, opened_went log (Some n) x.end.partner x.lives m.0 w.1)
-  says_went log (Close ∷ ms) x m w = says_went log ms (says Close x) m (end_if log x.end.taken x.end.asked (record x.end { gone = true }) refl w.0, w.1)
+  says_went log (Close ∷ ms) x m w = says_went log ms (says Close x) m (end_if log x.end.taken x.end.asked _ refl w.0, w.1)
 
   hears_one : (log : List Crossing) (m : Mark) (x : Side) → SideWent log x → SideWent log (hears m x)
   hears_one log (Ask n) x w = by (fits (Ask n) x.end) where
@@ -157,7 +157,7 @@ module _ (h p : Host) where
     out_marks : (m : HostMessage) (moments : List Moment) (b c : Bool) → same_host h m.flow.source ≡ b → same_host p m.flow.destination ≡ c
         → MarksWent (crossings_of (Crossed (crossing.Out m) ∷ moments)) (when_all b c (read_marks (place (events_of moments)) (own_of who s) (foreign_of who s) m.flow.link.0 m.text))
     out_marks m moments true true e f =
-        at_went (crossings_of (Crossed (crossing.Out m) ∷ moments)) (place (events_of moments)) (read_marks (place (events_of moments)) (own_of who s) (foreign_of who s) m.flow.link.0 m.text) (read_at s is_pair who h p origin (place (events_of moments)) m.flow.link.0 m.text)
+        at_went (crossings_of (Crossed (crossing.Out m) ∷ moments)) _ (read_marks (place (events_of moments)) (own_of who s) (foreign_of who s) m.flow.link.0 m.text) (read_at s is_pair who h p origin _ m.flow.link.0 m.text)
         (inl (place_same moments, same_host-true h m.flow.source e, same_host-true p m.flow.destination f))
     out_marks m moments true false e f = tt
     out_marks m moments false c e f = tt

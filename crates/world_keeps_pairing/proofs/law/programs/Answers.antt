@@ -12,7 +12,7 @@ use Rattle.net_sim.specs.Mixed.{Happened}
 tied : (hosts : Network) (moments : List Moment) → HaveAddresses hosts.all → mail.IsRun hosts.all (crossings_of moments) → Happened hosts moments → (a b : Host) → AreOurs hosts a b → Tied (origin_in (crossings_of moments)) a b moments
 tied hosts moments addresses run time a b ours =
     let c : Coupled hosts moments = coupled hosts addresses moments run time in
-    (all_tied hosts (origin_in (crossings_of moments)) moments (are_origins 0 (crossings_of moments) [] moments refl) c.story c.run (served_in hosts moments time)).tied a b ours
+    (all_tied hosts _ moments (are_origins 0 _ [] moments refl) c.story c.run (served_in hosts moments time)).tied a b ours
 
 pub returns : goal.returns
 returns c = record {
