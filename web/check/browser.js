@@ -41,14 +41,48 @@ import { cpus, loadavg, tmpdir } from "node:os";
  */
 
 const PATIENCE = 120_000; // milliseconds that one step may take, on a machine that has nothing else to do
+const MOST_LOAD = 5; // so that no step is waited for longer than ten minutes
+const END = 20_000; // milliseconds that a browser has to end by itself
 
-/** How many times longer a page may take for what else the machine has to do at present: 1 where it has a processor free. */
+/**
+ * How many times longer a page may take for what else the machine has to do at present: 1 where it has a processor
+ * free, 5 at most.
+ */
 export function load() {
-    return Math.max(1, loadavg()[0] / cpus().length);
+    return Math.min(MOST_LOAD, Math.max(1, loadavg()[0] / cpus().length));
 }
 
 /** @type {(milliseconds: number) => Promise<void>} */
 const pause = (milliseconds) => new Promise((resolve) => setTimeout(() => resolve(), milliseconds));
+
+/**
+ * What comes of a promise, or an error that says what was awaited, once it has taken too long.
+ *
+ * @template Answer
+ * @param {Promise<Answer>} promise
+ * @param {string} what
+ * @param {number} [most] milliseconds
+ * @returns {Promise<Answer>}
+ */
+function within(promise, what, most = PATIENCE * load()) {
+    /** @type {ReturnType<typeof setTimeout>} */
+    let timer;
+    const late = new Promise((_, reject) => {
+        timer = setTimeout(() => reject(new Error(`${what}: no answer in ${Math.round(most / 1000)} s`)), most);
+    });
+    return /** @type {Promise<Answer>} */ (Promise.race([promise, late])).finally(() => clearTimeout(timer));
+}
+
+/**
+ * Ends a program that was started here; one that doesn't end by itself is killed.
+ *
+ * @param {{kill: (signal: string) => void}} child
+ * @param {Promise<unknown>} ended
+ */
+async function stopped(child, ended) {
+    child.kill("SIGTERM");
+    await within(ended, "ending", END).catch(() => (child.kill("SIGKILL"), ended));
+}
 
 /**
  * Numbered questions and their answers.
@@ -59,16 +93,24 @@ function questions(send) {
     /** @type {Map<number, {resolve: (answer: any) => void, reject: (why: Error) => void}>} */
     const open = new Map();
     let last = 0;
+    let gone = "";
     return {
         /** @type {(method: string, given?: object) => Promise<any>} */
         ask(method, given = {}) {
+            if (gone) return Promise.reject(new Error(`${method}: ${gone}`));
             const number = ++last;
             send(number, method, given);
-            return new Promise((resolve, reject) => {
-                const timer = setTimeout(() => reject(new Error(`${method}: no answer`)), PATIENCE * load());
-                const end = () => clearTimeout(timer);
-                open.set(number, { resolve: (it) => (end(), resolve(it)), reject: (it) => (end(), reject(it)) });
-            });
+            const answered = new Promise((resolve, reject) => open.set(number, { resolve, reject }));
+            return within(answered, method).finally(() => open.delete(number));
+        },
+        /**
+         * Nobody answers any more: what is asked fails with this reason.
+         *
+         * @type {(why: string) => void}
+         */
+        end(why) {
+            gone = why;
+            for (const { reject } of open.values()) reject(new Error(why));
         },
         /** @type {(number: number, error: object | null | undefined, answer: any) => void} */
         answer(number, error, answer) {
@@ -100,7 +142,7 @@ export async function chromium(program) {
     /** @type {string[]} */
     const requests = [];
     let session = "";
-    const { ask, answer } = questions(
+    const { ask, answer, end } = questions(
         (id, method, params) => to.write(
             JSON.stringify({ id, method, params, ...(session && { sessionId: session }) }) + "\0",
         ),
@@ -115,18 +157,20 @@ export async function chromium(program) {
         for (const message of messages.map((it) => JSON.parse(it))) {
             if (message.id) answer(message.id, message.error, message.result);
             if (message.method === "Network.requestWillBeSent") requests.push(message.params.request.url);
+            if (message.method === "Inspector.targetCrashed") end("the page has crashed");
             awaited.get(message.method)?.();
         }
     });
+    void ended.then(() => end("Chromium has ended"));
     const { targetId } = await ask("Target.createTarget", { url: "about:blank" });
     session = (await ask("Target.attachToTarget", { targetId, flatten: true })).sessionId;
-    for (const domain of ["Page", "Runtime", "Network"]) await ask(`${domain}.enable`);
+    for (const domain of ["Page", "Runtime", "Network", "Inspector"]) await ask(`${domain}.enable`);
     return {
         name: "Chromium",
         async open(url) {
             const loaded = new Promise((resolve) => awaited.set("Page.loadEventFired", () => resolve(undefined)));
             await ask("Page.navigate", { url });
-            await loaded;
+            await within(loaded, `opening ${url}`);
         },
         async evaluate(body) {
             const ran = await ask(
@@ -162,8 +206,7 @@ export async function chromium(program) {
         tree: async () => treeOf(ask),
         requests: () => requests,
         async close() {
-            child.kill("SIGTERM");
-            await ended;
+            await stopped(child, ended);
             rmSync(profile, { recursive: true, force: true });
         },
     };
@@ -224,25 +267,26 @@ export async function firefox(program) {
     );
     const ended = new Promise((resolve) => child.on("exit", resolve));
     const socket = connect(await portOf(profile), "127.0.0.1");
-    const { ask, answer } = questions((number, method, given) => {
+    const { ask, answer, end } = questions((number, method, given) => {
         const message = JSON.stringify([0, number, method, given]);
         socket.write(`${new TextEncoder().encode(message).length}:${message}`);
     });
+    void ended.then(() => end("Firefox has ended"));
     const greeted = new Promise((resolve) => {
         let rest = new Uint8Array();
         socket.on("data", (/** @type {Uint8Array} */ octets) => {
             rest = Uint8Array.from([...rest, ...octets]);
             for (let colon = rest.indexOf(58); colon >= 0; colon = rest.indexOf(58)) {
-                const end = colon + 1 + Number(new TextDecoder().decode(rest.subarray(0, colon)));
-                if (rest.length < end) return;
-                const message = JSON.parse(new TextDecoder().decode(rest.subarray(colon + 1, end)));
-                rest = rest.slice(end);
+                const last = colon + 1 + Number(new TextDecoder().decode(rest.subarray(0, colon)));
+                if (rest.length < last) return;
+                const message = JSON.parse(new TextDecoder().decode(rest.subarray(colon + 1, last)));
+                rest = rest.slice(last);
                 if (Array.isArray(message)) answer(message[1], message[2], message[3]);
                 else resolve(undefined);
             }
         });
     });
-    await greeted;
+    await within(greeted, "Firefox's greeting");
     await ask("WebDriver:NewSession", {});
     await ask("WebDriver:SetTimeouts", { script: Math.round(PATIENCE * load()) });
     return {
@@ -275,8 +319,7 @@ export async function firefox(program) {
         requests: () => [],
         async close() {
             socket.end();
-            child.kill("SIGTERM");
-            await ended;
+            await stopped(child, ended);
             rmSync(profile, { recursive: true, force: true });
         },
     };
@@ -290,16 +333,16 @@ export async function firefox(program) {
 async function screen() {
     const words = ["-displayfd", "3", "-screen", "0", "2000x1600x24", "-nolisten", "tcp"];
     const child = spawn("Xvfb", words, { stdio: ["ignore", "ignore", "ignore", "pipe"] });
-    const number = await new Promise((resolve, reject) => {
+    const number = await within(new Promise((resolve, reject) => {
         child.on("error", reject);
         const listen = (/** @type {Uint8Array} */ octets) => resolve(new TextDecoder().decode(octets).trim());
         child.stdio[3].on("data", listen);
-    });
+    }), "the name of a screen");
     return { name: `:${number}`, end: () => child.kill("SIGTERM") };
 }
 
 /**
- * The answer of a server here, however long it takes.
+ * The answer of a server here.
  *
  * @param {number} port
  * @param {string} method
@@ -340,14 +383,14 @@ async function driver(program) {
     return {
         /** @type {(method: string, path: string, given?: object) => Promise<any>} */
         async ask(method, path, given) {
-            const { status, text } = await answered(port, method, path, given ? JSON.stringify(given) : "");
+            const asked = answered(port, method, path, given ? JSON.stringify(given) : "");
+            const { status, text } = await within(asked, `${method} ${path}`, MOST_LOAD * PATIENCE);
             const { value } = JSON.parse(text);
             if (status !== 200) throw new Error(`${value.error}: ${value.message}`);
             return value;
         },
         async end() {
-            child.kill("SIGTERM");
-            await ended;
+            await stopped(child, ended);
             display.end();
             rmSync(home, { recursive: true, force: true });
         },
@@ -367,7 +410,7 @@ export async function webkit(program) {
         await pause(100);
     }
     const session = `/session/${(await ask("POST", "/session", { capabilities: {} })).sessionId}`;
-    const most = Math.round(5 * PATIENCE * load()); // without a card, WebKit is slow in drawing
+    const most = MOST_LOAD * PATIENCE; // without a card, WebKit is slow in drawing
     await ask("POST", `${session}/timeouts`, { script: most, pageLoad: most });
     return {
         name: "WebKit",
