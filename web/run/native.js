@@ -28,7 +28,8 @@ export function nativeRunner(program) {
             /** @type {Outcome["ended"]} */
             let ended = "exit";
             const child = spawn(program, words);
-            const timer = setTimeout(() => end("time"), limits.seconds * 1000);
+            const isLimited = Number.isFinite(limits.seconds);
+            const timer = isLimited ? setTimeout(() => end("time"), limits.seconds * 1000) : 0;
             const stop = () => end("stopped");
             stops.add(stop);
 

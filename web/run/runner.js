@@ -8,7 +8,8 @@
  * When a run is ended from outside.
  *
  * @typedef {object} Limits
- * @property {number} seconds how long a run may take, in seconds; one that is listened to, how long it may say nothing
+ * @property {number} seconds how long a run may take, in seconds; one that is listened to, how long it may say nothing.
+ *     Infinity for a run that no clock ends
  * @property {number} octets how many octets a run may write, standard output and standard error together
  */
 
@@ -111,16 +112,21 @@ export function makeRunner(module, spawn) {
             const done = [];
             /** @type {Uint8Array[][]} */
             let written = [[], [], []];
-            let timer = setTimeout(late, limits.seconds * 1000);
+            let timer = clock();
             let isHeard = false;
             const stop = () => end("stopped");
             stops.add(stop);
+
+            /** Looks at the clock again after the limit of time, where there is one. */
+            function clock() {
+                return Number.isFinite(limits.seconds) ? setTimeout(late, limits.seconds * 1000) : 0;
+            }
 
             /** A run that is listened to is only late where it says nothing, so that no slow machine cuts one that goes on. */
             function late() {
                 if (!isHeard) return end("time");
                 isHeard = false;
-                timer = setTimeout(late, limits.seconds * 1000);
+                timer = clock();
             }
 
             function leave() {

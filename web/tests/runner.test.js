@@ -79,6 +79,15 @@ test("a limit of time ends the worker, and what it wrote before is kept", async 
     assert(started[0].isEnded);
 });
 
+test("no clock ends a run without a limit of time", async () => {
+    const { started, spawn } = workers();
+    const run = makeRunner(module, spawn).run([], octets(""), { ...LIMITS, seconds: Infinity });
+    await new Promise((resolve) => setTimeout(() => resolve(undefined), 50));
+    assert(!started[0].isEnded);
+    started[0].onmessage({ data: { status: 0 } });
+    assert.equal((await run).ended, "exit");
+});
+
 test("a worker that has written all it may is ended", async () => {
     const { started, spawn } = workers();
     const run = makeRunner(module, spawn).run([], octets(""), LIMITS);

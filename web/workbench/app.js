@@ -10,7 +10,7 @@ import { judged } from "./goals.js";
 import { stopsOfFlow, stopsWith } from "./follow.js";
 import { keepText, storedText } from "./kept.js";
 import { Past } from "./past.js";
-import { isReplay, LIMITS, replay } from "./runs.js";
+import { isReplay, limitsBy, replay } from "./runs.js";
 import { impsNamed, notesOf, readInput } from "./script.js";
 import { CUT, LONG, noLesson, placeIn } from "./share.js";
 import { stopAt, stopsOf } from "./stops.js";
@@ -115,9 +115,10 @@ export class Workbench {
         this.toast = new Toast(byId("toast"));
         this.taps = new Taps(this, byId("menu"));
         this.sheet = new SheetView(byId("sheet"), go);
-        this.book = new BookView(runner, (line) => this.goToLine(line));
-        this.printed = new Printed(runner);
-        this.compare = new Compare(runner, go, () => this.draw());
+        this.limitsOf = limitsBy(examples);
+        this.book = new BookView(runner, this.limitsOf, (line) => this.goToLine(line));
+        this.printed = new Printed(runner, this.limitsOf);
+        this.compare = new Compare(runner, this.limitsOf, go, () => this.draw());
         this.next = new Next(this);
         this.index = new Index(byId("index"), examples, years, (name) => void this.load(name));
         this.panes = new Panes(byId("pane"), {
@@ -391,7 +392,7 @@ export class Workbench {
         const slow = window.setTimeout(() => (byId("wait").hidden = false), SLOW);
         try {
             const opened = (/** @type {import("./runs.js").Replay} */ it) => void (run === this.runs && this.showOpening(text, it));
-            const outcome = await replay(this.runner.run, text, LIMITS, opened);
+            const outcome = await replay(this.runner.run, text, this.limitsOf(text), opened);
             if (run !== this.runs) return false;
             keepText(text, this.example, this.opens);
             this.forgetAddress(text);

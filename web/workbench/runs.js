@@ -49,6 +49,22 @@ import { TraceReader } from "./trace.js";
 /** How long a run may take and how much it may print. */
 export const LIMITS = { seconds: 8, octets: 36_000_000 };
 
+/** The limits of a lesson: it is known to end, so no clock cuts it on a slow machine. */
+export const OF_LESSON = { ...LIMITS, seconds: Infinity };
+
+/** @typedef {(text: string) => {seconds: number, octets: number}} LimitsOf the limits of a run of a text */
+
+/**
+ * The limits of texts, by the lessons of a page.
+ *
+ * @param {{text: string}[]} lessons
+ * @returns {LimitsOf}
+ */
+export function limitsBy(lessons) {
+    const known = new Set(lessons.map((it) => it.text));
+    return (text) => (known.has(text) ? OF_LESSON : LIMITS);
+}
+
 /** The most octets of a trace whose quiet rounds are shown event by event. */
 const MOST_WITHIN = 8_000_000;
 

@@ -3,7 +3,7 @@
 import { Book } from "../book.js";
 import { octetsOf, textOf } from "../octets.js";
 import { entriesOf, saidOf } from "../promised.js";
-import { LIMITS, whyCut } from "../runs.js";
+import { whyCut } from "../runs.js";
 import { hostName } from "../topology.js";
 import { h, keep, say } from "./dom.js";
 
@@ -21,10 +21,12 @@ const WORDS = "Lives of connections and messages of data, by their lines in the 
 export class BookView {
     /**
      * @param {Runner} runner
+     * @param {import("../runs.js").LimitsOf} limitsOf
      * @param {(line: number) => void} goTo goes to the step of a line of the log
      */
-    constructor(runner, goTo) {
+    constructor(runner, limitsOf, goTo) {
         this.runner = runner;
+        this.limitsOf = limitsOf;
         this.goTo = goTo;
         this.status = h("p", { class: "soft", role: "status" });
         this.list = h("div", { class: "pane-body" });
@@ -56,7 +58,7 @@ export class BookView {
     async run() {
         const { text } = this;
         if (this.network?.strangers.length) return say(this.status, UNTOLD);
-        const limits = { seconds: LIMITS.seconds, octets: MOST_OCTETS };
+        const limits = { ...this.limitsOf(text), octets: MOST_OCTETS };
         say(this.status, "runs…");
         const outcome = await this.runner.run(["--log"], octetsOf(text), limits);
         if (this.text !== text) return;

@@ -24,11 +24,13 @@ const SHOWN_WORDS = 5; // of a printed line with octets
 export class Compare {
     /**
      * @param {Runner} runner
+     * @param {import("../runs.js").LimitsOf} limitsOf
      * @param {(position: number) => void} go
      * @param {() => void} redraw
      */
-    constructor(runner, go, redraw) {
+    constructor(runner, limitsOf, go, redraw) {
         this.runner = runner;
+        this.limitsOf = limitsOf;
         this.go = go;
         this.redraw = redraw;
         /** @type {string} the title of what is compared, "" for the text as it was opened */
@@ -99,7 +101,7 @@ export class Compare {
     async load(text) {
         this.text = text;
         this.map = this.was = null;
-        const outcome = await replay(this.runner.run, text);
+        const outcome = await replay(this.runner.run, text, this.limitsOf(text));
         if (text !== this.text) return;
         if (isReplay(outcome)) {
             const svg = /** @type {SVGElement} */ (/** @type {unknown} */ (byId("was-network")));

@@ -1,7 +1,7 @@
 /** Shows what the program prints, with its options: for who wants its very lines. */
 
 import { octetsOf, textOf } from "../octets.js";
-import { LIMITS, whyCut } from "../runs.js";
+import { whyCut } from "../runs.js";
 import { h, say } from "./dom.js";
 
 /** @typedef {import("../../run/runner.js").Runner} Runner */
@@ -21,9 +21,13 @@ const OPTIONS = [
 
 /** The program's own output. */
 export class Printed {
-    /** @param {Runner} runner */
-    constructor(runner) {
+    /**
+     * @param {Runner} runner
+     * @param {import("../runs.js").LimitsOf} limitsOf
+     */
+    constructor(runner, limitsOf) {
         this.runner = runner;
+        this.limitsOf = limitsOf;
         this.select = /** @type {HTMLSelectElement} */ (
             h(
                 "select",
@@ -69,7 +73,7 @@ export class Printed {
     async run() {
         const word = this.select.value;
         this.shown = `${word} ${this.text}`;
-        const limits = { seconds: LIMITS.seconds, octets: MOST_OCTETS };
+        const limits = { ...this.limitsOf(this.text), octets: MOST_OCTETS };
         say(this.status, "runs…");
         let outcome = await this.runner.run(
             word ? [word === "--audit" ? "--log" : word] : [],

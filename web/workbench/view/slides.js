@@ -2,7 +2,7 @@
 
 import { TABLE } from "../../../python/dorydate/sentences/table.mjs";
 import { History } from "../fold.js";
-import { isReplay, replay } from "../runs.js";
+import { isReplay, OF_LESSON, replay } from "../runs.js";
 import { headComment } from "../script.js";
 import { sentenceOf } from "../sentences.js";
 import { stopsOf } from "../stops.js";
@@ -50,7 +50,7 @@ export async function slidesOf(runner, examples) {
     const slides = [h("section", { class: "slide title" }, kicker, h("h2", {}, WORDS.slides), h("ul", {}, ...plan))];
     for (const [minutes, name, question, answer] of HOUR) {
         const example = examples.find((it) => it.name === name);
-        const outcome = example ? await replay(runner.run, example.text) : null;
+        const outcome = example ? await replay(runner.run, example.text, OF_LESSON) : null;
         const history = outcome && isReplay(outcome) ? new History(outcome) : null;
         slides.push(...slidesOfLesson(titleOf(name), `${minutes} min`, history, question, answer));
     }
