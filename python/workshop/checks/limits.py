@@ -19,6 +19,7 @@ from concurrent.futures import ProcessPoolExecutor, ThreadPoolExecutor
 from functools import partial
 from typing import NamedTuple
 
+from dorydate.model.log import ends_log
 from dorydate.model.runs import expected
 from dorydate.model.topology import Topology, spelled_input
 from dorydate.model.trace import ends_trace
@@ -151,6 +152,12 @@ LIMITS: dict[str, Limit] = {
         ],
     ),
     "events among strangers": Limit([], STRANGE, ["calm 0"] * 600_000),
+    "events of a log among strangers": Limit(["--log"], ODD, ["calm 0"] * 110_000),
+    "nobody but strangers": Limit(
+        ["--book"],
+        STRANGE._replace(foreign=[(1, [0, 1]), (2, [0, 1])]),
+        ["out 0/1 1/2 5 8 41", "take 1/2", "take 0/1", "calm 3"],
+    ),
     "messages of a stranger": Limit(
         ["--book"], AMONG, [RST, "take 0/2", "take 0/3", *[NO_COMMAND, "take 0/2", "take 0/3"] * 70_000, *BESIDE]
     ),
@@ -196,6 +203,12 @@ TRACES: dict[str, Limit] = {
         [f"out 0/1 0/2 {link} {FULL}" for link in range(100)],
     ),
     # after its first round, which changes nothing, a calm has no more lines
+    # each flow of an IMP is in the text of its part, so that ten times as many would print a hundred times as much
+    "flows of an IMP that is traced": Limit(
+        ["--trace"],
+        MANY._replace(carrier="subnet", raw=True),
+        [f"out 0/1 {host}/{imp} {link} 0 -" for link in range(5) for imp in range(2, 64) for host in range(4)],
+    ),
     "rounds of a trace": Limit(["--trace"], Topology("subnet", True, [(1, 0)], []), ["calm 4294967295", "route 1"]),
     "strangers of a trace": Limit(["--trace"], ODD, ["calm 1"]),
     "events of a trace among strangers": Limit(["--trace"], STRANGE, ["calm 0"] * 60_000),
@@ -228,7 +241,7 @@ CONTACT = [
     *("out 0/1 0/2 0 48 00080001000C", "in 0/1 0/2 0 48 00080001000C", "out 0/2 0/1 0 48 00080001000D"),
     *("answer rfnm 0/1 0/2 0", "in 0/2 0/1 0 48 00080001000D", "answer rfnm 0/2 0/1 0"),
 ]
-CONNECTIONS = 2_500
+CONNECTIONS = 5_100
 # a message that is carried, and answered
 CARRIED = [f"out 0/1 0/2 5 {FULL}", f"in 0/1 0/2 5 {FULL}", "answer rfnm 0/1 0/2 5"]
 
@@ -239,7 +252,7 @@ def in_lines(lines: Iterable[str]) -> bytes:
 
 
 LOGS: dict[str, Callable[[], bytes]] = {
-    "crossings of a log": lambda: b"down 0/1\nup 0/1\n" * 500_000 + b"end\n",
+    "crossings of a log": lambda: b"down 0/1\nup 0/1\n" * 530_000 + b"end\n",
     # the first crossing is of no run, so that messages are looked at one by one
     "crossings of a log that strays": lambda: b"up 0/1\n" + b"down 0/1\nup 0/1\n" * 50_000 + b"end\n",
     "strangers of a log": lambda: in_lines([*(f"foreign {it}" for it in HOSTS), "end"]),
@@ -247,8 +260,12 @@ LOGS: dict[str, Callable[[], bytes]] = {
         [*(f"out {one} {other} {link} 0 -" for one in HOSTS[:2] for other in HOSTS for link in range(256)), "end"]
     ),
     "octets of a log": lambda: in_lines([*CARRIED * 17_500, "end"]),
+    # beside a stranger, to which none of them is
     "lives of a log": lambda: in_lines(
-        [*CONTACT, *opened(CONNECTIONS), *lives_of(CONNECTIONS), *["handed 0 -"] * (2 * CONNECTIONS), "end"]
+        [
+            *["foreign 0/3", *CONTACT, *opened(CONNECTIONS), *lives_of(CONNECTIONS)],
+            *[*["handed 0 -"] * (2 * CONNECTIONS), "end"],
+        ]
     ),
 }
 # comments before a topology, which the models leave out
@@ -282,6 +299,8 @@ def by_model(name: str) -> End:
     if name in TRACES:
         return end_of(*ends_traced(TRACES[name]))
     limit = (LIMITS | COMMENTED)[name]
+    if limit.options == ["--log"]:
+        return end_of(*ends_log(limit.network, limit.lines))
     return end_of(*expected(limit.options, limit.network, [*limit.lines, ""]))
 
 
