@@ -20,7 +20,8 @@ use Rattle.trace.specs.declared.all_parts.AllParts.{AllParts}
 use Rattle.trace.specs.declared.element.Spot.{Spot}
 use Rattle.world_replay.specs.Worked.{went}
 use Rattle.world_trace.specs.MixedTraces.{TellsMixed}
-use Rattle.world_trace.specs.Texts.{line_of}
+use Rattle.world_script.specs.declared.event.WorldEvent.TheVariants as world
+use Rattle.world_trace.specs.Texts.{event_text, line_of}
 use Rattle.world_trace.specs.Traces.{change_of}
 
 -- ---- carriers whose calls are counted (`replay`'s `counting`), each with one thing otherwise
