@@ -63,12 +63,12 @@ among_all (x ∷ lives) = ap (λ (xs : List Life). x ∷ xs) (among_all lives)
 
 pub lives_all : (hosts : List Host) (moments : List Moment)
     → lives_in (all_ours hosts) moments ≡ (kept_in moments).book.lives
-lives_all hosts moments = among_all (mixed_kept (λ h. false) moments).book.lives ∙ ap (λ (k : Kept). k.book.lives) (kept_same moments)
+lives_all hosts moments = among_all _ ∙ ap (λ (k : Kept). k.book.lives) (kept_same moments)
 
 pub handed_all : (hosts : List Host) (moments : List Moment)
     → by_cls.handed_in (all_ours hosts) moments ≡ (kept_in moments).handed
 handed_all hosts moments =
-    beside_all (mixed_kept (λ h. false) moments).book.lives (mixed_kept (λ h. false) moments).handed ∙ ap (λ (κ : Kept). κ.handed) (kept_same moments)
+    beside_all _ _ ∙ ap (λ (κ : Kept). κ.handed) (kept_same moments)
 
 -- the lives of a book are given by what they are after each list of moments
 sent_as : (f g : List Moment → List Life) → ((ms : List Moment) → f ms ≡ g ms)
@@ -85,7 +85,7 @@ pub drained : (hosts : List Host) (moments : List Moment) → HaveAddresses host
     → mail.IsRun hosts (crossings_of moments) → IsTimeline hosts moments
     → AllSent all_lives moments (kept_in moments).book.lives (kept_in moments).handed
 drained hosts moments addresses run time =
-    sent_as (among (all_ours hosts)) all_lives (lives_all hosts) moments (kept_in moments).book.lives (kept_in moments).handed
+    sent_as (among (all_ours hosts)) all_lives (lives_all hosts) moments _ _
     (subst (λ (xs : List Life). AllSent (among (all_ours hosts)) moments xs (kept_in moments).handed) (lives_all hosts moments)
     (subst (λ (ts : List (List Bool)). AllSent (among (all_ours hosts)) moments (lives_in (all_ours hosts) moments) ts) (handed_all hosts moments)
     (by_cls.drained (all_ours hosts) moments addresses run (happened hosts moments time))))
@@ -95,7 +95,7 @@ all_drained : (hosts : List Host) (later earlier : List Moment) → HaveAddresse
     → AllSent all_lives earlier (kept_in earlier).book.lives (kept_in earlier).handed
 all_drained hosts [] earlier addresses run time = drained hosts earlier addresses run time
 all_drained hosts (y ∷ later) earlier addresses run time =
-    all_drained hosts later earlier addresses (mail_below hosts y (later ++ earlier) run) time.1
+    all_drained hosts later earlier addresses (mail_below hosts y _ run) time.1
 
 -- ---- worlds
 

@@ -95,11 +95,11 @@ module _ (strange : Host → Bool) where
         → lives_among strange (where_it test change (x ∷ lives)) ≡ where_it test change
         (lives_among strange (x ∷ lives))
     by true is rest =
-        within (changed_when (test x) change x) (where_it test change lives) (same_life (test x) change x leaves ∙ is)
+        within _ _ (same_life (test x) change x leaves ∙ is)
         ∙ ap (λ (ys : List Life). changed_when (test x) change x ∷ ys) rest
         ∙ sym (ap (where_it test change) (within x lives is))
     by false off rest =
-        beyond (changed_when (test x) change x) (where_it test change lives) (same_life (test x) change x leaves
+        beyond _ _ (same_life (test x) change x leaves
         ∙ off) ∙ rest ∙ sym (ap (where_it test change) (beyond x lives off))
 
   pub among_more : (lives : List Life) (y : Life) → is_among strange y ≡ true
@@ -109,9 +109,9 @@ module _ (strange : Host → Bool) where
     by : (b : Bool) → is_among strange x ≡ b
         → lives_among strange (lives ++ y ∷ []) ≡ lives_among strange lives ++ y ∷ []
         → lives_among strange (x ∷ (lives ++ y ∷ [])) ≡ lives_among strange (x ∷ lives) ++ y ∷ []
-    by true e rest = within x (lives ++ y ∷ []) e ∙ ap (λ (ys : List Life). x ∷ ys) rest
+    by true e rest = within x _ e ∙ ap (λ (ys : List Life). x ∷ ys) rest
         ∙ sym (ap (λ (ys : List Life). ys ++ y ∷ []) (within x lives e))
-    by false e rest = beyond x (lives ++ y ∷ []) e ∙ rest
+    by false e rest = beyond x _ e ∙ rest
         ∙ sym (ap (λ (ys : List Life). ys ++ y ∷ []) (beyond x lives e))
 
   pub among_other : (lives : List Life) (y : Life) → is_among strange y ≡ false
@@ -236,12 +236,12 @@ module _ (strange : Host → Bool) where
   Are k = AreOwned k.book.lives k.handed
 
   told_owned : (h : Host) (n : Notice) (k : Kept) → strange h ≡ false → Are k → Are (book_told h n k)
-  told_owned h (notice.Opened s p f a b) k plain o = more_owned (new_life h s p f a b) k.book.lives k.handed plain o
-  told_owned h (notice.Ended s p f) k plain o = where_owned (lives_between h s p f) life_ended k.book.lives k.handed (λ x. refl) o
-  told_owned h (notice.PairReset p) k plain o = where_owned (lives_with h p) life_ended k.book.lives k.handed (λ x. refl) o
-  told_owned h (notice.Sent s bits) k plain o = where_owned (lives_at h s) (carried bits) k.book.lives k.handed (λ x. refl) o
-  told_owned h (notice.Arrived s bits) k plain o = where_owned (lives_at h s) (carried bits) k.book.lives k.handed (λ x. refl) o
-  told_owned h (notice.Returned s messages bits) k plain o = where_owned (lives_at h s) (returned messages bits) k.book.lives k.handed (λ x. refl) o
+  told_owned h (notice.Opened s p f a b) k plain o = more_owned _ k.book.lives k.handed plain o
+  told_owned h (notice.Ended s p f) k plain o = where_owned _ life_ended k.book.lives k.handed (λ x. refl) o
+  told_owned h (notice.PairReset p) k plain o = where_owned _ life_ended k.book.lives k.handed (λ x. refl) o
+  told_owned h (notice.Sent s bits) k plain o = where_owned _ _ k.book.lives k.handed (λ x. refl) o
+  told_owned h (notice.Arrived s bits) k plain o = where_owned _ _ k.book.lives k.handed (λ x. refl) o
+  told_owned h (notice.Returned s messages bits) k plain o = where_owned _ _ k.book.lives k.handed (λ x. refl) o
   told_owned h n k plain o = o
 
   all_told_owned : (h : Host) (ns : List Notice) (k : Kept) → strange h ≡ false → Are k → Are (all_told h ns k)
@@ -249,12 +249,12 @@ module _ (strange : Host → Bool) where
   all_told_owned h (n ∷ ns) k plain o = all_told_owned h ns (book_told h n k) plain (told_owned h n k plain o)
 
   crossed_owned : (c : Crossing) (k : Kept) → Are k → Are (crossed c k)
-  crossed_owned (crossing.Down h) k o = where_owned (lives_on h) life_ended k.book.lives k.handed (λ x. refl) o
+  crossed_owned (crossing.Down h) k o = where_owned _ life_ended k.book.lives k.handed (λ x. refl) o
   crossed_owned c k o = o
 
   asked_owned : (h : Host) (r : Request) (k : Kept) → Are k → Are (asked h r k)
-  asked_owned h (request.Send socket bits) k o = handed_owned (lives_at h socket) bits k.book.lives k.handed o
-  asked_owned h (request.Grant socket messages bits) k o = where_owned (lives_at h socket) (granted messages bits) k.book.lives k.handed (λ x. refl) o
+  asked_owned h (request.Send socket bits) k o = handed_owned _ bits k.book.lives k.handed o
+  asked_owned h (request.Grant socket messages bits) k o = where_owned _ _ k.book.lives k.handed (λ x. refl) o
   asked_owned h r k o = o
 
   by_owned : (y : Moment) (k : Kept) → Are k → Are (kept_by y k)
@@ -271,4 +271,4 @@ module _ (strange : Host → Bool) where
     by : (b : Bool) → strange (host_in y) ≡ b → Are (mixed_kept strange moments)
         → Are (if b then crossed_only y (mixed_kept strange moments) else all_told (host_in y) (notices_by y moments) (kept_by y (mixed_kept strange moments)))
     by true on old = only_owned y (mixed_kept strange moments) old
-    by false plain old = all_told_owned (host_in y) (notices_by y moments) (kept_by y (mixed_kept strange moments)) plain (by_owned y (mixed_kept strange moments) old)
+    by false plain old = all_told_owned (host_in y) (notices_by y moments) _ plain (by_owned y _ old)

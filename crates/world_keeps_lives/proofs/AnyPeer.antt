@@ -64,7 +64,7 @@ takes_close origin place s words x h = (
   },
   h.1 ∙ ap (λ (l : List Mark). request_due place s.mine s.asked ++ l) (sym (as_waiting s.closing)),
   ap (mark_taken Close) (h.2 ∙ live_end origin s (h.0.live refl))
-      ∙ closes_as origin s (is_sent s.closing) refl (as_sent s.closing),
+      ∙ closes_as origin s _ refl (as_sent s.closing),
 )
 
 module _ (origin : ℕ → ℕ) (own foreign : ℕ) where
@@ -153,13 +153,13 @@ module _ (origin : ℕ → ℕ) (own foreign : ℕ) where
         → SomeEnd (str_taken_by peer receive send size stamp (entry_at receive send d.entries) d)
     by (Some e) f =
         subst (λ (o : Option Entry). SomeEnd (str_taken_by peer receive send size stamp o d)) (sym f)
-        (matches_once peer receive send stamp (command.Str send receive size) e (asked_with_size stamp size) d
+        (matches_once peer receive send stamp (command.Str send receive size) e _ d
         (λ y. (refl, refl, refl)) f h)
     by None f = record {
       x = all_taken (mark_of (origin stamp) foreign own (command.Str send receive size)) h.x;
       on = λ place.
           on_taken origin own foreign place peer busy stamp (command.Str send receive size) d h.x tt
-          (fits_new receive send stamp d h (send == foreign && receive == own)
+          (fits_new receive send stamp d h _
           (and_turned (send == foreign) (receive == own)) f) (h.on place);
     }
 
@@ -330,7 +330,7 @@ module _ (origin : ℕ → ℕ) (own foreign : ℕ) where
     by true =
         subst (λ (q : PairState). HasSome origin own foreign q)
         (sym
-        (put m.flow.source (message_taken m.flow.source stamp m.flow.link.0 m.text (turn_of s m.flow.source)).pair
+        (put m.flow.source _
         s.peers))
-        (one_message m.flow.source stamp m.flow.link.0 m.text (turn_of s m.flow.source) h)
+        (one_message m.flow.source stamp m.flow.link.0 m.text _ h)
     by false = h

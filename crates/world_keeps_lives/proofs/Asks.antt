@@ -28,7 +28,7 @@ Fits c messages bits = (c.messages + messages ≤ 65535) × (c.bits + bits ≤ 4
 
 fits : (c : Allocation) (messages bits : ℕ) → passes c messages bits ≡ false → Fits c messages bits
 fits c messages bits may =
-    let each : (nat_lt 65535 (c.messages + messages) ≡ false) × (nat_lt 4294967295 (c.bits + bits) ≡ false) = or_false (nat_lt 65535 (c.messages + messages)) (nat_lt 4294967295 (c.bits + bits)) may in
+    let each : (nat_lt 65535 (c.messages + messages) ≡ false) × (nat_lt 4294967295 (c.bits + bits) ≡ false) = or_false (nat_lt 65535 (c.messages + messages)) _ may in
     (ltb-false 65535 (c.messages + messages) each.0, ltb-false 4294967295 (c.bits + bits) each.1)
 
 granted_safe : (messages bits : ℕ) (x : Life) (t : List Bool) (c : Allocation) → Fits c messages bits → (receives x ≡ true → AddsUp x c) → IsSafe x t → IsSafe (book.granted messages bits x) t
@@ -99,8 +99,8 @@ module _ (a : Host) (k : ℕ) where
       (λ m d. record { refusing = tt; idle = λ i. refl; on = by m d (is_ready (pair_with p s.peers).phase) refl }) h where
         by : (m : Place) → Done a k m p (pair_with p s.peers) (listens_on k s.listening) κ → (b : Bool) → is_ready (pair_with p s.peers).phase ≡ b
             → At a k m p [] (listens_on k s.listening) (all_told a (if b then notice.PairReset p ∷ [] else []) next)
-        by m d true e = cleared_on a k m p next (mine_on k (pair_with p s.peers).entries) (listens_on k s.listening) next (at_same a k m p (mine_on k (pair_with p s.peers).entries) (listens_on k s.listening) κ next w d.on)
-        by m d false e = at_same a k m p [] (listens_on k s.listening) κ next w (subst (λ (es : List Entry). At a k m p (mine_on k es) (listens_on k s.listening) κ) (d.idle e) d.on)
+        by m d true e = cleared_on a k m p next (mine_on k (pair_with p s.peers).entries) (listens_on k s.listening) next (at_same a k m p _ _ κ next w d.on)
+        by m d false e = at_same a k m p [] _ κ next w (subst (λ (es : List Entry). At a k m p (mine_on k es) (listens_on k s.listening) κ) (d.idle e) d.on)
 
   -- a socket that listens
   listen_holds : (s : NcpState) (l : Listener) (κ : Kept) → is_used s l.socket ≡ false → Holds a k s κ → Holds a k (record s { listening = s.listening ++ l ∷ [] }) κ
@@ -108,7 +108,7 @@ module _ (a : Host) (k : ℕ) where
     steady = record { refusing = h.steady.refusing; idle = h.steady.idle };
     socket = elim h.socket [
       | inl f ↦ inl (record { none = f.none; lives = f.lives })
-      | inr o ↦ inr (record { peer = o.peer; end = o.end; one = o.one; others = o.others; silent = silent s.listening (other o (l.socket == k) refl) o.silent; fresh = o.fresh; lives = o.lives })
+      | inr o ↦ inr (record { peer = o.peer; end = o.end; one = o.one; others = o.others; silent = silent s.listening (other o _ refl) o.silent; fresh = o.fresh; lives = o.lives })
     ];
   } where
     other : IsOwned a k s κ → (b : Bool) → (l.socket == k) ≡ b → (l.socket == k) ≡ false
@@ -117,14 +117,14 @@ module _ (a : Host) (k : ℕ) where
 
     silent : (ls : List Listener) → (l.socket == k) ≡ false → listens_on k ls ≡ false → listens_on k (ls ++ l ∷ []) ≡ false
     silent [] away e = rw away refl
-    silent (x ∷ ls) away e = let p : ((x.socket == k) ≡ false) × (listens_on k ls ≡ false) = or_false (x.socket == k) (listens_on k ls) e in rw p.0 (silent ls away p.1)
+    silent (x ∷ ls) away e = let p : ((x.socket == k) ≡ false) × (listens_on k ls ≡ false) = or_false (x.socket == k) _ e in rw p.0 (silent ls away p.1)
 
   unlistened : (ls : List Listener) (j : ℕ) → listens_on k ls ≡ false → listens_on k (without_listener j ls) ≡ false
   unlistened [] j e = e
-  unlistened (x ∷ ls) j e = by (unlistened ls j (or_false (x.socket == k) (listens_on k ls) e).1) (x.socket == j) refl where
+  unlistened (x ∷ ls) j e = by (unlistened ls j (or_false (x.socket == k) _ e).1) (x.socket == j) refl where
     by : listens_on k (without_listener j ls) ≡ false → (b : Bool) → (x.socket == j) ≡ b → listens_on k (without_listener j (x ∷ ls)) ≡ false
     by rest true f = rw f rest
-    by rest false f = rw (f, (or_false (x.socket == k) (listens_on k ls) e).0) rest
+    by rest false f = rw (f, (or_false (x.socket == k) _ e).0) rest
 
   unlisten_holds : (s : NcpState) (j : ℕ) (κ : Kept) → Holds a k s κ → Holds a k (record s { listening = without_listener j s.listening }) κ
   unlisten_holds s j κ h = record {
@@ -138,16 +138,16 @@ module _ (a : Host) (k : ℕ) where
   -- an end that closes
   close_holds : (s : NcpState) (p : Host) (socket : ℕ) (κ : Kept) → Holds a k s κ → Holds a k (with_peer s p (closed_end socket)) κ
   close_holds s p socket κ h =
-      lift a k s (with_peer s p (closed_end socket)) p (closed_end socket (pair_with p s.peers)) κ κ (put_peer s p (closed_end socket)) (λ m d. closes m (pair_with p s.peers) (listens_on k s.listening) d) h where
+      lift a k s (with_peer s p (closed_end socket)) p (closed_end socket _) κ κ (put_peer s p (closed_end socket)) (λ m d. closes m (pair_with p s.peers) (listens_on k s.listening) d) h where
         closes : (m : Place) (q : PairState) (l : Bool) → Done a k m p q l κ → Done a k m p (closed_end socket q) l κ
         closes m q l d = record {
-          refusing = refusing_settled (changed_first (is_mine_on socket) called_off q.entries) (refusing_changed (is_mine_on socket) called_off q.entries refuses_due d.refusing);
+          refusing = refusing_settled _ (refusing_changed _ called_off q.entries refuses_due d.refusing);
           idle = λ i. ap (λ (es : List Entry). map (λ e. closed_when (must_close q.busy e) e) (changed_first (is_mine_on socket) called_off es)) (d.idle i);
-          on = at_mapped a k m p (λ e. closed_when (must_close q.busy e) e) (changed_first (is_mine_on socket) called_off q.entries) l κ (λ e. closed_less (must_close q.busy e) e) (closed_drains q.busy)
-              (at_lessened a k m p (is_mine_on socket) called_off q.entries l κ called_less called_drains d.on);
+          on = at_mapped a k m p _ (changed_first (is_mine_on socket) called_off q.entries) l κ (λ e. closed_less (must_close q.busy e) e) (closed_drains q.busy)
+              (at_lessened a k m p _ called_off q.entries l κ called_less called_drains d.on);
         } where
           refusing_settled : (es : List Entry) → AreRefusing es → AreRefusing (map (λ e. closed_when (must_close q.busy e) e) es)
-          refusing_settled es h = refusing_mapped (λ e. closed_when (must_close q.busy e) e) es (λ e. refuses_when (must_close q.busy e) e) h
+          refusing_settled es h = refusing_mapped _ es (λ e. refuses_when (must_close q.busy e) e) h
 
   -- a new end
   begin_holds : (s : NcpState) (p : Host) (e : Entry) (c : Command) (κ : Kept) → e.mine ≡ true → IsFresh e → is_ready (pair_with p s.peers).phase ≡ true → is_used s e.own ≡ false → Holds a k s κ → Holds a k (with_peer s p (requested e c)) κ
@@ -179,8 +179,8 @@ module _ (a : Host) (k : ℕ) where
       | inr o ↦ absurd (unused a k s κ (subst (λ (n : ℕ). is_used s n ≡ false) (eqb-true e.own k f) off) o)
       | inl r ↦
           (let ms : mine_on k ((pair_with p s.peers).entries ++ e ∷ []) ≡ e ∷ [] = grown true f ∙ ap (λ (ys : List Entry). ys ++ e ∷ []) (r.none p) in
-          let silent : listens_on k s.listening ≡ false = (or_false (listens_on k s.listening) (is_some (owner_of k s.peers)) (subst (λ (n : ℕ). is_used s n ≡ false) (eqb-true e.own k f) off)).0 in
-          let on : At a k Near p (e ∷ []) false κ = (fresh, each_weaker a k NoneOf (IsLifeOf p e) κ.book.lives κ.handed (λ x t there none. absurd none) r.lives) in
+          let silent : listens_on k s.listening ≡ false = (or_false (listens_on k s.listening) _ (subst (λ (n : ℕ). is_used s n ≡ false) (eqb-true e.own k f) off)).0 in
+          let on : At a k Near p (e ∷ []) false κ = (fresh, each_weaker a k NoneOf _ κ.book.lives κ.handed (λ x t there none. absurd none) r.lives) in
           let d : Done a k Near p (requested e c (pair_with p s.peers)) (listens_on k s.listening) κ = record {
             refusing = refuses (h.steady.refusing p);
             idle = λ i. clash _ (is_ready (pair_with p s.peers).phase) ready i;
@@ -203,10 +203,10 @@ module _ (a : Host) (k : ℕ) where
       let q : PairState = pair_with p s.peers in
       lift a k s (with_peer s p (λ q. extra (with_end socket change q))) p (extra (with_end socket change q)) κ next (put_peer s p (λ q. extra (with_end socket change q)))
       (λ m d. record {
-        refusing = subst (λ (es : List Entry). AreRefusing es) (sym (same (with_end socket change q)).0) (refusing_changed (is_mine_on socket) change q.entries refuses d.refusing);
+        refusing = subst (λ (es : List Entry). AreRefusing es) (sym (same (with_end socket change q)).0) (refusing_changed _ change q.entries refuses d.refusing);
         idle = λ i. (same (with_end socket change q)).0 ∙ ap (λ (es : List Entry). changed_first (is_mine_on socket) change es) (d.idle (ap is_ready (sym (same (with_end socket change q)).1) ∙ i));
         on = subst (λ (es : List Entry). At a k m p (mine_on k es) (listens_on k s.listening) next) (sym (same (with_end socket change q)).0)
-            (at_changed a k m p (is_mine_on socket) change q.entries (listens_on k s.listening) κ next e found keeps (λ is i. here is m (listens_on k s.listening) i)
+            (at_changed a k m p _ change q.entries _ κ next e found keeps (λ is i. here is m _ i)
             (λ off ms i. at_same a k m p ms (listens_on k s.listening) κ next (away (apart off (socket == k) refl)) i) d.on);
       }) h where
         apart : is_mine_on k e ≡ false → (b : Bool) → (socket == k) ≡ b → (socket == k) ≡ false
@@ -221,7 +221,7 @@ module _ (a : Host) (k : ℕ) where
   at_handed Near p e socket bits false κ next is opened lives handed h =
       let own : socket ≡ k = eqb-true socket k is in
       let done : EachOn a k (IsLifeOf p (with_more_bits bits e)) κ.book.lives (handed_to (lives_at a k) bits κ.book.lives κ.handed) =
-      each_handed a k (lives_at a k) bits (IsLifeOf p e) (IsLifeOf p (with_more_bits bits e)) κ.book.lives κ.handed
+      each_handed a k _ bits _ _ κ.book.lives κ.handed
       (λ x t there on o. (more_safe bits x t o.0, λ goes. more_life p bits e x t opened (o.1 goes)))
       (λ x t there off o. (o.0, λ goes. clash _ x.ended (there_at a k x there off) goes)) h.1 in
       let moved : EachOn a k (IsLifeOf p (with_more_bits bits e)) κ.book.lives (handed_to (lives_at a socket) bits κ.book.lives κ.handed) =
@@ -238,9 +238,9 @@ module _ (a : Host) (k : ℕ) where
   send_holds s socket bits κ None f order may h = absurd (cc)
   send_holds s socket bits κ (Some (g, e)) f order may h =
       let found : find (is_mine_on socket) (pair_with g s.peers).entries ≡ Some e = owner_found socket s.peers g e order f in
-      let opened : is_open e ≡ true = not_false (is_open e) (not_first (not (is_open e)) _ _ may).0 in
+      let opened : is_open e ≡ true = not_false (is_open e) (not_first _ _ _ may).0 in
       let own : e.own ≡ socket = own_is socket e (split (is_mine_on socket) (λ y. y) (pair_with g s.peers).entries e found).passes in
-      open_holds s g socket (with_more_bits bits) (λ q. q) e κ (asked a (request.Send socket bits) κ) found refl (λ e r. r) (λ q. (refl, refl))
+      open_holds s g socket _ (λ q. q) e κ _ found refl (λ e r. r) (λ q. (refl, refl))
       (λ is m l i. at_handed m g e socket bits l κ (asked a (request.Send socket bits) κ) (subst (λ (n : ℕ). (n == k) ≡ true) own (both e.mine (e.own == k) is).1) opened refl refl i)
       (λ off P i. each_handed a k (lives_at a socket) bits P P κ.book.lives κ.handed (λ x t there on o. absurd (other_socket a k a socket x off there on)) (λ x t there out o. o) i) h
 
@@ -249,10 +249,10 @@ module _ (a : Host) (k : ℕ) where
   grant_holds s socket messages bits κ None f order may h = absurd (cc)
   grant_holds s socket messages bits κ (Some (g, e)) f order may h =
       let found : find (is_mine_on socket) (pair_with g s.peers).entries ≡ Some e = owner_found socket s.peers g e order f in
-      let opened : has_opened e ≡ true = open_opened e (not_false (is_open e) (not_first (not (is_open e)) _ _ may).0) in
-      let ok : Fits e.allocation messages bits = fits e.allocation messages bits (not_first (passes e.allocation messages bits) _ _ (not_first (was_closed e) _ _ (not_first (not (is_open e)) _ _ may).1).1).0 in
+      let opened : has_opened e ≡ true = open_opened e (not_false (is_open e) (not_first _ _ _ may).0) in
+      let ok : Fits e.allocation messages bits = fits e.allocation messages bits (not_first _ _ _ (not_first (was_closed e) _ _ (not_first (not (is_open e)) _ _ may).1).1).0 in
       let own : e.own ≡ socket = own_is socket e (split (is_mine_on socket) (λ y. y) (pair_with g s.peers).entries e found).passes in
-      open_holds s g socket (granted messages bits) (commanded (command.All (link_of e.link) messages bits)) e κ (asked a (request.Grant socket messages bits) κ) found refl (λ e r. r) (λ q. (refl, refl))
+      open_holds s g socket (granted messages bits) (commanded (command.All (link_of e.link) messages bits)) e κ _ found refl (λ e r. r) (λ q. (refl, refl))
       (λ is m l i. at_here a k m g (book.granted messages bits) e (granted messages bits e) l κ (asked a (request.Grant socket messages bits) κ) is opened (λ x. refl)
       (λ x t there safe j. (granted_safe messages bits x t e.allocation ok j.left safe, granted_life g messages bits e x t ok j))
       (ap (λ (n : ℕ). where_it (lives_at a n) (book.granted messages bits) κ.book.lives) (sym own)) refl i)
@@ -262,21 +262,21 @@ module _ (a : Host) (k : ℕ) where
 
   used_send : (s : NcpState) (p : Host) (own foreign size : ℕ) → open_send_refusal s p own foreign size ≡ None → (is_ready (pair_with p s.peers).phase ≡ true) × (is_used s own ≡ false)
   used_send s p own foreign size e =
-      let first : (not (is_ready (pair_with p s.peers).phase) ≡ false) × _ = not_first (not (is_ready (pair_with p s.peers).phase)) _ _ e in (
-        not_false (is_ready (pair_with p s.peers).phase) first.0,
-        (or_false (is_used s own) (is_some (entry_at own foreign (pair_with p s.peers).entries)) (not_first (is_taken s p own foreign) _ _ (not_first (not (is_send_socket own && is_receive_socket foreign)) _ _ first.1).1).0).0,
+      let first : (not (is_ready (pair_with p s.peers).phase) ≡ false) × _ = not_first _ _ _ e in (
+        not_false _ first.0,
+        (or_false (is_used s own) _ (not_first _ _ _ (not_first _ _ _ first.1).1).0).0,
       )
 
   used_receive : (s : NcpState) (p : Host) (own foreign : ℕ) → open_receive_refusal s p own foreign ≡ None → (is_ready (pair_with p s.peers).phase ≡ true) × (is_used s own ≡ false)
   used_receive s p own foreign e =
-      let first : (not (is_ready (pair_with p s.peers).phase) ≡ false) × _ = not_first (not (is_ready (pair_with p s.peers).phase)) _ _ e in (
-        not_false (is_ready (pair_with p s.peers).phase) first.0,
-        (or_false (is_used s own) (is_some (entry_at own foreign (pair_with p s.peers).entries)) (not_first (is_taken s p own foreign) _ _ (not_first (not (is_receive_socket own && is_send_socket foreign)) _ _ first.1).1).0).0,
+      let first : (not (is_ready (pair_with p s.peers).phase) ≡ false) × _ = not_first _ _ _ e in (
+        not_false _ first.0,
+        (or_false (is_used s own) _ (not_first _ _ _ (not_first _ _ _ first.1).1).0).0,
       )
 
   receive_holds : (s : NcpState) (p : Host) (own foreign : ℕ) (κ : Kept) → (is_ready (pair_with p s.peers).phase ≡ true) × (is_used s own ≡ false) → (o : Option ℕ) → Holds a k s κ → Holds a k (with_peer s p (receiver_requested own foreign o)) κ
   receive_holds s p own foreign κ may None h = peer_holds s p (receiver_requested own foreign None) κ (λ q. (refl, refl)) h
-  receive_holds s p own foreign κ may (Some link) h = begin_holds s p (receiving_end own foreign link) (command.Rts own foreign link) κ refl (λ f. (refl, refl)) may.0 may.1 h
+  receive_holds s p own foreign κ may (Some link) h = begin_holds s p _ _ κ refl (λ f. (refl, refl)) may.0 may.1 h
 
   closing_holds : (s : NcpState) (socket : ℕ) (κ : Kept) → Holds a k s κ → Holds a k (closed_socket s socket) κ
   closing_holds s socket κ h = by (listens_on socket s.listening) (owner_of socket s.peers) where
@@ -287,24 +287,24 @@ module _ (a : Host) (k : ℕ) where
 
   pub request_holds : (s : NcpState) (r : Request) (κ : Kept) → AreInOrder s.peers → refusal s r ≡ None → Holds a k s κ → Holds a k (served s r) (all_told a (served_notices s r) (asked a r κ))
   unfolding served served_notices refusal
-  request_holds s (request.Contact p) κ order may h = contact_holds s p κ (asked a (request.Contact p) κ) (λ P e. e) h
+  request_holds s (request.Contact p) κ order may h = contact_holds s p κ _ (λ P e. e) h
   request_holds s (request.Listen socket size) κ order may h =
-      holds_same (record s { listening = s.listening ++ record { socket = socket; size = size } ∷ [] }) κ (asked a (request.Listen socket size) κ) (λ P e. e) (listen_holds s (record { socket = socket; size = size }) κ (not_first (is_used s socket) _ _ may).0 h)
+      holds_same _ κ _ (λ P e. e) (listen_holds s _ κ (not_first _ _ _ may).0 h)
   request_holds s (request.OpenSend p own foreign size) κ order may h =
       let ok : (is_ready (pair_with p s.peers).phase ≡ true) × (is_used s own ≡ false) = used_send s p own foreign size may in
-      holds_same (with_peer s p (requested (sending_end own foreign size) (command.Str own foreign size))) κ (asked a (request.OpenSend p own foreign size) κ) (λ P e. e)
-      (begin_holds s p (sending_end own foreign size) (command.Str own foreign size) κ refl (λ f. (refl, refl)) ok.0 ok.1 h)
+      holds_same _ κ _ (λ P e. e)
+      (begin_holds s p _ _ κ refl (λ f. (refl, refl)) ok.0 ok.1 h)
   request_holds s (request.OpenReceive p own foreign) κ order may h =
-      holds_same (with_peer s p (receiver_requested own foreign (free_link (pair_with p s.peers).entries))) κ (asked a (request.OpenReceive p own foreign) κ) (λ P e. e)
-      (receive_holds s p own foreign κ (used_receive s p own foreign may) (free_link (pair_with p s.peers).entries) h)
-  request_holds s (request.Send socket bits) κ order may h = send_holds s socket bits κ (owner_of socket s.peers) refl order (not_first (not (is_send_socket socket)) _ _ may).1 h
-  request_holds s (request.Grant socket messages bits) κ order may h = grant_holds s socket messages bits κ (owner_of socket s.peers) refl order (not_first (not (is_receive_socket socket)) _ _ may).1 h
+      holds_same _ κ _ (λ P e. e)
+      (receive_holds s p own foreign κ (used_receive s p own foreign may) _ h)
+  request_holds s (request.Send socket bits) κ order may h = send_holds s socket bits κ _ refl order (not_first _ _ _ may).1 h
+  request_holds s (request.Grant socket messages bits) κ order may h = grant_holds s socket messages bits κ _ refl order (not_first _ _ _ may).1 h
   request_holds s (request.AskBack socket messages bits) κ order may h =
-      holds_same (at_owner s (owner_of socket s.peers) (λ e. commanded (command.Gvb (link_of e.link) messages bits))) κ (asked a (request.AskBack socket messages bits) κ) (λ P e. e)
-      (owner_holds s (owner_of socket s.peers) (λ e. commanded (command.Gvb (link_of e.link) messages bits)) κ (λ e q. (refl, refl)) h)
+      holds_same _ κ _ (λ P e. e)
+      (owner_holds s _ _ κ (λ e q. (refl, refl)) h)
   request_holds s (request.Interrupt socket) κ order may h =
-      holds_same (at_owner s (owner_of socket s.peers) (λ e. commanded (interrupt_of e))) κ (asked a (request.Interrupt socket) κ) (λ P e. e)
-      (owner_holds s (owner_of socket s.peers) (λ e. commanded (interrupt_of e)) κ (λ e q. (refl, refl)) h)
-  request_holds s (request.Close socket) κ order may h = holds_same (closed_socket s socket) κ (asked a (request.Close socket) κ) (λ P e. e) (closing_holds s socket κ h)
+      holds_same _ κ _ (λ P e. e)
+      (owner_holds s _ _ κ (λ e q. (refl, refl)) h)
+  request_holds s (request.Close socket) κ order may h = holds_same _ κ _ (λ P e. e) (closing_holds s socket κ h)
   request_holds s (request.Echo p octet) κ order may h =
-      holds_same (with_peer s p (commanded (command.Eco octet))) κ (asked a (request.Echo p octet) κ) (λ P e. e) (peer_holds s p (commanded (command.Eco octet)) κ (λ q. (refl, refl)) h)
+      holds_same _ κ _ (λ P e. e) (peer_holds s p (commanded (command.Eco octet)) κ (λ q. (refl, refl)) h)

@@ -39,7 +39,7 @@ in_filter test (x ∷ es) = by (test x) refl (in_filter test es) where
   by : (b : Bool) → test x ≡ b → Each (λ (e : Entry). test e ≡ true → Contains (filter test es) e) es → Each (λ (e : Entry). test e ≡ true → Contains (filter test (x ∷ es)) e) (x ∷ es)
   by true t rest =
       subst (λ (l : List Entry). Each (λ (e : Entry). test e ≡ true → Contains l e) (x ∷ es)) (sym (filter_on test x es t))
-      ((λ u. contains_head x (filter test es)), each_weaker (λ (e : Entry). test e ≡ true → Contains (filter test es) e) (λ (e : Entry). test e ≡ true → Contains (x ∷ filter test es) e) es (λ e k u. contains_tail x (filter test es) e (k u)) rest)
+      ((λ u. contains_head x (filter test es)), each_weaker _ _ es (λ e k u. contains_tail x (filter test es) e (k u)) rest)
   by false t rest = subst (λ (l : List Entry). Each (λ (e : Entry). test e ≡ true → Contains l e) (x ∷ es)) (sym (filter_off test x es t)) ((λ u. no (test x) u t), rest)
 
 only_one : (x e : Entry) → Contains (x ∷ []) e → e ≡ x
@@ -54,8 +54,8 @@ mine_true s e mine own = ap (λ (b : Bool). b && e.own == s) mine ∙ eq-eqb e.o
 -- all of a host's own on a socket are the one that there is
 pub alone_on : (s : ℕ) (es : List Entry) (x : Entry) → mine_on s es ≡ x ∷ [] → Each (λ (e : Entry). e.mine ≡ true → e.own ≡ s → e ≡ x) es
 alone_on s es x one =
-    each_weaker (λ (e : Entry). is_mine_on s e ≡ true → Contains (mine_on s es) e) (λ (e : Entry). e.mine ≡ true → e.own ≡ s → e ≡ x) es
-    (λ e k mine own. only_one x e (subst (λ (l : List Entry). Contains l e) one (k (mine_true s e mine own)))) (in_filter (is_mine_on s) es)
+    each_weaker _ _ es
+    (λ e k mine own. only_one x e (subst (λ (l : List Entry). Contains l e) one (k (mine_true s e mine own)))) (in_filter _ es)
 
 passing : (test : Entry → Bool) (es : List Entry) → Each (λ (e : Entry). test e ≡ true) (filter test es)
 passing test [] = tt
@@ -66,8 +66,8 @@ passing test (x ∷ es) = by (test x) refl (passing test es) where
 
 pub one_is : (P : Entry → Type 0) (s : ℕ) (es : List Entry) (x : Entry) → mine_on s es ≡ x ∷ [] → Each P es → P x × (is_mine_on s x ≡ true)
 one_is P s es x one h = (
-  (subst (λ (l : List Entry). Each P l) one (each_filter P (is_mine_on s) es h)).0,
-  (subst (λ (l : List Entry). Each (λ (e : Entry). is_mine_on s e ≡ true) l) one (passing (is_mine_on s) es)).0,
+  (subst (λ (l : List Entry). Each P l) one (each_filter P _ es h)).0,
+  (subst (λ (l : List Entry). Each (λ (e : Entry). is_mine_on s e ≡ true) l) one (passing _ es)).0,
 )
 
 -- ---- a life that begins has the link of its end
@@ -99,7 +99,7 @@ module _ (hosts : Network) (addresses : HaveAddresses hosts.all) (moments : List
     tied : (link : ℕ) → o.end.link ≡ Some link → IsBound moments x link
     tied link is = λ goes.
         each_weaker (λ (e : Entry). e.mine ≡ true → e.own ≡ x.socket → e ≡ o.end) (Bound x link) (pair_with x.peer (program x.host moments).peers).entries
-        (λ e k mine same a b. ap (λ (y : Entry). y.link) (k mine same) ∙ is) (alone_on x.socket (pair_with x.peer (program x.host moments).peers).entries o.end o.one)
+        (λ e k mine same a b. ap (λ (y : Entry). y.link) (k mine same) ∙ is) (alone_on x.socket _ o.end o.one)
 
     by : (r : Bool) → is_receive_socket x.socket ≡ r → Begun moments x
     by true r = record {
@@ -127,7 +127,7 @@ module _ (hosts : Network) (addresses : HaveAddresses hosts.all) (moments : List
     by : (z : Bool) → x.ended ≡ z → Begun moments x
     by true f = record { link = o.link; asked = record { size = o.size; own = o.own; partner = o.partner }; bound = λ g. no x.ended f g }
     by false f =
-        let e : HasOpenEnd (program x.host moments) x = live_end (program x.host moments) (mixed_kept hosts.strange moments) x there f (held hosts addresses x.host ours.0 x.socket moments run time) in
+        let e : HasOpenEnd (program x.host moments) x = live_end _ _ x there f (held hosts addresses x.host ours.0 x.socket moments run time) in
         begun_by x e (one_is (Grounded x.host x.peer (crossings_of moments)) x.socket (pair_with x.peer (program x.host moments).peers).entries e.end e.one (grounds hosts addresses moments run time x.host x.peer ours))
 
 -- ---- the flow of a message

@@ -73,7 +73,7 @@ module _ (a : Host) (k : ℕ) where
   pub each_here : (f : Life → Life) (P Q : Life → List Bool → Type 0) (lives : List Life) (handed : List (List Bool)) → ((x : Life) → at_socket a k (f x) ≡ at_socket a k x)
       → ((x : Life) (t : List Bool) → at_socket a k x ≡ true → IsSafe x t → P x t → IsSafe (f x) t × Q (f x) t) → EachOn a k P lives handed → EachOn a k Q (where_it (lives_at a k) f lives) handed
   each_here f P Q lives handed keeps work e =
-      each_where (lives_at a k) f P Q lives handed keeps
+      each_where _ f P Q lives handed keeps
       (λ x t there is o. let r : IsSafe (f x) t × Q (f x) t = work x t there o.0 (o.1 (goes_at x is)) in (r.0, λ goes. r.1))
       (λ x t there is o. (o.0, λ goes. not_both (Q x t) x.ended (there_at x there is) goes)) e
 
@@ -113,17 +113,17 @@ module _ (a : Host) (k : ℕ) where
       let s : (x.socket == socket) ≡ true = (both (same_host h x.host) (x.socket == socket) (both (same_host h x.host && x.socket == socket) (not x.ended) is).0).1 in
       let u : (x.socket == k) ≡ true = (both (same_host a x.host) (x.socket == k) there).1 in
       let v : x.socket ≡ socket = eqb-true x.socket socket s in
-      not_both ⊥ (x.socket == k) u (subst (λ (n : ℕ). (n == k) ≡ false) (sym v) off)
+      not_both ⊥ _ u (subst (λ (n : ℕ). (n == k) ≡ false) (sym v) off)
 
   pub each_aside : (P : Life → List Bool → Type 0) (n : Notice) (lives : List Life) (handed : List (List Bool)) → IsAside n → EachOn a k P lives handed → EachOn a k P (lives_told a n lives) (handed_told n handed)
   each_aside P (notice.Opened socket peer foreign own partner) lives handed off e =
-      each_more P lives handed (new_life a socket peer foreign own partner)
+      each_more P lives handed _
       (λ there. not_both (One P (new_life a socket peer foreign own partner) []) (socket == k) (both (same_host a a) (socket == k) there).1 off) e
-  each_aside P (notice.Ended socket peer foreign) lives handed off e = each_ending (lives_between a socket peer foreign) P lives handed e
-  each_aside P (notice.PairReset peer) lives handed off e = each_ending (lives_with a peer) P lives handed e
-  each_aside P (notice.Sent socket bits) lives handed off e = each_apart (lives_at a socket) (carried bits) P lives handed (λ x. refl) (λ x. other_socket a socket x off) e
-  each_aside P (notice.Arrived socket bits) lives handed off e = each_apart (lives_at a socket) (carried bits) P lives handed (λ x. refl) (λ x. other_socket a socket x off) e
-  each_aside P (notice.Returned socket messages bits) lives handed off e = each_apart (lives_at a socket) (returned messages bits) P lives handed (λ x. refl) (λ x. other_socket a socket x off) e
+  each_aside P (notice.Ended socket peer foreign) lives handed off e = each_ending _ P lives handed e
+  each_aside P (notice.PairReset peer) lives handed off e = each_ending _ P lives handed e
+  each_aside P (notice.Sent socket bits) lives handed off e = each_apart _ _ P lives handed (λ x. refl) (λ x. other_socket a socket x off) e
+  each_aside P (notice.Arrived socket bits) lives handed off e = each_apart _ _ P lives handed (λ x. refl) (λ x. other_socket a socket x off) e
+  each_aside P (notice.Returned socket messages bits) lives handed off e = each_apart _ _ P lives handed (λ x. refl) (λ x. other_socket a socket x off) e
   each_aside P n lives handed off e = e
 
   -- ---- notices of other hosts
@@ -131,7 +131,7 @@ module _ (a : Host) (k : ℕ) where
   other_host : (h : Host) (test : Life → Bool) (x : Life) → same_host h a ≡ false → (test x ≡ true → same_host h x.host ≡ true) → at_socket a k x ≡ true → test x ≡ true → ⊥
   other_host h test x off names there is =
       let s : a ≡ x.host = same_host-true a x.host (both (same_host a x.host) (x.socket == k) there).0 in
-      not_both ⊥ (same_host h a) (subst (λ (g : Host). same_host h g ≡ true) (sym s) (names is)) off
+      not_both ⊥ _ (subst (λ (g : Host). same_host h g ≡ true) (sym s) (names is)) off
 
   named_at : (h : Host) (socket : ℕ) (x : Life) → lives_at h socket x ≡ true → same_host h x.host ≡ true
   named_at h socket x is = (both (same_host h x.host) (x.socket == socket) (both (same_host h x.host && x.socket == socket) (not x.ended) is).0).0
@@ -141,14 +141,14 @@ module _ (a : Host) (k : ℕ) where
 
   each_away : (P : Life → List Bool → Type 0) (h : Host) (n : Notice) (lives : List Life) (handed : List (List Bool)) → same_host h a ≡ false → EachOn a k P lives handed → EachOn a k P (lives_told h n lives) (handed_told n handed)
   each_away P h (notice.Opened socket peer foreign own partner) lives handed off e =
-      each_more P lives handed (new_life h socket peer foreign own partner)
+      each_more P lives handed _
       (λ there. let s : a ≡ h = same_host-true a h (both (same_host a h) (socket == k) there).0 in
-      not_both (One P (new_life h socket peer foreign own partner) []) (same_host h a) (subst (λ (g : Host). same_host h g ≡ true) (sym s) (same_host-refl h)) off) e
-  each_away P h (notice.Ended socket peer foreign) lives handed off e = each_ending (lives_between h socket peer foreign) P lives handed e
-  each_away P h (notice.PairReset peer) lives handed off e = each_ending (lives_with h peer) P lives handed e
-  each_away P h (notice.Sent socket bits) lives handed off e = each_apart (lives_at h socket) (carried bits) P lives handed (λ x. refl) (λ x. away_at h socket x off) e
-  each_away P h (notice.Arrived socket bits) lives handed off e = each_apart (lives_at h socket) (carried bits) P lives handed (λ x. refl) (λ x. away_at h socket x off) e
-  each_away P h (notice.Returned socket messages bits) lives handed off e = each_apart (lives_at h socket) (returned messages bits) P lives handed (λ x. refl) (λ x. away_at h socket x off) e
+      not_both (One P (new_life h socket peer foreign own partner) []) _ (subst (λ (g : Host). same_host h g ≡ true) (sym s) (same_host-refl h)) off) e
+  each_away P h (notice.Ended socket peer foreign) lives handed off e = each_ending _ P lives handed e
+  each_away P h (notice.PairReset peer) lives handed off e = each_ending _ P lives handed e
+  each_away P h (notice.Sent socket bits) lives handed off e = each_apart _ _ P lives handed (λ x. refl) (λ x. away_at h socket x off) e
+  each_away P h (notice.Arrived socket bits) lives handed off e = each_apart _ _ P lives handed (λ x. refl) (λ x. away_at h socket x off) e
+  each_away P h (notice.Returned socket messages bits) lives handed off e = each_apart _ _ P lives handed (λ x. refl) (λ x. away_at h socket x off) e
   each_away P h n lives handed off e = e
 
   pub all_away : (P : Life → List Bool → Type 0) (h : Host) (ns : List Notice) (κ : Kept) → same_host h a ≡ false → EachIn a k P κ → EachIn a k P (all_told h ns κ)

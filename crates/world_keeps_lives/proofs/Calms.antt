@@ -57,10 +57,10 @@ module _ (lives : List Life) (here : ℕ) (log : List Crossing) where
     over = λ x. d.over (kept_so c.given c.back c.over x);
     more = map (kept_so d.given d.back d.over) c.more ++ d.more;
     is = d.is ∙ ap (λ (l : List Life). map (kept_so d.given d.back d.over) l ++ d.more) c.is
-        ∙ ap (λ (l : List Life). l ++ d.more) (map-append (kept_so d.given d.back d.over) (map (kept_so c.given c.back c.over) xs) c.more ∙ ap (λ (l : List Life). l ++ map (kept_so d.given d.back d.over) c.more) (map_two (kept_so c.given c.back c.over) (kept_so d.given d.back d.over) xs))
+        ∙ ap (λ (l : List Life). l ++ d.more) (map-append (kept_so d.given d.back d.over) (map (kept_so c.given c.back c.over) xs) c.more ∙ ap (λ (l : List Life). l ++ map (kept_so d.given d.back d.over) c.more) (map_two _ _ xs))
         ∙ append_assoc (map (λ (x : Life). kept_so d.given d.back d.over (kept_so c.given c.back c.over x)) xs) (map (kept_so d.given d.back d.over) c.more) d.more;
     still = λ x e. d.still (kept_so c.given c.back c.over x) (c.still x e);
-    born = each_append Born (map (kept_so d.given d.back d.over) c.more) d.more (each_map Born (kept_so d.given d.back d.over) c.more (λ x b. b) c.born) d.born;
+    born = each_append Born _ d.more (each_map Born _ c.more (λ x b. b) c.born) d.born;
   }
 
   calm_ended : (test : Life → Bool) (xs : List Life) → Calm xs (where_it test life_ended xs)
@@ -69,7 +69,7 @@ module _ (lives : List Life) (here : ℕ) (log : List Crossing) where
     back = λ x. x.returned;
     over = λ x. if test x then true else x.ended;
     more = [];
-    is = map_is (λ x. changed_when (test x) life_ended x) (kept_so (λ x. x.granted) (λ x. x.returned) (λ x. if test x then true else x.ended)) (λ x. by x (test x)) xs ∙ sym (append-nil _);
+    is = map_is _ _ (λ x. by x (test x)) xs ∙ sym (append-nil _);
     still = λ x e. off x (test x) e;
     born = tt;
   } where
@@ -88,7 +88,7 @@ module _ (lives : List Life) (here : ℕ) (log : List Crossing) where
     back = λ x. if test x then more m n x.returned else x.returned;
     over = λ x. x.ended;
     more = [];
-    is = map_is (λ x. changed_when (test x) (returned m n) x) (kept_so (λ x. x.granted) (λ x. if test x then more m n x.returned else x.returned) (λ x. x.ended)) (λ x. by x (test x)) xs ∙ sym (append-nil _);
+    is = map_is _ _ (λ x. by x (test x)) xs ∙ sym (append-nil _);
     still = λ x e. e;
     born = tt;
   } where
@@ -103,7 +103,7 @@ module _ (lives : List Life) (here : ℕ) (log : List Crossing) where
     back = λ x. x.returned;
     over = λ x. x.ended;
     more = [];
-    is = map_is (λ x. changed_when (test x) (granted m n) x) (kept_so (λ x. if test x then more m n x.granted else x.granted) (λ x. x.returned) (λ x. x.ended)) (λ x. by x (test x)) xs ∙ sym (append-nil _);
+    is = map_is _ _ (λ x. by x (test x)) xs ∙ sym (append-nil _);
     still = λ x e. e;
     born = tt;
   } where
@@ -147,27 +147,27 @@ module _ (hosts : Network) (lives : List Life) (here : ℕ) (log : List Crossing
     still_told : (n : Notice) (xs : List Life) → Reports hosts h p log n → (AreOurs hosts h p → Stamped lives here n)
         → Still xs (lives_told h n xs)
     still_told (notice.Opened s q f a b) xs t now =
-        still_born (new_life h s q f a b) xs plain t.0 (λ ours. (refl, refl, subst (λ (g : Host). Opens h g log s f a b) (sym t.0) (t.1 ours), now ours))
-    still_told (notice.Ended s q f) xs t now = still_ended (lives_between h s q f) xs
-    still_told (notice.PairReset q) xs t now = still_ended (lives_with h q) xs
+        still_born _ xs plain t.0 (λ ours. (refl, refl, subst (λ (g : Host). Opens h g log s f a b) (sym t.0) (t.1 ours), now ours))
+    still_told (notice.Ended s q f) xs t now = still_ended _ xs
+    still_told (notice.PairReset q) xs t now = still_ended _ xs
     still_told (notice.Sent s bits) xs t now = absurd t
     still_told (notice.Arrived s bits) xs t now = absurd t
-    still_told (notice.Returned s messages bits) xs t now = still_where (lives_at h s) (returned messages bits) xs (λ x. (refl, refl)) (calm_returned lives here log (lives_at h s) messages bits (among xs))
+    still_told (notice.Returned s messages bits) xs t now = still_where _ _ xs (λ x. (refl, refl)) (calm_returned lives here log _ messages bits (among xs))
     still_told n xs t now = calm_none lives here log (among xs)
 
     still_all_told : (ns : List Notice) (k : Kept) → Each (Reports hosts h p log) ns
         → (AreOurs hosts h p → Each (Stamped lives here) ns) → Still k.book.lives (all_told h ns k).book.lives
-    still_all_told [] k t now = calm_none lives here log (among k.book.lives)
+    still_all_told [] k t now = calm_none lives here log _
     still_all_told (n ∷ ns) k t now =
-        calm_on lives here log (among k.book.lives) (among (lives_told h n k.book.lives)) (among (all_told h ns (book_told h n k)).book.lives)
+        calm_on lives here log _ _ _
         (still_told n k.book.lives t.0 (λ ours. (now ours).0)) (still_all_told ns (book_told h n k) t.1 (λ ours. (now ours).1))
 
   still_crossed : (c : Crossing) (xs : List Life) → Still xs (lives_crossed c xs)
-  still_crossed (crossing.Down g) xs = still_ended (lives_on g) xs
+  still_crossed (crossing.Down g) xs = still_ended _ xs
   still_crossed c xs = calm_none lives here log (among xs)
 
   still_asked : (g : Host) (r : Request) (xs : List Life) → Still xs (lives_asked g r xs)
-  still_asked g (request.Grant socket messages bits) xs = still_where (lives_at g socket) (granted messages bits) xs (λ x. (refl, refl)) (calm_granted lives here log (lives_at g socket) messages bits (among xs))
+  still_asked g (request.Grant socket messages bits) xs = still_where _ _ xs (λ x. (refl, refl)) (calm_granted lives here log _ messages bits (among xs))
   still_asked g r xs = calm_none lives here log (among xs)
 
   still_by : (y : Moment) (k : Kept) → Still k.book.lives (kept_by y k).book.lives
@@ -176,7 +176,7 @@ module _ (hosts : Network) (lives : List Life) (here : ℕ) (log : List Crossing
 
   still_only : (y : Moment) (k : Kept) → Still k.book.lives (crossed_only y k).book.lives
   still_only (Crossed c) k = still_crossed c k.book.lives
-  still_only (Asked g r) k = calm_none lives here log (among k.book.lives)
+  still_only (Asked g r) k = calm_none lives here log _
 
   -- of a stranger's moment nothing is asked
   pub calm_moment : (y : Moment) (ms : List Moment) (p : Host)
@@ -191,5 +191,5 @@ module _ (hosts : Network) (lives : List Life) (here : ℕ) (log : List Crossing
         → Still (mixed_kept hosts.strange ms).book.lives (if v then crossed_only y (mixed_kept hosts.strange ms) else all_told (host_in y) (notices_by y ms) (kept_by y (mixed_kept hosts.strange ms))).book.lives
     by true on = still_only y (mixed_kept hosts.strange ms)
     by false plain =
-        calm_on lives here log (among old.book.lives) (among (kept_by y old).book.lives) (among (all_told (host_in y) (notices_by y ms) (kept_by y old)).book.lives) (still_by y old)
-        (still_all_told (host_in y) p plain (notices_by y ms) (kept_by y old) (told plain) now)
+        calm_on lives here log _ _ _ (still_by y old)
+        (still_all_told (host_in y) p plain _ _ (told plain) now)

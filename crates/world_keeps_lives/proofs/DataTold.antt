@@ -61,7 +61,7 @@ turn_takes link text t none = by (is_ready t.pair.phase) where
   by : (b : Bool)
       → TakesIf link text t.pair.entries (if b then with_desk t (data_taken link text (desk_of t.pair t.listening)) else t).notices
   by false = inl none
-  by true = subst (λ (ns : List Notice). TakesIf link text t.pair.entries (ns ++ (data_taken link text (desk_of t.pair t.listening)).notices)) (sym none) (desk_takes link text (desk_of t.pair t.listening) refl)
+  by true = subst (λ (ns : List Notice). TakesIf link text t.pair.entries (ns ++ (data_taken link text (desk_of t.pair t.listening)).notices)) (sym none) (desk_takes link text _ refl)
 
 pub message_takes : (s : NcpState) (m : HostMessage) (stamp : ℕ) → (m.flow.link.0 == 0) ≡ false
     → TakesIf m.flow.link.0 m.text (pair_with m.flow.source s.peers).entries (accepted s (inbound.Message m) stamp).1
@@ -70,7 +70,7 @@ message_takes s m stamp off = by (same_host s.own m.flow.destination) where
   turn : (b : Bool) → (m.flow.link.0 == 0) ≡ b
       → TakesIf m.flow.link.0 m.text (pair_with m.flow.source s.peers).entries (message_taken m.flow.source stamp m.flow.link.0 m.text (turn_of s m.flow.source)).notices
   turn true e = no (m.flow.link.0 == 0) e off
-  turn false e = rw e (turn_takes m.flow.link.0 m.text (turn_of s m.flow.source) refl)
+  turn false e = rw e (turn_takes m.flow.link.0 m.text _ refl)
 
   by : (b : Bool)
       → TakesIf m.flow.link.0 m.text (pair_with m.flow.source s.peers).entries (if b then after_turn s m.flow.source (message_taken m.flow.source stamp m.flow.link.0 m.text (turn_of s m.flow.source)) else (s, [])).1
@@ -101,14 +101,14 @@ module _ (hosts : Network) (h p : Host) (log : List Crossing) where
   reported n t = tt
 
   all_reported : (ns : List Notice) → Each (Tells h p log) ns → Each (Reports hosts h p log) ns
-  all_reported ns t = each_weaker (Tells h p log) (Reports hosts h p log) ns reported t
+  all_reported ns t = each_weaker _ _ ns reported t
 
   -- of an end with a stranger nothing is asked
   abbrev Any : Entry → Type 0
   Any e = Unit {0}
 
   any_ends : (s : NcpState) → Ends Any p s
-  any_ends s = each_weaker (λ (e : Entry). Contains (pair_with p s.peers).entries e) Any (pair_with p s.peers).entries (λ e there. tt) (each_of (pair_with p s.peers).entries)
+  any_ends s = each_weaker _ Any _ (λ e there. tt) (each_of _)
 
   aside_rules : hosts.strange p ≡ true → Rules Any (Reports hosts h p log) p
   aside_rules on = record {
@@ -136,7 +136,7 @@ module _ (hosts : Network) (addresses : HaveAddresses hosts.all) (moments : List
     (run : mail.IsRun hosts.all (crossings_of moments)) (time : Happened hosts moments) where
   grounds_after : (a b : Host) → AreOurs hosts a b → (c : Crossing)
       → Ends (Grounded a b (c ∷ crossings_of moments)) b (program a moments)
-  grounds_after a b ours c = each_weaker (Grounded a b (crossings_of moments)) (Grounded a b (c ∷ crossings_of moments)) (pair_with b (program a moments).peers).entries (still_grounded a b c (crossings_of moments)) (grounds hosts addresses moments run time a b ours)
+  grounds_after a b ours c = each_weaker _ _ _ (still_grounded a b c _) (grounds hosts addresses moments run time a b ours)
 
   -- a message with commands, an RST or an RRP goes out
   module _ (m : HostMessage) (plain : hosts.strange m.flow.source ≡ false) (n : IsNext (program m.flow.source moments) m) (z : Parcel) (quiet : IsNoData z)
@@ -154,7 +154,7 @@ module _ (hosts : Network) (addresses : HaveAddresses hosts.all) (moments : List
     queue = (pair_with m.flow.destination (program m.flow.source moments).peers).queue
 
     queued : AreCommands (pair_with m.flow.destination (program m.flow.source moments).peers).queue
-    queued = (pair_range m.flow.destination (program m.flow.source moments).peers (programs_ranged hosts moments (served_in hosts moments time) m.flow.source plain).pairs).commands
+    queued = (pair_range m.flow.destination _ (programs_ranged hosts moments (served_in hosts moments time) m.flow.source plain).pairs).commands
 
     to : n.peer.host ≡ m.flow.destination
     to = sym (ap (λ (x : HostMessage). x.flow.destination) is)
@@ -162,8 +162,8 @@ module _ (hosts : Network) (addresses : HaveAddresses hosts.all) (moments : List
     offer_ours : AreOurs hosts m.flow.source m.flow.destination
         → Each (Tells m.flow.source m.flow.destination (crossing.Out m ∷ crossings_of moments)) (notices_by (Crossed (crossing.Out m)) moments)
     offer_ours ours =
-        (offer_keeps (Going a b log queue) (Tells a b log) b (going_rules a b log queue) (program a moments) (places moments) n.peer z n.order next to queued (may z quiet next is)
-        (going_now hosts addresses moments run time a b ours log (grounds_after a b ours (crossing.Out m)))).told where
+        (offer_keeps (Going a b log queue) (Tells a b log) b (going_rules a b log queue) _ _ n.peer z n.order next to queued (may z quiet next is)
+        (going_now hosts addresses moments run time a b ours log (grounds_after a b ours _))).told where
           may : (z : Parcel) → IsNoData z → next_in (program m.flow.source moments).peers ≡ Some (n.peer, z)
               → m ≡ message_for (program m.flow.source moments).own n.peer z
               → MayTell (Going a b log queue) (Tells a b log) b (going_rules a b log queue) (places moments) z (pair_with b (program a moments).peers)
@@ -175,14 +175,14 @@ module _ (hosts : Network) (addresses : HaveAddresses hosts.all) (moments : List
     offer_aside : hosts.strange m.flow.destination ≡ true
         → Each (Reports hosts m.flow.source m.flow.destination (crossing.Out m ∷ crossings_of moments)) (notices_by (Crossed (crossing.Out m)) moments)
     offer_aside on =
-        (offer_keeps (Any hosts a b log) (Reports hosts a b log) b (aside_rules hosts a b log on) (program a moments) (places moments) n.peer z n.order next to queued (may z quiet)
+        (offer_keeps (Any hosts a b log) (Reports hosts a b log) b (aside_rules hosts a b log on) _ _ n.peer z n.order next to queued (may z quiet)
         (any_ends hosts a b log (program a moments))).told where
           may : (z : Parcel) → IsNoData z
               → MayTell (Any hosts a b log) (Reports hosts a b log) b (aside_rules hosts a b log on) (places moments) z (pair_with b (program a moments).peers)
           may parcel.Reset quiet = tt
           may parcel.Reply quiet = tt
           may (parcel.Commands count) quiet = any_goes hosts a b log (places moments) _
-          may (parcel.Bytes e size count) quiet = absurd quiet
+          may _ quiet = absurd quiet
 
     pub offer_told : Each (Reports hosts m.flow.source m.flow.destination (crossing.Out m ∷ crossings_of moments)) (notices_by (Crossed (crossing.Out m)) moments)
     offer_told = by (hosts.strange m.flow.destination) refl where
@@ -207,13 +207,13 @@ module _ (hosts : Network) (addresses : HaveAddresses hosts.all) (moments : List
     by : (v : Bool) → hosts.strange m.flow.source ≡ v
         → Each (Reports hosts m.flow.destination m.flow.source (crossing.In m ∷ crossings_of moments)) (notices_by (Crossed (crossing.In m)) moments)
     by true on =
-        (message_keeps (Any hosts a b log) (Reports hosts a b log) b (aside_rules hosts a b log on) (program a moments) m (places moments) refl
+        (message_keeps (Any hosts a b log) (Reports hosts a b log) b (aside_rules hosts a b log on) _ m _ refl
         ((λ z. any_hears hosts a b log (places moments) _), (λ off e k f o t. no (m.flow.link.0 == 0) here off)) (any_ends hosts a b log (program a moments))).told
     by false off =
         all_reported hosts a b log _
-        (message_keeps (Grounded a b log) (Tells a b log) b (grounded_rules a b log) (program a moments) m (places moments) refl
+        (message_keeps (Grounded a b log) (Tells a b log) b (grounded_rules a b log) _ m _ refl
         ((λ z. grounded_hears a b log m (places moments) (flow_is m.flow b a refl refl (eqb-true m.flow.link.0 0 z)) (inl (refl, places_same moments))), (λ off e k f o t. no (m.flow.link.0 == 0) here off))
-        (grounds_after a b (plain, off) (crossing.In m))).told
+        (grounds_after a b (plain, off) _)).told
 
   pub answer_told : (kind : Answer) (f : Flow) → hosts.strange f.source ≡ false
       → Each (Reports hosts f.source f.destination (crossing.Answer kind f ∷ crossings_of moments)) (notices_by (Crossed (crossing.Answer kind f)) moments)
@@ -225,14 +225,14 @@ module _ (hosts : Network) (addresses : HaveAddresses hosts.all) (moments : List
         → Each (Reports hosts f.source f.destination (crossing.Answer kind f ∷ crossings_of moments)) (notices_by (Crossed (crossing.Answer kind f)) moments)
     by true on =
         (answer_keeps (Any hosts f.source f.destination log) (Reports hosts f.source f.destination log) f.destination (aside_rules hosts f.source f.destination log on)
-        (program f.source moments) kind f (places moments) refl (any_ends hosts f.source f.destination log (program f.source moments))).told
+        _ kind f _ refl (any_ends hosts f.source f.destination log (program f.source moments))).told
     by false off =
         all_reported hosts f.source f.destination log _
         (answer_keeps (Grounded f.source f.destination log) (Tells f.source f.destination log) f.destination (grounded_rules f.source f.destination log)
-        (program f.source moments) kind f (places moments) refl (grounds_after f.source f.destination (plain, off) (crossing.Answer kind f))).told
+        _ kind f _ refl (grounds_after f.source f.destination (plain, off) _)).told
 
 pub asking_told : (hosts : Network) (moments : List Moment) (h : Host) (r : Request)
     → Each (Reports hosts h h (crossings_of moments)) (notices_by (Asked h r) moments)
 asking_told hosts moments h r =
     all_reported hosts h h (crossings_of moments) _
-    (request_told (Grounded h h (crossings_of moments)) (Tells h h (crossings_of moments)) h (grounded_rules h h (crossings_of moments)) (program h moments) r)
+    (request_told (Grounded h h (crossings_of moments)) (Tells h h (crossings_of moments)) h (grounded_rules h h (crossings_of moments)) _ r)

@@ -20,7 +20,7 @@ pub open_parts : (e : Entry) → is_open e ≡ true → IsAnOpen e
 open_parts e o =
     let p : (has_opened e ≡ true) × (not (is_ending e) ≡ true) = both (has_opened e) (not (is_ending e)) o in
     let q : (is_some e.asked ≡ true) × (is_some e.partner ≡ true) = both (is_some e.asked) (is_some e.partner) p.0 in
-    let r : (has_cls e.closing ≡ false) × (e.partner_closed ≡ false) = or_false (has_cls e.closing) e.partner_closed (not_is (is_ending e) p.1) in
+    let r : (has_cls e.closing ≡ false) × (e.partner_closed ≡ false) = or_false (has_cls e.closing) e.partner_closed (not_is _ p.1) in
     record { asked = q.0; partner = q.1; unclosed = r.0; unheard = r.1 }
 
 pub open_opened : (e : Entry) → is_open e ≡ true → has_opened e ≡ true
@@ -31,7 +31,7 @@ pub open_mine : (e : Entry) → IsRefusing e → is_open e ≡ true → e.mine �
 open_mine e r o = by e.mine refl where
   by : (b : Bool) → e.mine ≡ b → b ≡ true
   by true f = refl
-  by false f = clash (false ≡ true) (has_cls e.closing) (r f) (open_parts e o).unclosed
+  by false f = clash _ _ (r f) (open_parts e o).unclosed
 
 pub own_is : (k : ℕ) (e : Entry) → is_mine_on k e ≡ true → e.own ≡ k
 own_is k e is = eqb-true e.own k (both e.mine (e.own == k) is).1
@@ -40,7 +40,7 @@ pub own_off : (k : ℕ) (e : Entry) → e.mine ≡ true → is_mine_on k e ≡ f
 own_off k e mine off = by e.mine refl off where
   by : (b : Bool) → e.mine ≡ b → (b && e.own == k) ≡ false → (e.own == k) ≡ false
   by true f g = g
-  by false f g = clash ((e.own == k) ≡ false) e.mine mine f
+  by false f g = clash _ e.mine mine f
 
 -- a life of an end stays one where the end only closes
 pub record IsLess (e new : Entry) : Type 0 where
@@ -146,7 +146,7 @@ module _ (a : Host) (k : ℕ) where
   each_all_aside P (n ∷ ns) κ off e = each_all_aside P ns (book.book_told a n κ) off.1 (each_aside a k P n κ.book.lives κ.handed off.0 e)
 
   pub at_aside : (m : Place) (p : Host) (ms : List Entry) (l : Bool) (ns : List Notice) (κ : Kept) → AreAside a k ns → At a k m p ms l κ → At a k m p ms l (all_told a ns κ)
-  at_aside m p ms l ns κ off h = at_same m p ms l κ (all_told a ns κ) (λ P. each_all_aside P ns κ off) h
+  at_aside m p ms l ns κ off h = at_same m p ms l κ _ (λ P. each_all_aside P ns κ off) h
 
   -- ---- one place, where its ends change
 
@@ -195,7 +195,7 @@ module _ (a : Host) (k : ℕ) where
 
   -- ends that only close
   pub at_less : (m : Place) (p : Host) (e new : Entry) (l : Bool) (κ : Kept) → IsLess e new → Drains e new → At a k m p (e ∷ []) l κ → At a k m p (new ∷ []) l κ
-  at_less Near p e new false κ less drains h = (less.fresh h.0, each_weaker a k (IsLifeOf p e) (IsLifeOf p new) κ.book.lives κ.handed (λ x t there i. less_life p e new x t less drains i) h.1)
+  at_less Near p e new false κ less drains h = (less.fresh h.0, each_weaker a k (IsLifeOf p e) _ κ.book.lives κ.handed (λ x t there i. less_life p e new x t less drains i) h.1)
   at_less Near p e new true κ less drains h = h
   at_less (Elsewhere g y) p e new l κ less drains h = h
 
@@ -223,4 +223,4 @@ module _ (a : Host) (k : ℕ) where
   at_map (Elsewhere q y) p f (e ∷ g ∷ ms) l κ less drains h = h
 
   pub at_mapped : (m : Place) (p : Host) (f : Entry → Entry) (xs : List Entry) (l : Bool) (κ : Kept) → ((e : Entry) → IsLess e (f e)) → ((e : Entry) → Drains e (f e)) → At a k m p (mine_on k xs) l κ → At a k m p (mine_on k (map f xs)) l κ
-  at_mapped m p f xs l κ less drains h = subst (λ (ys : List Entry). At a k m p ys l κ) (sym (mapped_mine f xs less)) (at_map m p f (mine_on k xs) l κ less drains h)
+  at_mapped m p f xs l κ less drains h = subst (λ (ys : List Entry). At a k m p ys l κ) (sym (mapped_mine f xs less)) (at_map m p f _ l κ less drains h)

@@ -187,18 +187,18 @@ module _ (s : NcpState) (x : Life) (h : HasOpenEnd s x) where
         subst (λ (p : Host). mine_on x.socket (pair_with p s.peers).entries ≡ h.end ∷ [])
         (sym (same_host-true g x.peer is)) h.one in
         one_in h.end e (subst (λ (es : List Entry). Contains es e) here there)
-    by false off = absurd (none_in (mine_on x.socket (pair_with g s.peers).entries) e (h.others g off) there)
+    by false off = absurd (none_in _ e (h.others g off) there)
 
   closing_refuses : (bits : List Bool) → AreInOrder s.peers → has_cls h.end.closing ≡ true
       → refusal s (request.Send x.socket bits) ≡ None → ⊥
   unfolding refusal
-  closing_refuses bits order shut may = by (owner_of x.socket s.peers) refl (not_first (not (is_send_socket x.socket)) _ _ may).1 where
+  closing_refuses bits order shut may = by (owner_of x.socket s.peers) refl (not_first _ _ _ may).1 where
     by : (o : Option (Host × Entry)) → owner_of x.socket s.peers ≡ o → on_open (send_fault (length bits)) o ≡ None → ⊥
     by None f on = absurd (cc)
     by (Some (g, e)) f on =
-        let opened : is_open e ≡ true = not_false (is_open e) (not_first (not (is_open e)) _ _ on).0 in
+        let opened : is_open e ≡ true = not_false (is_open e) (not_first _ _ _ on).0 in
         let same : h.end ≡ e = owner_is g e order f in
-        clash ⊥ (has_cls e.closing) (ap (λ (y : Entry). has_cls y.closing) (sym same) ∙ shut) (open_parts e opened).unclosed
+        clash ⊥ _ (ap (λ (y : Entry). has_cls y.closing) (sym same) ∙ shut) (open_parts e opened).unclosed
 
 -- ---- one life, from then on
 
@@ -261,14 +261,14 @@ module _ (hosts : Network) (addresses : HaveAddresses hosts.all) where
         let mine : o.end.mine ≡ true = (both o.end.mine (o.end.own == r.socket) g.1).0 in
         let asked : IsAsked r.host r.peer (crossings_of ms) o.end r.own_stamp = g.0.asked mine r.own_stamp o.own in
         let less : r.own_stamp < length (crossings_of ms) =
-        crossed_below r.own_stamp (going asked.crossed.message) (crossings_of ms) asked.crossed.crossed in
+        crossed_below r.own_stamp _ _ asked.crossed.crossed in
         subst (λ (n : ℕ). r.own_stamp < n) (sym (places_same ms)) less
 
     first : (r : Life) → AreOurs hosts r.host r.peer → Contains (mixed_kept hosts.strange ms).book.lives r
         → ClosesFirst ms r → Whole ms r
     first r two there c =
         let i : (t : List Bool) × IsPair r t (mixed_kept hosts.strange ms).book.lives (mixed_kept hosts.strange ms).handed =
-        pair_at r (mixed_kept hosts.strange ms).book.lives (mixed_kept hosts.strange ms).handed there.0 there.1 there.2 (laws.handed hosts ms addresses run time) in
+        pair_at r _ _ there.0 there.1 there.2 (laws.handed hosts ms addresses run time) in
         record {
           life = r;
           text = i.0;
@@ -279,9 +279,9 @@ module _ (hosts : Network) (addresses : HaveAddresses hosts.all) where
           socket = refl;
           foreign = refl;
           stamp = refl;
-          bits = sent_at ms r i.0 (mixed_kept hosts.strange ms).book.lives (mixed_kept hosts.strange ms).handed (paired r two there) (sockets r.host two.0 r.socket) i.1 c;
+          bits = sent_at ms r i.0 _ _ (paired r two there) (sockets r.host two.0 r.socket) i.1 c;
           shut =
-              all_shut r.socket r.own_stamp (pair_with r.peer (program r.host ms).peers).entries
+              all_shut r.socket r.own_stamp _
               ((holds hosts ms addresses run time r.host two.0 0).steady.refusing r.peer)
               (subst (λ (es : List Entry). Each (λ (e : Entry). has_cls e.closing ≡ true) es) (sym c.end.one) (c.closed, tt));
           placed = placed_first r two c.end;
@@ -309,8 +309,8 @@ module _ (hosts : Network) (addresses : HaveAddresses hosts.all) where
 
             all : Each (IsShut r.socket r.own_stamp) (mine_on w.life.socket (pair_with w.life.peer (program w.life.host ms).peers).entries)
             all =
-                each_filter (IsShut r.socket r.own_stamp) (is_mine_on w.life.socket)
-                (pair_with w.life.peer (program w.life.host ms).peers).entries here
+                each_filter _ _
+                _ here
 
       not_handed : (h : Host) (socket : ℕ) (bits : List Bool)
           → refusal (program h ms) (request.Send socket bits) ≡ None → lives_at h socket w.life ≡ false
@@ -325,7 +325,7 @@ module _ (hosts : Network) (addresses : HaveAddresses hosts.all) where
             let goes : w.life.ended ≡ false = not_is w.life.ended p.1 in
             let open_end : HasOpenEnd (program w.life.host ms) w.life =
             live hosts ms addresses run time w.life own_host
-            (pair_there w.life w.text (mixed_kept hosts.strange ms).book.lives (mixed_kept hosts.strange ms).handed w.there) goes in
+            (pair_there w.life w.text _ _ w.there) goes in
             absurd
             (closing_refuses (program w.life.host ms) w.life open_end bits ((coupled hosts addresses ms run time).order w.life.host own_host) (end_shut open_end)
             (subst (λ (g : Host). refusal (program g ms) (request.Send w.life.socket bits) ≡ None) (same_host-true h w.life.host q.0)
@@ -359,7 +359,7 @@ module _ (hosts : Network) (addresses : HaveAddresses hosts.all) where
           moment_later hosts.strange y ms w.life w.text (unsent y t) w.there in
           let sending : sends l.life ≡ true = ap is_send_socket l.next.socket ∙ w.sending in
           let within : IsPrefix l.life.bits w.text =
-          pair_front l.life w.text (mixed_kept hosts.strange (y ∷ ms)).book.lives (mixed_kept hosts.strange (y ∷ ms)).handed
+          pair_front l.life w.text _ _
           (laws.handed hosts (y ∷ ms) addresses on t) l.there sending in
           let more : IsPrefix w.text l.life.bits =
           subst (λ (bs : List Bool). IsPrefix bs l.life.bits) w.bits l.next.front in
@@ -386,7 +386,7 @@ module _ (hosts : Network) (addresses : HaveAddresses hosts.all) where
       → Contains (mixed_kept hosts.strange ms).book.lives r → ClosesFirst ms r → Whole (newer ++ ms) r
   later [] ms run time r two there c = first ms run time r two there c
   later (y ∷ newer) ms run time r two there c =
-      let below : mail.IsRun hosts.all (crossings_of (newer ++ ms)) = mail_below hosts.all y (newer ++ ms) run in
+      let below : mail.IsRun hosts.all (crossings_of (newer ++ ms)) = mail_below hosts.all y _ run in
       next (newer ++ ms) below time.1 r two (later newer ms below time.1 r two there c) y run time
 
   -- ---- all lives of a book
@@ -396,21 +396,21 @@ module _ (hosts : Network) (addresses : HaveAddresses hosts.all) where
         → ClosedFirst (among hosts) ms x → x.bits ≡ t
     sent_since x t i c =
         let s : Contains (mixed_kept hosts.strange c.earlier).book.lives c.sender × AreOurs hosts c.sender.host c.sender.peer =
-        in_book hosts (mixed_kept hosts.strange c.earlier).book.lives c.sender c.there in
+        in_book hosts _ c.sender c.there in
         let w : Whole ms c.sender = subst (λ (ns : List Moment). Whole ns c.sender) (sym c.is)
         (later c.later c.earlier (subst (λ (ns : List Moment). mail.IsRun hosts.all (crossings_of ns)) c.is run)
         (subst (λ (ns : List Moment). Happened hosts ns) c.is time) c.sender s.1 s.0 c.first) in
         let k : Coupled hosts ms = coupled hosts addresses ms run time in
         let partners : SafePartners (crossings_of ms) (among hosts ms) =
         safe_partners hosts ms k.story k.run run (served_in hosts ms time) (among hosts ms)
-        (in_book hosts (mixed_kept hosts.strange ms).book.lives) (two_in_book hosts (mixed_kept hosts.strange ms).book.lives) in
+        (in_book hosts _) (two_in_book hosts _) in
         let own : hosts.strange w.life.host ≡ false = subst (λ (g : Host). hosts.strange g ≡ false) (sym w.host) s.1.0 in
         let other : hosts.strange w.life.peer ≡ false = subst (λ (g : Host). hosts.strange g ≡ false) (sym w.peer) s.1.1 in
         let there : IsPair w.life w.text (among hosts ms) (handed_in hosts ms) =
-        pair_among hosts.strange w.life w.text (mixed_kept hosts.strange ms).book.lives (mixed_kept hosts.strange ms).handed
+        pair_among hosts.strange w.life w.text _ _
         (rw (own, other) refl) w.there in
         let same : (x ≡ w.life) × (t ≡ w.text) =
-        pair_one x w.life t w.text (among hosts ms) (handed_in hosts ms) partners.own_once
+        pair_one x w.life t w.text _ _ partners.own_once
         (c.same ∙ sym (name_is c.sender w.life w.socket w.foreign w.stamp)) i there in
         ap (λ (y : Life). y.bits) same.0 ∙ w.bits ∙ sym same.1
 
@@ -429,6 +429,6 @@ pub drained : (hosts : Network) (moments : List Moment) → HaveAddresses hosts.
     → mail.IsRun hosts.all (crossings_of moments) → Happened hosts moments
     → AllSent (among hosts) moments (among hosts moments) (handed_in hosts moments)
 drained hosts moments addresses run time =
-    each_sent (among hosts) moments (among hosts moments) (handed_in hosts moments)
-    (handed_among hosts.strange (mixed_kept hosts.strange moments).book.lives (mixed_kept hosts.strange moments).handed (laws.handed hosts moments addresses run time))
+    each_sent _ moments _ _
+    (handed_among hosts.strange _ _ (laws.handed hosts moments addresses run time))
     (sent_since hosts addresses moments run time)

@@ -44,10 +44,10 @@ module _ (hosts : Network) (ms : List Moment) (l : Lawful hosts ms) where
 
   module _ (p : Linked) (two : AreOurs hosts p.life.host p.life.peer) (a : HasRequests log p) where
     own : Names p.life.socket p.life.foreign (orders_of a.own.message.text)
-    own = names_of p.life.socket p.life.foreign (if receives p.life then p.link else a.size) (orders_of a.own.message.text) a.own.holds
+    own = names_of p.life.socket p.life.foreign _ _ a.own.holds
 
     partner : Names p.life.foreign p.life.socket (orders_of a.partner.message.text)
-    partner = names_of p.life.foreign p.life.socket (if receives p.life then a.size else p.link) (orders_of a.partner.message.text) a.partner.holds
+    partner = names_of p.life.foreign p.life.socket _ _ a.partner.holds
 
     own_is : own_named log p.life ≡ Some own.named
     own_is = named_there false p.life.host p.life.peer p.life.socket p.life.foreign p.life.own_stamp a.own.message log a.own.flow a.own.crossed ∙ own.is
@@ -92,14 +92,14 @@ module _ (hosts : Network) (ms : List Moment) (l : Lawful hosts ms) where
   formed_one p two f = record {
     own = ap is_some (own_is p two f.asked);
     partner = ap is_some (partner_is p two f.asked);
-    bits = ap (first_data (receives p.life) p.life.messages) (texts_are p two f.asked log) ∙ first_all (receives p.life) p.life.messages (texts_for p.life p.link log) f.enough ∙ f.bits;
+    bits = ap (first_data (receives p.life) p.life.messages) (texts_are p two f.asked log) ∙ first_all _ p.life.messages _ f.enough ∙ f.bits;
   }
 
   -- ---- all of them
 
   module _ (b : LinkedBook hosts log (lives_in hosts ms)) where
     ours_in : (p : Linked) → Contains b.links p → AreOurs hosts p.life.host p.life.peer
-    ours_in p there = (in_book hosts (mixed_kept hosts.strange ms).book.lives p.life (subst (λ (xs : List Life). Contains xs p.life) b.all (mapped life_of b.links p there))).1
+    ours_in p there = (in_book hosts _ p.life (subst (λ (xs : List Life). Contains xs p.life) b.all (mapped life_of b.links p there))).1
 
     pub formed_book : FormedBook log (lives_in hosts ms)
     formed_book x there =
@@ -113,9 +113,9 @@ module _ (hosts : Network) (ms : List Moment) (l : Lawful hosts ms) where
     before_one : (p q : Linked) → Known p → Known q → by_link.IsBefore log p q → IsBefore log p.life q.life
     before_one p q j k is (kind, like, share) =
         let flow : Some (flow_of p.life p.link) ≡ Some (flow_of q.life q.link) = sym (flow_is p j.0 j.1) ∙ share ∙ flow_is q k.0 k.1 in
-        elim (is (kind, like, some_same (flow_of p.life p.link) (flow_of q.life q.link) flow)) [
+        elim (is (kind, like, some_same _ _ flow)) [
           | inl none ↦ inl none
-          | inr some ↦ inr (subst (λ (n : ℕ). p.life.messages ≤ n) (ap length (sym (texts_are p j.0 j.1 (before (begun q.life) log)))) some)
+          | inr some ↦ inr (subst (λ (n : ℕ). p.life.messages ≤ n) (ap length (sym (texts_are p j.0 j.1 _))) some)
         ]
 
     after_one : (p : Linked) (qs : List Linked) → Known p → Each Known qs → by_link.AreAfter log p qs
@@ -128,7 +128,7 @@ module _ (hosts : Network) (ms : List Moment) (l : Lawful hosts ms) where
     all_apart (p ∷ ps) ks a = (after_one p ps ks.0 ks.1 a.0, all_apart ps ks.1 a.1)
 
     all_known : Each Known b.links
-    all_known = each_weaker (λ (p : Linked). Contains b.links p) Known b.links (λ p there. (ours_in p there, (b.first p there).asked)) (each_of b.links)
+    all_known = each_weaker _ Known b.links (λ p there. (ours_in p there, (b.first p there).asked)) (each_of b.links)
 
     sent_one : (place : ℕ) (m : HostMessage) (p : Linked) → Known p → by_link.IsSentIn log place m p
         → IsSentIn log place m p.life
@@ -137,7 +137,7 @@ module _ (hosts : Network) (ms : List Moment) (l : Lawful hosts ms) where
       flow = flow_is p k.0 k.1 ∙ ap (λ (f : Flow). Some f) (sym s.flow);
       own = s.own;
       partner = s.partner;
-      counted = subst (λ (n : ℕ). n < p.life.messages) (ap length (sym (texts_are p k.0 k.1 (before place log)))) s.counted;
+      counted = subst (λ (n : ℕ). n < p.life.messages) (ap length (sym (texts_are p k.0 k.1 _))) s.counted;
     }
 
     pub apart_book : AreApart log (lives_in hosts ms)

@@ -35,7 +35,7 @@ unasked : (origin : ℕ → ℕ) (own foreign : ℕ) (entries : List Entry) (wor
     → e.asked ≡ None
 unasked origin own foreign entries words x e h f =
     let g : Found own foreign entries e = found_at own foreign entries e f in
-    unasked_by origin (standing e) g.rest words x (subst (λ (ss : List Standing). Stand true origin 0 ss (Ask 0 ∷ words) x) g.first h)
+    unasked_by origin _ g.rest words x (subst (λ (ss : List Standing). Stand true origin 0 ss (Ask 0 ∷ words) x) g.first h)
 
 -- the CLS of one whose CLS waits is queued
 queued_by : (origin : ℕ → ℕ) (s : Standing) (rest : List Standing) (words : List Mark) (x : End)
@@ -51,7 +51,7 @@ has_queued : (origin : ℕ → ℕ) (own foreign : ℕ) (entries : List Entry) (
     → has_cls e.closing ≡ true
 has_queued origin own foreign entries words x e h f =
     let g : Found own foreign entries e = found_at own foreign entries e f in
-    queued_by origin (standing e) g.rest words x (subst (λ (ss : List Standing). Stand true origin 0 ss (Close ∷ words) x) g.first h)
+    queued_by origin _ g.rest words x (subst (λ (ss : List Standing). Stand true origin 0 ss (Close ∷ words) x) g.first h)
 
 -- bits of a life go out
 sent_safe : (p : Host) (e : Entry) (x : Life) (t : List Bool) (n : ℕ) → is_open e ≡ true → receives x ≡ false
@@ -132,7 +132,7 @@ module _ (a : Host) (k : ℕ) (m : Place) (p : Host) (k0 : Kept) where
       asks origin stamp receive send d (marks 0 receive send cs ++ marks 0 receive send behind) (parted origin (command.Rts receive send link) cs behind d receive send (w receive send (inl (is.1, is.3)))) h
   one_goes origin stamp (command.Str send receive size) cs behind d is w h =
       asks origin stamp send receive d (marks 0 send receive cs ++ marks 0 send receive behind) (parted origin (command.Str send receive size) cs behind d send receive (w send receive (inr (is.1, is.3)))) h
-  one_goes origin stamp (command.Cls own foreign) cs behind d is w h = good_swept a k m p k0 (changed (is_at own foreign) cls_sent d) (good_closed origin own foreign cs behind d w h)
+  one_goes origin stamp (command.Cls own foreign) cs behind d is w h = good_swept a k m p k0 _ (good_closed origin own foreign cs behind d w h)
   one_goes origin stamp c cs behind d is w h = h
 
   pub all_go : (origin : ℕ → ℕ) (stamp : ℕ) (cs behind : List Command) (d : DeskState) → AreCommands cs
@@ -141,7 +141,7 @@ module _ (a : Host) (k : ℕ) (m : Place) (p : Host) (k0 : Kept) where
   all_go origin stamp (c ∷ cs) behind d is w h =
       all_go origin stamp cs behind (command_gone p stamp c d) is.1
       (λ own foreign two. let s : (x : End) × Stand true origin 0 (at own foreign d.entries) (mark_of 0 own foreign c ++ (marks 0 own foreign cs ++ marks 0 own foreign behind)) x = parted origin c cs behind d own foreign (w own foreign two) in
-      (_, one_gone origin own foreign 0 p stamp c d (marks 0 own foreign cs ++ marks 0 own foreign behind) s.0 s.1))
+      (_, one_gone origin own foreign 0 p stamp c d _ s.0 s.1))
       (one_goes origin stamp c cs behind d is.0 w h)
 
   -- bytes
@@ -152,4 +152,4 @@ module _ (a : Host) (k : ℕ) (m : Place) (p : Host) (k0 : Kept) where
       good_changed a k m p k0 (may_send_on busy link) (bits_gone n) (notice.Sent e.own (take n e.bits) ∷ []) d e f refl (λ e r. r)
       (λ is l κ i. at_here a k m p (carried (take n e.bits)) e (bits_gone n e) l κ (all_told a (notice.Sent e.own (take n e.bits) ∷ []) κ) is (open_opened e o) (λ x. refl)
       (λ x t there s j. let off : receives x ≡ false = life_receives a k e x is there ∙ sends in (sent_safe p e x t n o off j, sent_life p e x t n o off j)) refl refl i)
-      (λ off. (own_off k e (open_mine e (refusing_found (may_send_on busy link) d.entries e h.refusing f) o) off, tt)) h
+      (λ off. (own_off k e (open_mine e (refusing_found _ d.entries e h.refusing f) o) off, tt)) h

@@ -210,8 +210,8 @@ module _ (h p : Host) (log : List Crossing) where
         refusing = g.0.refusing;
         asked = λ mine a is. record {
           named = link;
-          crossed = subst (λ (place : ℕ). HasCrossed going h p place (request e.own e.foreign link) log) (same_Some stamp a is) (has (request e.own e.foreign link) (command.Rts own foreign link) (ap (λ (k : ℕ). request k e.foreign link) o ∙ ap (λ (k : ℕ). request own k link) f ∙ rts_is own foreign link even) there);
-          link = λ r. g.1 mine link (subst (λ (k : ℕ). Contains queue (command.Rts k e.foreign link)) (sym o) (subst (λ (k : ℕ). Contains queue (command.Rts own k link)) (sym f) (taken_in n queue (command.Rts own foreign link) there)));
+          crossed = subst (λ (place : ℕ). HasCrossed going h p place (request e.own e.foreign link) log) (same_Some stamp a is) (has _ _ (ap (λ (k : ℕ). request k e.foreign link) o ∙ ap (λ (k : ℕ). request own k link) f ∙ rts_is own foreign link even) there);
+          link = λ r. g.1 mine link (subst (λ (k : ℕ). Contains queue (command.Rts k e.foreign link)) (sym o) (subst (λ (k : ℕ). Contains queue (command.Rts own k link)) (sym f) (taken_in n queue _ there)));
         };
         partner = λ mine b is. (let i : IsAnswered h p log e b = g.0.partner mine b is in record { named = i.named; crossed = i.crossed; link = i.link });
       },
@@ -222,7 +222,7 @@ module _ (h p : Host) (log : List Crossing) where
         refusing = g.0.refusing;
         asked = λ mine a is. record {
           named = size;
-          crossed = subst (λ (place : ℕ). HasCrossed going h p place (request e.own e.foreign size) log) (same_Some stamp a is) (has (request e.own e.foreign size) (command.Str own foreign size) (ap (λ (k : ℕ). request k e.foreign size) o ∙ ap (λ (k : ℕ). request own k size) f ∙ str_is own foreign size odd) there);
+          crossed = subst (λ (place : ℕ). HasCrossed going h p place (request e.own e.foreign size) log) (same_Some stamp a is) (has _ _ (ap (λ (k : ℕ). request k e.foreign size) o ∙ ap (λ (k : ℕ). request own k size) f ∙ str_is own foreign size odd) there);
           link = λ r. absurd (even_odd own (ap is_receive_socket (sym o) ∙ r) odd);
         };
         partner = λ mine b is. (let i : IsAnswered h p log e b = g.0.partner mine b is in record { named = i.named; crossed = i.crossed; link = i.link });
@@ -235,15 +235,15 @@ module _ (h p : Host) (log : List Crossing) where
       message = m;
       flow = flow;
       crossed = crossed;
-      holds = subst (λ (x : Command). Contains (orders_of m.text) (Legal x)) (sym same) (subst (λ (os : List Order). Contains os (Legal d)) (sym reads) (read_at (take n queue) d there.0 there.1 there.2));
+      holds = subst (λ (x : Command). Contains (orders_of m.text) (Legal x)) (sym same) (subst (λ (os : List Order). Contains os (Legal d)) (sym reads) (read_at _ d there.0 there.1 there.2));
     }
 
 pub still_grounded : (h p : Host) (d : Crossing) (log : List Crossing) (e : Entry) → Grounded h p log e
     → Grounded h p (d ∷ log) e
 still_grounded h p d log e g = record {
   refusing = g.refusing;
-  asked = λ m a is. (let i : IsAsked h p log e a = g.asked m a is in record { named = i.named; crossed = still_crossed going h p a (request e.own e.foreign i.named) d log i.crossed; link = i.link });
-  partner = λ m b is. (let i : IsAnswered h p log e b = g.partner m b is in record { named = i.named; crossed = still_crossed coming p h b (request e.foreign e.own i.named) d log i.crossed; link = i.link });
+  asked = λ m a is. (let i : IsAsked h p log e a = g.asked m a is in record { named = i.named; crossed = still_crossed going h p a _ d log i.crossed; link = i.link });
+  partner = λ m b is. (let i : IsAnswered h p log e b = g.partner m b is in record { named = i.named; crossed = still_crossed coming p h b _ d log i.crossed; link = i.link });
 }
 
 -- ---- one moment, by any rules
@@ -266,13 +266,13 @@ module _ (P : Entry → Type 0) (N : Notice → Type 0) (a b : Host) (rules : Ru
       → b ≡ m.flow.destination → Ends P b (program a moments)
       → Done P N b rules (offered (program a moments) (places moments))
   out_done m moments n ok may from to h =
-      offer_keeps P N b rules (program a moments) (places moments) n.peer n.parcel n.order n.next (sym (to ∙ ap (λ (x : HostMessage). x.flow.destination) n.message)) ok (may n.peer n.parcel from to n.next n.order n.message) h
+      offer_keeps P N b rules _ _ n.peer n.parcel n.order n.next (sym (to ∙ ap (λ (x : HostMessage). x.flow.destination) n.message)) ok (may n.peer n.parcel from to n.next n.order n.message) h
 
   pub out_ends : (m : HostMessage) (moments : List Moment)
       → (a ≡ m.flow.source → IsNext (program m.flow.source moments) m)
       → AreCommands (pair_with b (program a moments).peers).queue → MayOut m moments → Ends P b (program a moments)
       → Ends P b (program a (Crossed (crossing.Out m) ∷ moments))
-  out_ends m moments n ok may h = if_ends (same_host a m.flow.source) (offered (program a moments) (places moments)).0 (program a moments) here h where
+  out_ends m moments n ok may h = if_ends _ _ _ here h where
     here : same_host a m.flow.source ≡ true → Ends P b (offered (program a moments) (places moments)).0
     here e = by (same_host b m.flow.destination) refl where
       from : a ≡ m.flow.source
@@ -288,7 +288,7 @@ module _ (P : Entry → Type 0) (N : Notice → Type 0) (a b : Host) (rules : Ru
 
   pub in_ends : (m : HostMessage) (moments : List Moment) → MayIn m moments → Ends P b (program a moments)
       → Ends P b (program a (Crossed (crossing.In m) ∷ moments))
-  in_ends m moments may h = if_ends (same_host a m.flow.destination) (accepted (program a moments) (inbound.Message m) (places moments)).0 (program a moments) here h where
+  in_ends m moments may h = if_ends _ _ _ here h where
     here : same_host a m.flow.destination ≡ true
         → Ends P b (accepted (program a moments) (inbound.Message m) (places moments)).0
     here e = by (same_host b m.flow.source) refl where
@@ -296,18 +296,18 @@ module _ (P : Entry → Type 0) (N : Notice → Type 0) (a b : Host) (rules : Ru
           → Ends P b (accepted (program a moments) (inbound.Message m) (places moments)).0
       by true f =
           let from : b ≡ m.flow.source = same_host-true b m.flow.source f in
-          (message_keeps P N b rules (program a moments) m (places moments) (sym from) (may (same_host-true a m.flow.destination e) from) h).ends
-      by false f = subst (λ (q : PairState). Each P q.entries) (sym (message_leaves (program a moments) m (places moments) b f)) h
+          (message_keeps P N b rules _ m _ (sym from) (may (same_host-true a m.flow.destination e) from) h).ends
+      by false f = subst (λ (q : PairState). Each P q.entries) (sym (message_leaves _ m _ b f)) h
 
   answer_ends : (kind : Answer) (f : Flow) (moments : List Moment) → Ends P b (program a moments)
       → Ends P b (program a (Crossed (crossing.Answer kind f) ∷ moments))
-  answer_ends kind f moments h = if_ends (same_host a f.source) (accepted (program a moments) (inbound.Answer kind f) (places moments)).0 (program a moments) (λ e. here) h where
+  answer_ends kind f moments h = if_ends _ _ _ (λ e. here) h where
     here : Ends P b (accepted (program a moments) (inbound.Answer kind f) (places moments)).0
     here = by (same_host b f.destination) refl where
       by : (c : Bool) → same_host b f.destination ≡ c
           → Ends P b (accepted (program a moments) (inbound.Answer kind f) (places moments)).0
-      by true g = (answer_keeps P N b rules (program a moments) kind f (places moments) (sym (same_host-true b f.destination g)) h).ends
-      by false g = subst (λ (q : PairState). Each P q.entries) (sym (answer_leaves (program a moments) kind f (places moments) b g)) h
+      by true g = (answer_keeps P N b rules _ kind f _ (sym (same_host-true b f.destination g)) h).ends
+      by false g = subst (λ (q : PairState). Each P q.entries) (sym (answer_leaves _ kind f _ b g)) h
 
   abbrev pub May : Moment → List Moment → Type 0
   May (Crossed (crossing.Out m)) moments =
@@ -323,7 +323,7 @@ module _ (P : Entry → Type 0) (N : Notice → Type 0) (a b : Host) (rules : Ru
   step_ends begins (Crossed (crossing.Answer kind f)) moments ok may h = answer_ends kind f moments h
   step_ends begins (Crossed (crossing.Down g)) moments ok may h = if_ends (same_host a g) (opening_state a) (program a moments) (λ e. tt) h
   step_ends begins (Crossed (crossing.Up g)) moments ok may h = if_ends (same_host a g) (opening_state a) (program a moments) (λ e. tt) h
-  step_ends begins (Asked g r) moments ok may h = if_ends (same_host a g) (served (program a moments) r) (program a moments) (λ e. request_keeps P N b rules begins (program a moments) r h) h
+  step_ends begins (Asked g r) moments ok may h = if_ends _ _ _ (λ e. request_keeps P N b rules begins (program a moments) r h) h
 
 -- ---- all moments
 
@@ -349,19 +349,19 @@ module _ (hosts : Network) (addresses : HaveAddresses hosts.all) where
         → Goes (Going a b log (pair_with b (program a moments).peers).queue) (places moments) (take count (pair_with b (program a moments).peers).queue)
     goes_of m g count crossed to next order is =
         let there : g.host ≡ b = sym (to ∙ ap (λ (x : HostMessage). x.flow.destination) is) in
-        let same : pair_with b (program a moments).peers ≡ g.pair = subst (λ (y : Host). pair_with y (program a moments).peers ≡ g.pair) there (next_pair (program a moments).peers g (parcel.Commands count) order next) in
-        let back : IsReadBack g.pair (parcel.Commands count) = offer_read (program a moments) g (parcel.Commands count) (programs_ranged hosts moments (served_in hosts moments time) a ours.0) next in
+        let same : pair_with b (program a moments).peers ≡ g.pair = subst (λ (y : Host). pair_with y (program a moments).peers ≡ g.pair) there (next_pair _ g _ order next) in
+        let back : IsReadBack g.pair (parcel.Commands count) = offer_read _ g _ (programs_ranged hosts moments (served_in hosts moments time) a ours.0) next in
         let reads : orders_of m.text ≡ map Legal (take count (pair_with b (program a moments).peers).queue) =
         ap (λ (x : HostMessage). orders_of x.text) is ∙ back ∙ ap (λ (q : PairState). map Legal (take count q.queue)) (sym same) in
-        going_goes a b log m (places moments) count (pair_with b (program a moments).peers).queue
+        going_goes a b log m _ count _
         (flow_is m.flow a b (sym (ap (λ (x : HostMessage). x.flow.source) is ∙ program_own a moments)) to (ap (λ (x : HostMessage). x.flow.link.0) is)) crossed reads
 
     -- where the ends are so, they are so beside their requests that wait
     pub going_now : Ends (Grounded a b log) b (program a moments)
         → Ends (Going a b log (pair_with b (program a moments).peers).queue) b (program a moments)
     going_now h =
-        each_both (Grounded a b log) (λ (e : Entry). Contains (pair_with b (program a moments).peers).entries e) (Going a b log (pair_with b (program a moments).peers).queue) (pair_with b (program a moments).peers).entries
-        (λ e g there. (g, λ mine l waits. queued_link hosts moments addresses run time a b ours l e waits there mine)) h (each_of (pair_with b (program a moments).peers).entries)
+        each_both _ _ _ _
+        (λ e g there. (g, λ mine l waits. queued_link hosts moments addresses run time a b ours l e waits there mine)) h (each_of _)
 
     commands : AreCommands (pair_with b (program a moments).peers).queue
     commands = queued_commands hosts moments addresses run time a b ours
@@ -370,19 +370,19 @@ module _ (hosts : Network) (addresses : HaveAddresses hosts.all) where
         → CrossedAt (places moments) (going m) log → Ends (Grounded a b log) b (program a moments)
         → Ends (Grounded a b log) b (program a (Crossed (crossing.Out m) ∷ moments))
     out_grounds m n crossed h =
-        each_weaker (Going a b log (pair_with b (program a moments).peers).queue) (Grounded a b log) _ (λ e g. g.0)
-        (out_ends (Going a b log (pair_with b (program a moments).peers).queue) Nothing a b (quietly (Going a b log (pair_with b (program a moments).peers).queue) (Tells a b log) b (going_rules a b log (pair_with b (program a moments).peers).queue)) m moments (λ from. n (subst (λ (g : Host). hosts.strange g ≡ false) from ours.0)) commands may (going_now h)) where
-          may : MayOut (Going a b log (pair_with b (program a moments).peers).queue) Nothing a b (quietly (Going a b log (pair_with b (program a moments).peers).queue) (Tells a b log) b (going_rules a b log (pair_with b (program a moments).peers).queue)) m moments
+        each_weaker _ _ _ (λ e g. g.0)
+        (out_ends (Going a b log (pair_with b (program a moments).peers).queue) Nothing a b (quietly _ _ b (going_rules a b log _)) m moments (λ from. n (subst (λ (g : Host). hosts.strange g ≡ false) from ours.0)) commands may (going_now h)) where
+          may : MayOut (Going a b log (pair_with b (program a moments).peers).queue) Nothing a b (quietly _ _ b (going_rules a b log _)) m moments
           may g parcel.Reset from to next order is = tt
           may g parcel.Reply from to next order is = tt
           may g (parcel.Commands count) from to next order is = goes_of m g count crossed to next order is
-          may g (parcel.Bytes e size count) from to next order is = tt
+          may g _ from to next order is = tt
 
     in_grounds : (m : HostMessage) → CrossedAt (places moments) (coming m) log
         → Ends (Grounded a b log) b (program a moments)
         → Ends (Grounded a b log) b (program a (Crossed (crossing.In m) ∷ moments))
     in_grounds m crossed h =
-        in_ends (Grounded a b log) Nothing a b (quietly (Grounded a b log) (Tells a b log) b (grounded_rules a b log)) m moments
+        in_ends (Grounded a b log) Nothing a b (quietly _ _ b (grounded_rules a b log)) m moments
         (λ to from. ((λ zero. grounded_hears a b log m (places moments) (flow_is m.flow b a from to (eqb-true m.flow.link.0 0 zero)) crossed), (λ off e k f o t. tt))) h
 
   pub grounds : (moments : List Moment) → mail.IsRun hosts.all (crossings_of moments) → Happened hosts moments

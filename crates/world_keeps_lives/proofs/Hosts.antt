@@ -125,8 +125,8 @@ module _ (a : Host) (k : ℕ) where
       | inl f ↦
           (let on : At a k Near p (mine_on k (pair_with p s.peers).entries) (listens_on k s.listening) κ = subst (λ (ms : List Entry). At a k Near p ms (listens_on k s.listening) κ) (sym (f.none p)) f.lives in
           let d : Done Near p q (listens_on k new.listening) next = does Near (old Near h.steady on) in
-          record { steady = lifted Near d h.steady; socket = near (λ g is. f.none g) (mine_on k q.entries) (listens_on k new.listening) refl refl d.on })
-      | inr o ↦ owned_by o (same_host p o.peer) refl
+          record { steady = lifted Near d h.steady; socket = near (λ g is. f.none g) _ _ refl refl d.on })
+      | inr o ↦ owned_by o _ refl
     ] where
       owned_by : (o : IsOwned a k s κ) → (b : Bool) → same_host p o.peer ≡ b → Holds new next
       owned_by o true e =
@@ -134,14 +134,14 @@ module _ (a : Host) (k : ℕ) where
           let d : Done Near p q (listens_on k new.listening) next = does Near (old Near h.steady (owned_here o same)) in
           record {
             steady = lifted Near d h.steady;
-            socket = near (λ g is. o.others g (subst (λ (x : Host). same_host g x ≡ false) same is)) (mine_on k q.entries) (listens_on k new.listening) refl refl d.on;
+            socket = near (λ g is. o.others g (subst (λ (x : Host). same_host g x ≡ false) same is)) _ _ refl refl d.on;
           }
       owned_by o false e =
           let on : At a k (Elsewhere o.peer o.end) p (mine_on k (pair_with p s.peers).entries) (listens_on k s.listening) κ =
           subst (λ (ms : List Entry). At a k (Elsewhere o.peer o.end) p ms (listens_on k s.listening) κ) (sym (o.others p e))
           (subst (λ (l : Bool). At a k (Elsewhere o.peer o.end) p [] l κ) (sym o.silent) o.lives) in
-          let d : Done (Elsewhere o.peer o.end) p q (listens_on k new.listening) next = does (Elsewhere o.peer o.end) (old (Elsewhere o.peer o.end) h.steady on) in
-          record { steady = lifted (Elsewhere o.peer o.end) d h.steady; socket = far o (same_turned p o.peer e) (mine_on k q.entries) (listens_on k new.listening) refl refl d.on }
+          let d : Done (Elsewhere o.peer o.end) p q (listens_on k new.listening) next = does _ (old (Elsewhere o.peer o.end) h.steady on) in
+          record { steady = lifted _ d h.steady; socket = far o (same_turned p o.peer e) _ _ refl refl d.on }
 
   -- ---- what comes in
 
@@ -212,7 +212,7 @@ module _ (a : Host) (k : ℕ) (s : NcpState) (stamp : ℕ) (κ : Kept) (g : Peer
   goes origin parcel.Reply m may next is has d = record { refusing = d.refusing; idle = d.idle; on = d.on }
   goes origin (parcel.Commands count) m may next is has d =
       let done : G a k m g.host κ (commands_gone g.host stamp (take count g.pair.queue) (desk_of g.pair s.listening)) =
-      all_go a k m g.host κ origin stamp (take count g.pair.queue) (drop count g.pair.queue) (desk_of g.pair s.listening) (some_commands count g.pair.queue is) (waits origin g.pair count has) (record { refusing = d.refusing; on = d.on }) in
+      all_go a k m g.host κ origin stamp _ (drop count g.pair.queue) _ (some_commands count g.pair.queue is) (waits origin g.pair count has) (record { refusing = d.refusing; on = d.on }) in
       let still : (commands_gone g.host stamp (take count g.pair.queue) (desk_of g.pair s.listening)).listening ≡ s.listening = all_listening g.host stamp (take count g.pair.queue) (desk_of g.pair s.listening) in
       record {
         refusing = done.refusing;
@@ -221,7 +221,7 @@ module _ (a : Host) (k : ℕ) (s : NcpState) (stamp : ℕ) (κ : Kept) (g : Peer
       }
   goes origin (parcel.Bytes e size count) m may next is has d =
       let done : G a k m g.host κ (parcel_gone g.host stamp g.pair.busy (parcel.Bytes e size count) (desk_of g.pair s.listening)) =
-      good_bytes a k m g.host κ g.pair.busy (link_of e.link) (size * count) e (desk_of g.pair s.listening) (senders.next_is g.pair e size count next) may.1.is_opened may.1.sends (record { refusing = d.refusing; on = d.on }) in
+      good_bytes a k m g.host κ g.pair.busy _ _ e (desk_of g.pair s.listening) (senders.next_is g.pair e size count next) may.1.is_opened may.1.sends (record { refusing = d.refusing; on = d.on }) in
       record { refusing = done.refusing; idle = λ i. clash _ (is_ready g.pair.phase) (ap is_ready may.0.ready) i; on = done.on }
 
 pub offer_holds : (a : Host) (k : ℕ) (s : NcpState) (stamp : ℕ) (κ : Kept) → AreInOrder s.peers

@@ -82,7 +82,7 @@ module _ (hosts : Network) (moments : List Moment) (addresses : HaveAddresses ho
 
   safe : (x : Life) → hosts.strange x.host ≡ false → Contains (mixed_kept hosts.strange moments).book.lives x
       → (t : List Bool) × IsSafe x t
-  safe x plain there = safe_life (program x.host moments) (mixed_kept hosts.strange moments) x there (holds x.host plain x.socket)
+  safe x plain there = safe_life _ _ x there (holds x.host plain x.socket)
 
   pub taken : (receiver : Life) → hosts.strange receiver.host ≡ false
       → Contains (mixed_kept hosts.strange moments).book.lives receiver → receives receiver ≡ true
@@ -95,10 +95,10 @@ module _ (hosts : Network) (moments : List Moment) (addresses : HaveAddresses ho
 
   pub live : (x : Life) → hosts.strange x.host ≡ false → Contains (mixed_kept hosts.strange moments).book.lives x
       → x.ended ≡ false → HasOpenEnd (program x.host moments) x
-  live x plain there goes = live_end (program x.host moments) (mixed_kept hosts.strange moments) x there goes (holds x.host plain x.socket)
+  live x plain there goes = live_end _ _ x there goes (holds x.host plain x.socket)
 
   any : (a : Host) → hosts.strange a ≡ false → (k : ℕ) → EachIn a k Any (mixed_kept hosts.strange moments)
-  any a plain k = any_life a k (program a moments) (mixed_kept hosts.strange moments) (holds a plain k)
+  any a plain k = any_life a k _ _ (holds a plain k)
 
   pub handed : AreHanded (mixed_kept hosts.strange moments).book.lives (mixed_kept hosts.strange moments).handed
-  handed = all_handed hosts.strange (mixed_kept hosts.strange moments).book.lives (mixed_kept hosts.strange moments).handed (all_owned hosts.strange moments) any
+  handed = all_handed hosts.strange _ _ (all_owned hosts.strange moments) any

@@ -28,26 +28,26 @@ module _ (a : Host) (k : ℕ) where
 
   -- all lives of a host end with it
   down_lives : (P : Life → List Bool → Type 0) (κ : Kept) → EachIn a k P κ → EachIn a k NoneOf (crossed (crossing.Down a) κ)
-  down_lives P κ e = each_ended a k (lives_on a) P NoneOf κ.book.lives κ.handed (λ x t there goes i. all x there goes) e where
+  down_lives P κ e = each_ended a k _ P NoneOf κ.book.lives κ.handed (λ x t there goes i. all x there goes) e where
     all : (x : Life) → at_socket a k x ≡ true → x.ended ≡ false → lives_on a x ≡ true
     all x there goes = let host : same_host a x.host ≡ true = (both (same_host a x.host) (x.socket == k) there).0 in rw (host, goes) refl
 
   pub ended_holds : (s : NcpState) (κ : Kept) → Holds a k s κ → Holds a k (opening_state a) (crossed (crossing.Down a) κ)
   ended_holds s κ h = elim h.socket [
-    | inl f ↦ opening_holds (crossed (crossing.Down a) κ) (down_lives NoneOf κ f.lives)
-    | inr o ↦ opening_holds (crossed (crossing.Down a) κ) (down_lives (IsLifeOf o.peer o.end) κ o.lives)
+    | inl f ↦ opening_holds _ (down_lives NoneOf κ f.lives)
+    | inr o ↦ opening_holds _ (down_lives _ κ o.lives)
   ]
 
   -- what another host's user asks for
   pub asked_away : (h : Host) (r : Request) (κ : Kept) → same_host h a ≡ false → (P : Life → List Bool → Type 0) → EachIn a k P κ → EachIn a k P (asked h r κ)
   asked_away h (request.Send socket bits) κ off P e =
-      each_handed a k (lives_at h socket) bits P P κ.book.lives κ.handed (λ x t there on o. absurd (away_at a k h socket x off there on)) (λ x t there out o. o) e
-  asked_away h (request.Grant socket messages bits) κ off P e = each_apart a k (lives_at h socket) (granted messages bits) P κ.book.lives κ.handed (λ x. refl) (λ x. away_at a k h socket x off) e
+      each_handed a k _ bits P P κ.book.lives κ.handed (λ x t there on o. absurd (away_at a k h socket x off there on)) (λ x t there out o. o) e
+  asked_away h (request.Grant socket messages bits) κ off P e = each_apart a k _ _ P κ.book.lives κ.handed (λ x. refl) (λ x. away_at a k h socket x off) e
   asked_away h r κ off P e = e
 
   -- another host
   away : (h : Host) (ns : List Notice) (s : NcpState) (κ next : Kept) → same_host a h ≡ false → ((P : Life → List Bool → Type 0) → EachIn a k P κ → EachIn a k P next) → Holds a k s κ → Holds a k s (all_told h ns next)
-  away h ns s κ next off w e = holds_same a k s κ (all_told h ns next) (λ P i. all_away a k P h ns next (turned (same_host h a) refl) (w P i)) e where
+  away h ns s κ next off w e = holds_same a k s κ _ (λ P i. all_away a k P h ns next (turned _ refl) (w P i)) e where
     turned : (b : Bool) → same_host h a ≡ b → b ≡ false
     turned true f = clash (true ≡ false) (same_host a h) (subst (λ (g : Host). same_host g h ≡ true) (same_host-true h a f) (same_host-refl h)) off
     turned false f = refl
@@ -62,4 +62,4 @@ module _ (a : Host) (k : ℕ) where
 
   -- what crosses is added
   pub crossed_holds : (s : NcpState) (c : Crossing) (κ : Kept) → ((P : Life → List Bool → Type 0) → EachIn a k P κ → EachIn a k P (crossed c κ)) → Holds a k s κ → Holds a k s (crossed c κ)
-  crossed_holds s c κ w h = holds_same a k s κ (crossed c κ) w h
+  crossed_holds s c κ w h = holds_same a k s κ _ w h

@@ -34,17 +34,17 @@ if_some n k false e = absurd (let none : None ≡ Some k = e in cc)
 
 pub named_is : (own foreign k : ℕ) (c : Command) → named_by own foreign c ≡ Some k → c ≡ request own foreign k
 named_is own foreign k (command.Rts a b n) e =
-    let i : ((is_receive_socket own && own == a && foreign == b) ≡ true) × (n ≡ k) = if_some n k (is_receive_socket own && own == a && foreign == b) e in
+    let i : ((is_receive_socket own && own == a && foreign == b) ≡ true) × (n ≡ k) = if_some n k _ e in
     let two : ((is_receive_socket own && own == a) ≡ true) × ((foreign == b) ≡ true) = both (is_receive_socket own && own == a) (foreign == b) i.0 in
     let one : (is_receive_socket own ≡ true) × ((own == a) ≡ true) = both (is_receive_socket own) (own == a) two.0 in
     ap (λ (x : ℕ). command.Rts x b n) (sym (eqb-true own a one.1)) ∙ ap (λ (x : ℕ). command.Rts own x n) (sym (eqb-true foreign b two.1)) ∙ ap (λ (x : ℕ). command.Rts own foreign x) i.1
     ∙ ap (λ (v : Bool). if v then command.Rts own foreign k else command.Str own foreign k) (sym one.0)
 named_is own foreign k (command.Str a b n) e =
-    let i : ((not (is_receive_socket own) && own == a && foreign == b) ≡ true) × (n ≡ k) = if_some n k (not (is_receive_socket own) && own == a && foreign == b) e in
+    let i : ((not (is_receive_socket own) && own == a && foreign == b) ≡ true) × (n ≡ k) = if_some n k _ e in
     let two : ((not (is_receive_socket own) && own == a) ≡ true) × ((foreign == b) ≡ true) = both (not (is_receive_socket own) && own == a) (foreign == b) i.0 in
     let one : (not (is_receive_socket own) ≡ true) × ((own == a) ≡ true) = both (not (is_receive_socket own)) (own == a) two.0 in
     ap (λ (x : ℕ). command.Str x b n) (sym (eqb-true own a one.1)) ∙ ap (λ (x : ℕ). command.Str own x n) (sym (eqb-true foreign b two.1)) ∙ ap (λ (x : ℕ). command.Str own foreign x) i.1
-    ∙ ap (λ (v : Bool). if v then command.Rts own foreign k else command.Str own foreign k) (sym (not_true (is_receive_socket own) one.0))
+    ∙ ap (λ (v : Bool). if v then command.Rts own foreign k else command.Str own foreign k) (sym (not_true _ one.0))
 named_is own foreign k c e = absurd (let none : None ≡ Some k = e in cc)
 
 -- ---- a text
@@ -56,12 +56,12 @@ pub record Names (own foreign : ℕ) (orders : List Order) : Type 0 where
   pub there : Contains orders (Legal (request own foreign named))
 
 later_names : (own foreign : ℕ) (o : Order) (orders : List Order) → named_in own foreign (o ∷ orders) ≡ named_in own foreign orders → Names own foreign orders → Names own foreign (o ∷ orders)
-later_names own foreign o orders e n = record { named = n.named; is = e ∙ n.is; there = contains_tail o orders (Legal (request own foreign n.named)) n.there }
+later_names own foreign o orders e n = record { named = n.named; is = e ∙ n.is; there = contains_tail o orders _ n.there }
 
 names_at : (own foreign n : ℕ) (orders : List Order) (i : ℕ) → i < length orders → slice_index_or orders i (Legal (request own foreign n)) ≡ Legal (request own foreign n) → Names own foreign orders
 names_at own foreign n [] i less is = absurd (omega (arith, less))
 names_at own foreign n (Wrong code octets ∷ orders) zero less is = absurd (cc)
-names_at own foreign n (Wrong code octets ∷ orders) (suc i) less is = later_names own foreign (Wrong code octets) orders refl (names_at own foreign n orders i (omega (arith, less)) is)
+names_at own foreign n (Wrong code octets ∷ orders) (suc i) less is = later_names own foreign _ orders refl (names_at own foreign n orders i (omega (arith, less)) is)
 names_at own foreign n (Legal c ∷ orders) zero less is =
     let same : c ≡ request own foreign n = cc in
     record {
@@ -98,7 +98,7 @@ named_there comes from to own foreign place m [] flow i = absurd i
 named_there comes from to own foreign place m (c ∷ log) flow (inl i) =
     let here : (place == length log) ≡ true = eq-eqb place (length log) i.1 in
     ap (λ (v : Bool). if v then named_of own foreign (text_of comes (control_flow from to) c) else named_at comes from to own foreign place log) here
-    ∙ ap (λ (d : Crossing). named_of own foreign (text_of comes (control_flow from to) d)) (sym i.0) ∙ ap (named_of own foreign) (text_here comes (control_flow from to) m flow)
+    ∙ ap (λ (d : Crossing). named_of own foreign (text_of comes (control_flow from to) d)) (sym i.0) ∙ ap (named_of own foreign) (text_here comes _ m flow)
 named_there comes from to own foreign place m (c ∷ log) flow (inr i) =
     ap (λ (v : Bool). if v then named_of own foreign (text_of comes (control_flow from to) c) else named_at comes from to own foreign place log) before
     ∙ named_there comes from to own foreign place m log flow i where
@@ -106,7 +106,7 @@ named_there comes from to own foreign place m (c ∷ log) flow (inr i) =
       before = by (place == length log) refl where
         by : (v : Bool) → (place == length log) ≡ v → v ≡ false
         by false e = refl
-        by true e = absurd (let less : place < length log = crossed_below place (way_of comes m) log i in let same : place ≡ length log = eqb-true place (length log) e in omega (arith, less, same))
+        by true e = absurd (let less : place < length log = crossed_below place _ log i in let same : place ≡ length log = eqb-true place (length log) e in omega (arith, less, same))
 
 -- a message crossed at a place, and the first request of two sockets in it names this
 pub record NamedAt (comes : Bool) (from to : Host) (own foreign place n : ℕ) (log : List Crossing) : Type 0 where
@@ -130,8 +130,8 @@ pub none_some : {A : Type 0} (n : ℕ) → None ≡ Some n → A
 none_some n e = absurd (let none : None ≡ Some n = e in cc)
 
 has_text : (comes : Bool) (f : Flow) (own foreign n : ℕ) (c : Crossing) → named_of own foreign (text_of comes f c) ≡ Some n → HasText comes f own foreign n c
-has_text true f own foreign n (crossing.In m) k = if_text true f own foreign n m (same_flow f m.flow) refl k
-has_text false f own foreign n (crossing.Out m) k = if_text false f own foreign n m (same_flow f m.flow) refl k
+has_text true f own foreign n (crossing.In m) k = if_text true f own foreign n m _ refl k
+has_text false f own foreign n (crossing.Out m) k = if_text false f own foreign n m _ refl k
 has_text false f own foreign n (crossing.In m) k = none_some n k
 has_text true f own foreign n (crossing.Out m) k = none_some n k
 has_text true f own foreign n (crossing.Answer kind g) k = none_some n k
@@ -147,7 +147,7 @@ found_at comes from to own foreign place n (c ∷ log) k = by (place == length l
   by : (v : Bool) → (place == length log) ≡ v → (if v then named_of own foreign (text_of comes (control_flow from to) c) else named_at comes from to own foreign place log) ≡ Some n
       → (named_at comes from to own foreign place log ≡ Some n → NamedAt comes from to own foreign place n log) → NamedAt comes from to own foreign place n (c ∷ log)
   by true e h rest =
-      let t : HasText comes (control_flow from to) own foreign n c = has_text comes (control_flow from to) own foreign n c h in
+      let t : HasText comes (control_flow from to) own foreign n c = has_text comes _ own foreign n c h in
       record { message = t.message; flow = t.flow; crossed = inl (sym t.same, eqb-true place (length log) e); named = t.named }
   by false e h rest = let r : NamedAt comes from to own foreign place n log = rest h in record { message = r.message; flow = r.flow; crossed = inr r.crossed; named = r.named }
 

@@ -33,7 +33,7 @@ taken_of n cs c there = subst (λ (l : List Command). Contains l c) (take-append
 
 none_of : (own foreign l : ℕ) (c : Command) → (c ≡ command.Rts own foreign l → ⊥)
     → Contains (c ∷ []) (command.Rts own foreign l) → ⊥
-none_of own foreign l c other there = each_in (λ (d : Command). d ≡ command.Rts own foreign l → ⊥) (c ∷ []) (command.Rts own foreign l) there (other, tt) refl
+none_of own foreign l c other there = each_in (λ (d : Command). d ≡ command.Rts own foreign l → ⊥) (c ∷ []) _ there (other, tt) refl
 
 -- ---- where it goes out
 
@@ -45,32 +45,32 @@ module _ (hosts : Network) (addresses : HaveAddresses hosts.all) where
     peers = (ours.0, subst (λ (g : Host). hosts.strange g ≡ false) (ap (λ (x : HostMessage). x.flow.destination) n.message) ours.1)
 
     same : pair_with n.peer.host (program m.flow.source moments).peers ≡ n.peer.pair
-    same = next_pair (program m.flow.source moments).peers n.peer n.parcel n.order n.next
+    same = next_pair _ n.peer n.parcel n.order n.next
 
     by : (z : Parcel) → n.parcel ≡ z → IsReadBack n.peer.pair z
         → m ≡ message_for (program m.flow.source moments).own n.peer z → next_of n.peer.pair ≡ Some z → NamesOnce m.text
     by parcel.Reset e back is next own foreign l k one other =
         absurd (none_of own foreign l command.Rst (λ f. (let d : command.Rst ≡ command.Rts own foreign l = f in absurd (cc)))
-        (read_back (command.Rst ∷ []) (command.Rts own foreign l) (subst (λ (os : List Order). Contains os (Legal (command.Rts own foreign l))) (ap (λ (x : HostMessage). orders_of x.text) is ∙ back) one)))
+        (read_back (command.Rst ∷ []) _ (subst (λ (os : List Order). Contains os (Legal (command.Rts own foreign l))) (ap (λ (x : HostMessage). orders_of x.text) is ∙ back) one)))
     by parcel.Reply e back is next own foreign l k one other =
         absurd (none_of own foreign l command.Rrp (λ f. (let d : command.Rrp ≡ command.Rts own foreign l = f in absurd (cc)))
-        (read_back (command.Rrp ∷ []) (command.Rts own foreign l) (subst (λ (os : List Order). Contains os (Legal (command.Rts own foreign l))) (ap (λ (x : HostMessage). orders_of x.text) is ∙ back) one)))
+        (read_back (command.Rrp ∷ []) _ (subst (λ (os : List Order). Contains os (Legal (command.Rts own foreign l))) (ap (λ (x : HostMessage). orders_of x.text) is ∙ back) one)))
     by (parcel.Commands count) e back is next own foreign l k one other = queued_once hosts moments addresses run time m.flow.source n.peer.host peers own foreign l k (waits l one) (waits k other) where
       waits : (j : ℕ) → Contains (orders_of m.text) (Legal (command.Rts own foreign j))
           → Contains (pair_with n.peer.host (program m.flow.source moments).peers).queue (command.Rts own foreign j)
       waits j there =
           subst (λ (q : PairState). Contains q.queue (command.Rts own foreign j)) (sym same)
-          (taken_of count n.peer.pair.queue (command.Rts own foreign j)
-          (read_back (take count n.peer.pair.queue) (command.Rts own foreign j) (subst (λ (os : List Order). Contains os (Legal (command.Rts own foreign j))) (ap (λ (x : HostMessage). orders_of x.text) is ∙ back) there)))
+          (taken_of count n.peer.pair.queue _
+          (read_back _ _ (subst (λ (os : List Order). Contains os (Legal (command.Rts own foreign j))) (ap (λ (x : HostMessage). orders_of x.text) is ∙ back) there)))
     by (parcel.Bytes d size count) e back is next own foreign l k one other =
-        let may : MayGo n.peer.pair (parcel.Bytes d size count) = what_goes n.peer.pair (parcel.Bytes d size count) next in
+        let may : MayGo n.peer.pair (parcel.Bytes d size count) = what_goes n.peer.pair _ next in
         let agrees : Agrees n.peer.pair (pair m.flow.source n.peer.host (events_of moments)) = subst (λ (q : PairState). Agrees q (pair m.flow.source n.peer.host (events_of moments))) same (story_agrees hosts moments m.flow.source n.peer.host peers story) in
         let away : (link_of d.link == 0) ≡ false = data_away n.peer.pair d size count agrees.linked may.1.linked next in
-        no (m.flow.link.0 == 0) zero_link (ap (λ (x : HostMessage). x.flow.link.0 == 0) is ∙ away)
+        no _ zero_link (ap (λ (x : HostMessage). x.flow.link.0 == 0) is ∙ away)
 
     pub said_once : NamesOnce m.text
     said_once =
-        by n.parcel refl (offer_read (program m.flow.source moments) n.peer n.parcel (programs_ranged hosts moments (served_in hosts moments time) m.flow.source ours.0) n.next) n.message
+        by n.parcel refl (offer_read _ n.peer n.parcel (programs_ranged hosts moments (served_in hosts moments time) m.flow.source ours.0) n.next) n.message
         (next_is n.peer n.parcel (program m.flow.source moments).peers n.next)
 
   pub out_once : (moments : List Moment) → mail.IsRun hosts.all (crossings_of moments) → Happened hosts moments
@@ -80,7 +80,7 @@ module _ (hosts : Network) (addresses : HaveAddresses hosts.all) where
   out_once (Asked h r ∷ moments) run time m ours place i zero_link =
       out_once moments run time.1 m ours place i zero_link
   out_once (Crossed c ∷ moments) run time m ours place (inl i) zero_link =
-      let k : Coupled hosts (Crossed c ∷ moments) = coupled hosts addresses (Crossed c ∷ moments) run time in
+      let k : Coupled hosts (Crossed c ∷ moments) = coupled hosts addresses _ run time in
       said_once moments run.1 time.1 k.story.1 m ours (next_by c k.story (sym i.0)) zero_link where
         next_by : (c : Crossing) → IsStory hosts (Crossed c ∷ moments) → c ≡ crossing.Out m
             → IsNext (program m.flow.source moments) m
@@ -115,11 +115,11 @@ waits_out f p text (crossing.Out m ∷ log) is = by (same_flow f m.flow) refl is
       → (if v then mail.Waiting (length log) m.text else mail.box_of f log) ≡ mail.Waiting p text
       → (mail.box_of f log ≡ mail.Waiting p text → WentOut f text log) → WentOut f text (crossing.Out m ∷ log)
   by true e w rest = record { message = m; place = length log; crossed = inl (refl, refl); flow = sym (same_flow-true f m.flow e); same = ap text_in w }
-  by false e w rest = more_out f text (crossing.Out m) log (rest w)
-waits_out f p text (crossing.In m ∷ log) is = more_out f text (crossing.In m) log (waits_out f p text log (fetched_waits (mail.box_of f log) p text (same_flow f m.flow) is))
-waits_out f p text (crossing.Answer kind g ∷ log) is = more_out f text (crossing.Answer kind g) log (waits_out f p text log (cleared_waits (mail.box_of f log) p text (same_flow f g) is))
-waits_out f p text (crossing.Down h ∷ log) is = more_out f text (crossing.Down h) log (waits_out f p text log is)
-waits_out f p text (crossing.Up h ∷ log) is = more_out f text (crossing.Up h) log (waits_out f p text log (cleared_waits (mail.box_of f log) p text (same_host f.source h) is))
+  by false e w rest = more_out f text _ log (rest w)
+waits_out f p text (crossing.In m ∷ log) is = more_out f text _ log (waits_out f p text log (fetched_waits (mail.box_of f log) p text _ is))
+waits_out f p text (crossing.Answer kind g ∷ log) is = more_out f text _ log (waits_out f p text log (cleared_waits _ p text _ is))
+waits_out f p text (crossing.Down h ∷ log) is = more_out f text _ log (waits_out f p text log is)
+waits_out f p text (crossing.Up h ∷ log) is = more_out f text _ log (waits_out f p text log (cleared_waits _ p text _ is))
 
 waiting : (f : Flow) (text : List Bool) (log : List Crossing) → mail.WaitsWith (mail.box_of f log) text
     → WentOut f text log
@@ -127,7 +127,7 @@ waiting f text log w = by (mail.box_of f log) refl w where
   by : (b : mail.Box) → mail.box_of f log ≡ b → mail.WaitsWith b text → WentOut f text log
   by mail.Empty e k = absurd k
   by (mail.Waiting p kept) e k = waits_out f p text log (e ∙ ap (λ (t : List Bool). mail.Waiting p t) k)
-  by (mail.Taken p kept) e k = absurd k
+  by _ e k = absurd k
 
 -- what came in had gone out
 came_out : (hosts : List Host) (log : List Crossing) → mail.IsRun hosts log → (m : HostMessage) (place : ℕ)
@@ -137,7 +137,7 @@ came_out hosts (c ∷ log) run m place (inl i) = by c (sym i.0) run where
   by : (d : Crossing) → d ≡ crossing.In m → mail.IsRun hosts (d ∷ log) → WentOut m.flow m.text (d ∷ log)
   by d e r =
       subst (λ (x : Crossing). WentOut m.flow m.text (x ∷ log)) (sym e)
-      (more_out m.flow m.text (crossing.In m) log (waiting m.flow m.text log (subst (λ (x : Crossing). mail.IsRun hosts (x ∷ log)) e r).0.1))
+      (more_out m.flow m.text _ log (waiting m.flow m.text log (subst (λ (x : Crossing). mail.IsRun hosts (x ∷ log)) e r).0.1))
 came_out hosts (c ∷ log) run m place (inr i) = more_out m.flow m.text c log (came_out hosts log run.1 m place i)
 
 pub in_once : (hosts : Network) → HaveAddresses hosts.all → (moments : List Moment)
@@ -145,5 +145,5 @@ pub in_once : (hosts : Network) → HaveAddresses hosts.all → (moments : List 
     → AreOurs hosts m.flow.source m.flow.destination → (place : ℕ) → CrossedAt place (coming m) (crossings_of moments)
     → (m.flow.link.0 == 0) ≡ true → NamesOnce m.text
 in_once hosts addresses moments run time m ours place i zero_link =
-    let w : WentOut m.flow m.text (crossings_of moments) = came_out hosts.all (crossings_of moments) run m place i in
+    let w : WentOut m.flow m.text (crossings_of moments) = came_out hosts.all _ run m place i in
     subst NamesOnce w.same (out_once hosts addresses moments run time w.message (subst (λ (f : Flow). AreOurs hosts f.source f.destination) (sym w.flow) ours) w.place w.crossed (ap (λ (f : Flow). f.link.0 == 0) w.flow ∙ zero_link))

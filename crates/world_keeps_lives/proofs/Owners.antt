@@ -34,9 +34,9 @@ found_above k n (p ∷ ps) g e s f = by (found_above k (address_octet p.host) ps
       let end : x ≡ e = ap (end_or x) r in
       let here : find (is_mine_on k) (pair_with p.host (p ∷ ps)).entries ≡ Some x = rw (same_host-refl p.host) t in
       subst (λ (h : Host). find (is_mine_on k) (pair_with h (p ∷ ps)).entries ≡ Some e) host (here ∙ ap (λ (y : Entry). Some y) end)
-  by rest None t f = away (same_host g p.host) refl where
+  by rest None t f = away _ refl where
     away : (b : Bool) → same_host g p.host ≡ b → find (is_mine_on k) (pair_with g (p ∷ ps)).entries ≡ Some e
-    away true same = absurd (omega (arith, above k (address_octet p.host) ps g e s.2 (rw t at f), same_octet g p.host same))
+    away true same = absurd (omega (arith, above k _ ps g e s.2 (rw t at f), same_octet g p.host same))
     away false off = rw off (rest (rw t at f))
 
 pub owner_found : (k : ℕ) (ps : List Peer) (g : Host) (e : Entry) → AreInOrder ps → owner_of k ps ≡ Some (g, e) → find (is_mine_on k) (pair_with g ps).entries ≡ Some e
@@ -56,7 +56,7 @@ unowned k [] h f = refl
 unowned k (p ∷ ps) h f = by (unowned k ps h) (find (is_mine_on k) p.pair.entries) refl f where
   by : (is_some (owner_of k ps) ≡ false → mine_on k (pair_with h ps).entries ≡ []) → (o : Option Entry) → find (is_mine_on k) p.pair.entries ≡ o → is_some (owner_of k (p ∷ ps)) ≡ false → mine_on k (pair_with h (p ∷ ps)).entries ≡ []
   by rest (Some x) t f = absurd (let r : true ≡ false = rw t at f in cc)
-  by rest None t f = at (same_host h p.host) refl where
+  by rest None t f = at _ refl where
     at : (b : Bool) → same_host h p.host ≡ b → mine_on k (pair_with h (p ∷ ps)).entries ≡ []
     at true e = rw e (none_mine k p.pair.entries t)
     at false e = rw e (rest (rw t at f))
@@ -65,7 +65,7 @@ unowned k (p ∷ ps) h f = by (unowned k ps h) (find (is_mine_on k) p.pair.entri
 pub unused : (a : Host) (k : ℕ) (s : NcpState) (κ : Kept) → is_used s k ≡ false → IsOwned a k s κ → ⊥
 unused a k s κ off o = by (is_some (owner_of k s.peers)) refl where
   by : (b : Bool) → is_some (owner_of k s.peers) ≡ b → ⊥
-  by true e = clash ⊥ (listens_on k s.listening || true) (or_true (listens_on k s.listening)) (subst (λ (b : Bool). (listens_on k s.listening || b) ≡ false) e off) where
+  by true e = clash ⊥ _ (or_true _) (subst (λ (b : Bool). (listens_on k s.listening || b) ≡ false) e off) where
     or_true : (b : Bool) → (b || true) ≡ true
     or_true true = refl
     or_true false = refl

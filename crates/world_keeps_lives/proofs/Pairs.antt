@@ -142,16 +142,16 @@ going_then x y goes host peer socket foreign stamp front = record {
 }
 
 ending_then : (x : Life) → x.ended ≡ false → Next x (life_ended x)
-ending_then x goes = going_then x (life_ended x) goes refl refl refl refl refl ([], append-nil x.bits)
+ending_then x goes = going_then x _ goes refl refl refl refl refl ([], append-nil x.bits)
 
 carried_then : (bits : List Bool) (x : Life) → x.ended ≡ false → Next x (carried bits x)
-carried_then bits x goes = going_then x (carried bits x) goes refl refl refl refl refl (bits, refl)
+carried_then bits x goes = going_then x _ goes refl refl refl refl refl (bits, refl)
 
 granted_then : (m n : ℕ) (x : Life) → x.ended ≡ false → Next x (granted m n x)
-granted_then m n x goes = going_then x (granted m n x) goes refl refl refl refl refl ([], append-nil x.bits)
+granted_then m n x goes = going_then x _ goes refl refl refl refl refl ([], append-nil x.bits)
 
 returned_then : (m n : ℕ) (x : Life) → x.ended ≡ false → Next x (returned m n x)
-returned_then m n x goes = going_then x (returned m n x) goes refl refl refl refl refl ([], append-nil x.bits)
+returned_then m n x goes = going_then x _ goes refl refl refl refl refl ([], append-nil x.bits)
 
 -- ---- each test is passed only by lives that aren't over
 
@@ -159,7 +159,7 @@ pub not_both : (b c : Bool) → (b && not c) ≡ true → c ≡ false
 not_both b c t = not_is c (both b (not c) t).1
 
 pub goes_at : (h : Host) (socket : ℕ) (x : Life) → lives_at h socket x ≡ true → x.ended ≡ false
-goes_at h socket x t = not_both (same_host h x.host && x.socket == socket) x.ended t
+goes_at h socket x t = not_both _ x.ended t
 
 goes_between : (h : Host) (socket : ℕ) (p : Host) (foreign : ℕ) (x : Life) → lives_between h socket p foreign x ≡ true
     → x.ended ≡ false
@@ -169,10 +169,10 @@ goes_between h socket p foreign x t =
     (both (lives_at h socket x && same_host p x.peer) (x.foreign == foreign) t).0).0
 
 pub goes_with : (h p : Host) (x : Life) → lives_with h p x ≡ true → x.ended ≡ false
-goes_with h p x t = not_both (same_host h x.host && same_host p x.peer) x.ended t
+goes_with h p x t = not_both _ x.ended t
 
 pub goes_on : (h : Host) (x : Life) → lives_on h x ≡ true → x.ended ≡ false
-goes_on h x t = not_both (same_host h x.host) x.ended t
+goes_on h x t = not_both _ x.ended t
 
 -- ---- both lists later
 
@@ -214,16 +214,16 @@ told_later : (h : Host) (n : Notice) (x : Life) (t : List Bool) (lives : List Li
 told_later h (notice.Opened socket peer foreign own partner) x t lives handed i =
     as_is x t _ _ (pair_more x t lives handed _ _ i)
 told_later h (notice.Ended socket peer foreign) x t lives handed i =
-    later_where (lives_between h socket peer foreign) life_ended x t lives handed
+    later_where _ life_ended x t lives handed
     (goes_between h socket peer foreign) ending_then i
 told_later h (notice.PairReset peer) x t lives handed i =
-    later_where (lives_with h peer) life_ended x t lives handed (goes_with h peer) ending_then i
+    later_where _ life_ended x t lives handed (goes_with h peer) ending_then i
 told_later h (notice.Sent socket bits) x t lives handed i =
-    later_where (lives_at h socket) (carried bits) x t lives handed (goes_at h socket) (carried_then bits) i
+    later_where _ _ x t lives handed (goes_at h socket) (carried_then bits) i
 told_later h (notice.Arrived socket bits) x t lives handed i =
-    later_where (lives_at h socket) (carried bits) x t lives handed (goes_at h socket) (carried_then bits) i
+    later_where _ _ x t lives handed (goes_at h socket) (carried_then bits) i
 told_later h (notice.Returned socket m n) x t lives handed i =
-    later_where (lives_at h socket) (returned m n) x t lives handed (goes_at h socket) (returned_then m n) i
+    later_where _ _ x t lives handed (goes_at h socket) (returned_then m n) i
 told_later h n x t lives handed i = as_is x t lives handed i
 
 all_later : (h : Host) (ns : List Notice) (k : Kept) (x : Life) (t : List Bool) → IsPair x t k.book.lives k.handed
@@ -232,14 +232,14 @@ all_later h [] k x t i = as_is x t k.book.lives k.handed i
 all_later h (n ∷ ns) k x t i =
     let one : Later x t (book_told h n k).book.lives (book_told h n k).handed =
     told_later h n x t k.book.lives k.handed i in
-    let more : Later one.life t (all_told h ns (book_told h n k)).book.lives (all_told h ns (book_told h n k)).handed =
+    let more : Later one.life t (all_told h ns _).book.lives (all_told h ns _).handed =
     all_later h ns (book_told h n k) one.life t one.there in
     record { life = more.life; there = more.there; next = next_then x one.life more.life one.next more.next }
 
 crossed_later : (c : Crossing) (x : Life) (t : List Bool) (lives : List Life) (handed : List (List Bool))
     → IsPair x t lives handed → Later x t (lives_crossed c lives) handed
 crossed_later (crossing.Down h) x t lives handed i =
-    later_where (lives_on h) life_ended x t lives handed (goes_on h) ending_then i
+    later_where _ life_ended x t lives handed (goes_on h) ending_then i
 crossed_later c x t lives handed i = as_is x t lives handed i
 
 -- nothing is handed over in a life
@@ -264,9 +264,9 @@ asked_later : (h : Host) (r : Request) (x : Life) (t : List Bool) (lives : List 
     → IsUnsent (Asked h r) x → IsPair x t lives handed
     → Later x t (lives_asked h r lives) (handed_asked h r lives handed)
 asked_later h (request.Send socket bits) x t lives handed off i =
-    as_is x t lives _ (pair_handed (lives_at h socket) bits x t lives handed off i)
+    as_is x t lives _ (pair_handed _ bits x t lives handed off i)
 asked_later h (request.Grant socket m n) x t lives handed off i =
-    later_where (lives_at h socket) (granted m n) x t lives handed (goes_at h socket) (granted_then m n) i
+    later_where _ _ x t lives handed (goes_at h socket) (granted_then m n) i
 asked_later h r x t lives handed off i = as_is x t lives handed i
 
 kept_later : (y : Moment) (k : Kept) (x : Life) (t : List Bool) → IsUnsent y x → IsPair x t k.book.lives k.handed

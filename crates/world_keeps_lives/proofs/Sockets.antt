@@ -80,7 +80,7 @@ offer_fit s n order h = by (next_in s.peers) refl where
     ends = about_one s (offered s n).0 g.host
         (λ own foreign. record {
           x = _;
-          has = offer_says (λ n. n) own foreign s n g parcel (h.ends own foreign g.host).x order next
+          has = offer_says (λ n. n) own foreign s n g parcel _ order next
               (h.ends own foreign g.host).has;
         }) (λ p off. offer_leaves s n g parcel p next off) h.ends;
   }
@@ -91,7 +91,7 @@ request_fit s r ok asks h = record {
   ends = λ own foreign p. record {
     x = after_request p r (h.ends own foreign p).x;
     has = request_keeps (λ n. n) own
-        foreign s r p (h.ends own foreign p).x ok (h.ends own foreign p).has;
+        foreign s r p _ ok (h.ends own foreign p).has;
   };
 }
 
@@ -136,9 +136,9 @@ module _ (hosts : Network) (addresses : HaveAddresses hosts.all) (a : Host) (pla
     by (Crossed (crossing.Down g)) time h order = fit_if (same_host a g) (opening_state a) _ (λ e. opening_fit a) h
     by (Crossed (crossing.Up g)) time h order = fit_if (same_host a g) (opening_state a) _ (λ e. opening_fit a) h
     by (Asked g r) time h order =
-        fit_if (same_host a g) _ _ (λ e.
+        fit_if _ _ _ (λ e.
         let may : Happens hosts.all (Asked a r) moments = own_request g r moments time e in
-        request_fit (program a moments) r may.2 may.3 h) h
+        request_fit _ r may.2 may.3 h) h
 
   -- a host that is down has a program that does nothing
   pub idle : (moments : List Moment) → mail.IsRun hosts.all (crossings_of moments) → Happened hosts moments
@@ -163,13 +163,13 @@ module _ (hosts : Network) (addresses : HaveAddresses hosts.all) (a : Host) (pla
           → (if b then opening_state a else program a moments) ≡ opening_state a
       turns true d = refl
       turns false d = rest d
-    by (Crossed (crossing.Up g)) run time down rest = turns (same_host a g) down where
+    by (Crossed (crossing.Up g)) run time down rest = turns _ down where
       turns : (b : Bool) → (if b then true else mail.is_up hosts.all a (crossings_of moments)) ≡ false
           → (if b then opening_state a else program a moments) ≡ opening_state a
       turns true d = refl
       turns false d = rest d
     by (Asked g r) run time down rest =
-        idle_if a g (mail.is_up hosts.all a (crossings_of moments)) (program a moments) _ down
+        idle_if a g _ (program a moments) _ down
         (λ e. (own_request g r moments time e).0) (rest down)
 
   -- ---- one socket
@@ -186,55 +186,55 @@ module _ (hosts : Network) (addresses : HaveAddresses hosts.all) (a : Host) (pla
         → Holds a k (program a moments) κ
         → Holds a k (program a (x ∷ moments)) (all_told (host_in x) (notices_by x moments) (kept_by x κ))
     own_moment (Crossed (crossing.Out m)) moments κ run time order h idles old =
-        acts a k m.flow.source (λ x. (offered (program x moments) (places moments)).1) (program a moments)
-        (offered (program a moments) (places moments)).0 κ (λ x. crossed (crossing.Out m) κ)
+        acts a k m.flow.source (λ x. (offered (program x moments) (places moments)).1) _
+        _ κ (λ x. crossed (crossing.Out m) κ)
         (λ e. offer_holds a k (program a moments) (places moments) (crossed (crossing.Out m) κ) order
-        (λ p. (pair_range p (program a moments).peers h.ranged.pairs).commands) (has_ends (program a moments) h)
-        (crossed_holds a k (program a moments) (crossing.Out m) κ (λ P i. i) old))
+        (λ p. (pair_range p _ h.ranged.pairs).commands) (has_ends _ h)
+        (crossed_holds a k _ _ κ (λ P i. i) old))
         (λ e P i. i) old
     own_moment (Crossed (crossing.In m)) moments κ run time order h idles old =
         acts a k m.flow.destination (λ x. (accepted (program x moments) (inbound.Message m) (places moments)).1)
-        (program a moments) (accepted (program a moments) (inbound.Message m) (places moments)).0 κ
+        _ _ κ
         (λ x. crossed (crossing.In m) κ)
         (λ e. message_holds a k (program a moments) m (places moments) (crossed (crossing.In m) κ)
-        (crossed_holds a k (program a moments) (crossing.In m) κ (λ P i. i) old))
+        (crossed_holds a k _ _ κ (λ P i. i) old))
         (λ e P i. i) old
     own_moment (Crossed (crossing.Answer kind f)) moments κ run time order h idles old =
         acts a k f.source (λ x. (accepted (program x moments) (inbound.Answer kind f) (places moments)).1)
-        (program a moments) (accepted (program a moments) (inbound.Answer kind f) (places moments)).0 κ
+        _ _ κ
         (λ x. crossed (crossing.Answer kind f) κ)
         (λ e. answer_holds a k (program a moments) kind f (places moments) (crossed (crossing.Answer kind f) κ)
-        (crossed_holds a k (program a moments) (crossing.Answer kind f) κ (λ P i. i) old))
+        (crossed_holds a k _ _ κ (λ P i. i) old))
         (λ e P i. i) old
     own_moment (Crossed (crossing.Down g)) moments κ run time order h idles old =
-        acts a k g (λ x. []) (program a moments) (opening_state a) κ (λ x. crossed (crossing.Down x) κ)
+        acts a k g (λ x. []) _ _ κ (λ x. crossed (crossing.Down x) κ)
         (λ e. ended_holds a k (program a moments) κ old)
         (λ e P i. each_ending a k (lives_on g) P κ.book.lives κ.handed i) old
     own_moment (Crossed (crossing.Up g)) moments κ run time order h idles old =
-        acts a k g (λ x. []) (program a moments) (opening_state a) κ (λ x. crossed (crossing.Up g) κ)
+        acts a k g (λ x. []) _ _ κ (λ x. crossed (crossing.Up g) κ)
         (λ e. let down : mail.is_up hosts.all a (crossings_of moments) ≡ false = subst
         (λ (x : Host). mail.is_up hosts.all x (crossings_of moments) ≡ false) (sym (same_host-true a g e)) run.0.1
         in
-        crossed_holds a k (opening_state a) (crossing.Up g) κ (λ P i. i)
+        crossed_holds a k _ (crossing.Up g) κ (λ P i. i)
         (subst (λ (s : NcpState). Holds a k s κ) (idles down) old))
         (λ e P i. i) old
     own_moment (Asked g r) moments κ run time order h idles old =
-        acts a k g (λ x. served_notices (program x moments) r) (program a moments) (served (program a moments) r) κ
+        acts a k g (λ x. served_notices (program x moments) r) _ _ κ
         (λ x. asked x r κ)
         (λ e. request_holds a k (program a moments) r κ order (own_request g r moments time e).2 old)
-        (λ e. asked_away a k g r κ (other_way (same_host g a) refl e)) old where
+        (λ e. asked_away a k g r κ (other_way _ refl e)) old where
           other_way : (b : Bool) → same_host g a ≡ b → same_host a g ≡ false → b ≡ false
           other_way b is e = sym is ∙ same_host-sym g a ∙ e
 
     -- a moment of a stranger
     strange_moment : (x : Moment) (s : NcpState) (κ : Kept) → Holds a k s κ → Holds a k s (crossed_only x κ)
-    strange_moment (Crossed (crossing.Out m)) s κ old = crossed_holds a k s (crossing.Out m) κ (λ P i. i) old
-    strange_moment (Crossed (crossing.In m)) s κ old = crossed_holds a k s (crossing.In m) κ (λ P i. i) old
-    strange_moment (Crossed (crossing.Answer kind f)) s κ old = crossed_holds a k s (crossing.Answer kind f) κ
+    strange_moment (Crossed (crossing.Out m)) s κ old = crossed_holds a k s _ κ (λ P i. i) old
+    strange_moment (Crossed (crossing.In m)) s κ old = crossed_holds a k s _ κ (λ P i. i) old
+    strange_moment (Crossed (crossing.Answer kind f)) s κ old = crossed_holds a k s _ κ
         (λ P i. i) old
-    strange_moment (Crossed (crossing.Down g)) s κ old = crossed_holds a k s (crossing.Down g) κ
+    strange_moment (Crossed (crossing.Down g)) s κ old = crossed_holds a k s _ κ
         (λ P i. each_ending a k (lives_on g) P κ.book.lives κ.handed i) old
-    strange_moment (Crossed (crossing.Up g)) s κ old = crossed_holds a k s (crossing.Up g) κ (λ P i. i) old
+    strange_moment (Crossed (crossing.Up g)) s κ old = crossed_holds a k s _ κ (λ P i. i) old
     strange_moment (Asked g r) s κ old = old
 
     pub held : (moments : List Moment) → mail.IsRun hosts.all (crossings_of moments) → Happened hosts moments
@@ -250,6 +250,6 @@ module _ (hosts : Network) (addresses : HaveAddresses hosts.all) (a : Host) (pla
           → Holds a k (program a (x ∷ moments)) (if b then crossed_only x (mixed_kept hosts.strange moments) else all_told (host_in x) (notices_by x moments) (kept_by x (mixed_kept hosts.strange moments)))
       by true on below old =
           subst (λ (s : NcpState). Holds a k s (crossed_only x (mixed_kept hosts.strange moments))) (sym (unmoved a x moments (other on (same_host a (host_in x)) refl)))
-          (strange_moment x (program a moments) (mixed_kept hosts.strange moments) old)
+          (strange_moment x _ _ old)
       by false apart below old =
-          own_moment x moments (mixed_kept hosts.strange moments) run time (ordered moments below time.1) (fit moments below time.1) (idle moments below time.1) old
+          own_moment x moments _ run time (ordered moments below time.1) (fit moments below time.1) (idle moments below time.1) old

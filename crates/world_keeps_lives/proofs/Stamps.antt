@@ -91,7 +91,7 @@ module _ (hosts : Network) (addresses : HaveAddresses hosts.all) (moments : List
       → ((m : HostMessage) → y ≡ Crossed (crossing.Out m) → IsNext (program m.flow.source moments) m)
       → Each (Stamped lives (places moments)) (notices_by y moments)
   stamped (Crossed (crossing.Out m)) ours story =
-      (offer_keeps (Due lives (places moments)) (Stamped lives (places moments)) m.flow.destination (rules lives (places moments) m.flow.destination) (program m.flow.source moments) (places moments) n.peer n.parcel n.order n.next
+      (offer_keeps (Due lives (places moments)) (Stamped lives (places moments)) m.flow.destination (rules lives (places moments) m.flow.destination) _ _ n.peer n.parcel n.order n.next
       (sym (ap (λ (x : HostMessage). x.flow.destination) n.message)) (queued_commands hosts moments addresses run time m.flow.source m.flow.destination ours) (may n.parcel) (old m.flow.source m.flow.destination ours)).told where
         n : IsNext (program m.flow.source moments) m
         n = story m refl
@@ -101,10 +101,10 @@ module _ (hosts : Network) (addresses : HaveAddresses hosts.all) (moments : List
         may (parcel.Commands count) = goes lives (places moments) _
         may z = tt
   stamped (Crossed (crossing.In m)) ours story =
-      (message_keeps (Due lives (places moments)) (Stamped lives (places moments)) m.flow.source (rules lives (places moments) m.flow.source) (program m.flow.destination moments) m (places moments) refl
+      (message_keeps (Due lives (places moments)) (Stamped lives (places moments)) m.flow.source (rules lives (places moments) m.flow.source) _ m _ refl
       ((λ zero. hears lives (places moments) _), (λ off e k f o t. tt)) (old m.flow.destination m.flow.source ours)).told
   stamped (Crossed (crossing.Answer kind f)) ours story =
-      (answer_keeps (Due lives (places moments)) (Stamped lives (places moments)) f.destination (rules lives (places moments) f.destination) (program f.source moments) kind f (places moments) refl (old f.source f.destination ours)).told
+      (answer_keeps (Due lives (places moments)) (Stamped lives (places moments)) f.destination (rules lives (places moments) f.destination) _ kind f _ refl (old f.source f.destination ours)).told
   stamped (Crossed (crossing.Down g)) ours story = tt
   stamped (Crossed (crossing.Up g)) ours story = tt
-  stamped (Asked h r) ours story = request_told (Due lives (places moments)) (Stamped lives (places moments)) h (rules lives (places moments) h) (program h moments) r
+  stamped (Asked h r) ours story = request_told (Due lives (places moments)) (Stamped lives (places moments)) h (rules lives (places moments) h) _ r

@@ -110,13 +110,13 @@ module _ (a : Host) (k : ℕ) (m : Place) (p : Host) (k0 : Kept) where
   told_on ns d r h = record { refusing = r; on = subst (λ (κ : Kept). At a k m p (mine_on k d.entries) (listens_on k d.listening) κ) (sym (all_told_append a d.notices ns k0)) h }
 
   pub good_aside : (ns : List Notice) (d : DeskState) → AreAside a k ns → Good d → Good (desk_told ns d)
-  good_aside ns d off h = told_on ns d h.refusing (at_aside a k m p (mine_on k d.entries) (listens_on k d.listening) ns (all_told a d.notices k0) off h.on)
+  good_aside ns d off h = told_on ns d h.refusing (at_aside a k m p _ _ ns _ off h.on)
 
   pub good_less : (test : Entry → Bool) (change : Entry → Entry) (d : DeskState) → ((e : Entry) → IsLess e (change e)) → ((e : Entry) → Drains e (change e)) → ((e : Entry) → IsRefusing e → IsRefusing (change e)) → Good d
       → Good (changed test change d)
   good_less test change d less drains keeps h = record {
     refusing = refusing_changed test change d.entries keeps h.refusing;
-    on = at_lessened a k m p test change d.entries (listens_on k d.listening) (all_told a d.notices k0) less drains h.on;
+    on = at_lessened a k m p test change d.entries _ _ less drains h.on;
   }
 
   -- an end is changed, and this is reported
@@ -125,9 +125,9 @@ module _ (a : Host) (k : ℕ) (m : Place) (p : Host) (k0 : Kept) where
       → (is_mine_on k e ≡ false → AreAside a k ns)
       → Good d → Good (desk_told ns (changed test change d))
   good_changed test change ns d e found keeps refuses here away h =
-      told_on ns (changed test change d) (refusing_changed test change d.entries refuses h.refusing)
-      (at_changed a k m p test change d.entries (listens_on k d.listening) (all_told a d.notices k0) (all_told a ns (all_told a d.notices k0)) e found keeps
-      (λ is i. here is (listens_on k d.listening) (all_told a d.notices k0) i)
+      told_on ns _ (refusing_changed test change d.entries refuses h.refusing)
+      (at_changed a k m p test change d.entries _ _ _ e found keeps
+      (λ is i. here is (listens_on k d.listening) _ i)
       (λ is ms i. at_aside a k m p ms (listens_on k d.listening) ns (all_told a d.notices k0) (away is) i) h.on)
 
   pub good_quiet : (test : Entry → Bool) (change : Entry → Entry) (d : DeskState) (e : Entry) → find test d.entries ≡ Some e → is_mine_on k (change e) ≡ is_mine_on k e → ((e : Entry) → IsRefusing e → IsRefusing (change e))
@@ -135,8 +135,8 @@ module _ (a : Host) (k : ℕ) (m : Place) (p : Host) (k0 : Kept) where
       → Good d → Good (changed test change d)
   good_quiet test change d e found keeps refuses here h = record {
     refusing = refusing_changed test change d.entries refuses h.refusing;
-    on = at_changed a k m p test change d.entries (listens_on k d.listening) (all_told a d.notices k0) (all_told a d.notices k0) e found keeps
-        (λ is i. here is (listens_on k d.listening) (all_told a d.notices k0) i) (λ is ms i. i) h.on;
+    on = at_changed a k m p test change d.entries _ _ _ e found keeps
+        (λ is i. here is (listens_on k d.listening) _ i) (λ is ms i. i) h.on;
   }
 
   -- ---- new ends
@@ -154,7 +154,7 @@ module _ (a : Host) (k : ℕ) (m : Place) (p : Host) (k0 : Kept) where
   begun : (ms : List Entry) (e : Entry) (κ : Kept) → IsFresh e → At a k m p ms true κ → At a k m p (ms ++ e ∷ []) false κ
   begun ms e κ fresh h = by m ms h where
     by : (n : Place) (ms : List Entry) → At a k n p ms true κ → At a k n p (ms ++ e ∷ []) false κ
-    by Near [] i = (fresh, each_weaker a k NoneOf (IsLifeOf p e) κ.book.lives κ.handed (λ x t there lacks. absurd lacks) i)
+    by Near [] i = (fresh, each_weaker a k NoneOf _ κ.book.lives κ.handed (λ x t there lacks. absurd lacks) i)
     by Near (f ∷ []) i = absurd i
     by Near (f ∷ g ∷ ms) i = absurd i
     by (Elsewhere q y) [] i = absurd i
@@ -176,7 +176,7 @@ module _ (a : Host) (k : ℕ) (m : Place) (p : Host) (k0 : Kept) where
         let now : listens_on k (answered_on e.own d).listening ≡ false = subst (λ (n : ℕ). listens_on k (answered_on n d).listening ≡ false) (sym own) (without_same k d.listening) in
         let old : At a k m p (mine_on k d.entries) true (all_told a d.notices k0) = subst (λ (b : Bool). At a k m p (mine_on k d.entries) b (all_told a d.notices k0)) was h.on in
         let new : At a k m p (mine_on k (d.entries ++ e ∷ [])) false (all_told a d.notices k0) =
-        subst (λ (ys : List Entry). At a k m p ys false (all_told a d.notices k0)) (sym (grown true f)) (begun (mine_on k d.entries) e (all_told a d.notices k0) fresh old) in
+        subst (λ (ys : List Entry). At a k m p ys false (all_told a d.notices k0)) (sym (grown true f)) (begun _ e _ fresh old) in
         subst (λ (b : Bool). At a k m p (mine_on k (d.entries ++ e ∷ [])) b (all_told a d.notices k0)) (sym now) new
     by false f =
         let same : mine_on k (d.entries ++ e ∷ []) ≡ mine_on k d.entries = grown false f ∙ append-nil (mine_on k d.entries) in
@@ -188,8 +188,8 @@ module _ (a : Host) (k : ℕ) (m : Place) (p : Host) (k0 : Kept) where
 
   pub good_settled : (busy : List ℕ) (d : DeskState) → Good d → Good (settled busy d)
   good_settled busy d h = record {
-    refusing = refusing_mapped (λ e. closed_when (must_close busy e) e) d.entries (λ e. refuses_when (must_close busy e) e) h.refusing;
-    on = at_mapped a k m p (λ e. closed_when (must_close busy e) e) d.entries (listens_on k d.listening) (all_told a d.notices k0) (λ e. closed_less (must_close busy e) e) (closed_drains busy) h.on;
+    refusing = refusing_mapped _ d.entries (λ e. refuses_when (must_close busy e) e) h.refusing;
+    on = at_mapped a k m p _ d.entries _ _ (λ e. closed_less (must_close busy e) e) (closed_drains busy) h.on;
   }
 
   abbrev stays : Entry → Bool
@@ -217,7 +217,7 @@ module _ (a : Host) (k : ℕ) (m : Place) (p : Host) (k0 : Kept) where
       let mine : e.mine ≡ true = (both e.mine (e.own == k) is).0 in
       let own : e.own ≡ k = own_is k e is in
       subst (λ (b : Bool). EachIn a k NoneOf (all_told a (if b then notice.Ended e.own p e.foreign ∷ [] else []) κ)) (sym mine)
-      (each_ended a k (lives_between a e.own p e.foreign) (IsLifeOf p e) NoneOf κ.book.lives κ.handed (λ x t there goes i. all x t own there goes i) h) where
+      (each_ended a k _ _ NoneOf κ.book.lives κ.handed (λ x t there goes i. all x t own there goes i) h) where
         all : (x : Life) (t : List Bool) → e.own ≡ k → at_socket a k x ≡ true → x.ended ≡ false → IsLifeOf p e x t → lives_between a e.own p e.foreign x ≡ true
         all x t own there goes i =
             let at : at_socket a e.own x ≡ true = subst (λ (n : ℕ). at_socket a n x ≡ true) (sym own) there in
@@ -237,7 +237,7 @@ module _ (a : Host) (k : ℕ) (m : Place) (p : Host) (k0 : Kept) where
     by : ((κ : Kept) → mine_on k xs ≡ e ∷ [] → is_over e ≡ true → EachIn a k (IsLifeOf p e) κ → EachIn a k NoneOf (all_told a (flat_map (ending p) (filter is_over xs)) κ))
         → (b c : Bool) → is_mine_on k x ≡ b → is_over x ≡ c → EachIn a k NoneOf (all_told a (flat_map (ending p) (filter is_over (x ∷ xs))) κ)
     by rest true c f g =
-        let same : x ≡ e = headed (mine_on k xs) [] x e (sym (mine_one k x xs true f) ∙ is) in
+        let same : x ≡ e = headed _ [] x e (sym (mine_one k x xs true f) ∙ is) in
         let there : is_over x ≡ true = subst (λ (y : Entry). is_over y ≡ true) (sym same) over in
         let mine : EachIn a k (IsLifeOf p x) κ = subst (λ (y : Entry). EachIn a k (IsLifeOf p y) κ) (sym same) h in
         rw there (subst (λ (κ : Kept). EachIn a k NoneOf κ) (sym (all_told_append a (ending p x) (flat_map (ending p) (filter is_over xs)) κ))
@@ -245,8 +245,8 @@ module _ (a : Host) (k : ℕ) (m : Place) (p : Host) (k0 : Kept) where
     by rest false true f g =
         let later : mine_on k xs ≡ e ∷ [] = sym (mine_one k x xs false f) ∙ is in
         let aside : AreAside a k (ending p x) = subst (λ (ns : List Notice). AreAside a k ns) (append-nil (ending p x)) (ended_aside (x ∷ [])) in
-        rw g (subst (λ (κ : Kept). EachIn a k NoneOf κ) (sym (all_told_append a (ending p x) (flat_map (ending p) (filter is_over xs)) κ))
-        (rest (all_told a (ending p x) κ) later over (each_all_aside a k (IsLifeOf p e) (ending p x) κ aside h)))
+        rw g (subst (λ (κ : Kept). EachIn a k NoneOf κ) (sym (all_told_append a (ending p x) _ κ))
+        (rest (all_told a (ending p x) κ) later over (each_all_aside a k _ _ κ aside h)))
     by rest false false f g =
         let later : mine_on k xs ≡ e ∷ [] = sym (mine_one k x xs false f) ∙ is in
         rw g (rest κ later over h)
@@ -260,7 +260,7 @@ module _ (a : Host) (k : ℕ) (m : Place) (p : Host) (k0 : Kept) where
     one Near e false is i true over = rw over (all_ended xs e κ is over i.1)
     one Near e true is i true over = absurd i
     one (Elsewhere q y) e l is i true over = absurd i
-    one n e l is i false over = rw over (at_aside a k n p (e ∷ []) l (flat_map (ending p) (filter is_over xs)) κ aside i)
+    one n e l is i false over = rw over (at_aside a k n p (e ∷ []) l _ κ aside i)
 
     by : (n : Place) (ms : List Entry) (l : Bool) → mine_on k xs ≡ ms → At a k n p ms l κ → At a k n p (filter stays ms) l (all_told a (flat_map (ending p) (filter is_over xs)) κ)
     by n [] l is i = at_aside a k n p [] l (flat_map (ending p) (filter is_over xs)) κ aside i
@@ -272,13 +272,13 @@ module _ (a : Host) (k : ℕ) (m : Place) (p : Host) (k0 : Kept) where
   good_swept d h =
       told_on (flat_map (ending p) (filter is_over d.entries)) (record d { entries = filter stays d.entries }) (refusing_filtered stays d.entries h.refusing)
       (subst (λ (ys : List Entry). At a k m p ys (listens_on k d.listening) (all_told a (flat_map (ending p) (filter is_over d.entries)) (all_told a d.notices k0))) (sym (swept_mine d.entries))
-      (at_swept d.entries (mine_on k d.entries) (listens_on k d.listening) (all_told a d.notices k0) refl h.on))
+      (at_swept d.entries _ _ _ refl h.on))
 
   -- ---- openings
 
   opening_life : (e : Entry) (x y : Option ℕ) (κ : Kept) → e.asked ≡ x → e.partner ≡ y → e.bits ≡ [] → e.allocation ≡ counters.nothing → EachIn a k NoneOf κ → EachIn a k (IsLifeOf p e) (all_told a (opening_by p e x y) κ)
-  opening_life e None y κ f g none nothing h = each_weaker a k NoneOf (IsLifeOf p e) κ.book.lives κ.handed (λ x t there lacks. absurd lacks) h
-  opening_life e (Some x) None κ f g none nothing h = each_weaker a k NoneOf (IsLifeOf p e) κ.book.lives κ.handed (λ x t there lacks. absurd lacks) h
+  opening_life e None y κ f g none nothing h = each_weaker a k NoneOf _ κ.book.lives κ.handed (λ x t there lacks. absurd lacks) h
+  opening_life e (Some x) None κ f g none nothing h = each_weaker a k NoneOf _ κ.book.lives κ.handed (λ x t there lacks. absurd lacks) h
   opening_life e (Some x) (Some y) κ f g none nothing h = by (is_ending e) where
     weak : EachIn a k (IsLifeOf p e) κ
     weak = each_weaker a k NoneOf (IsLifeOf p e) κ.book.lives κ.handed (λ x t there lacks. absurd lacks) h
@@ -306,7 +306,7 @@ module _ (a : Host) (k : ℕ) (m : Place) (p : Host) (k0 : Kept) where
 
     by : (b : Bool) → EachIn a k (IsLifeOf p e) (all_told a (if b then [] else notice.Opened e.own p e.foreign x y ∷ []) κ)
     by true = weak
-    by false = each_more a k (IsLifeOf p e) κ.book.lives κ.handed (new_life a e.own p e.foreign x y) (λ there. (safe, λ goes. life)) weak
+    by false = each_more a k _ κ.book.lives κ.handed _ (λ there. (safe, λ goes. life)) weak
 
   unopened : (e : Entry) (x : Life) (t : List Bool) → has_opened e ≡ false → IsLifeOf p e x t → ⊥
   unopened e x t lacks i = absurd (let r : true ≡ false = sym (ap (λ (o : Option ℕ). is_some o && is_some e.partner) i.own ∙ ap is_some i.partner) ∙ lacks in cc)
@@ -326,7 +326,7 @@ module _ (a : Host) (k : ℕ) (m : Place) (p : Host) (k0 : Kept) where
   opening_aside new (Some x) None refuses off = tt
   opening_aside new (Some x) (Some y) refuses off = by new.mine refl where
     by : (b : Bool) → new.mine ≡ b → AreAside a k (if is_ending new then [] else notice.Opened new.own p new.foreign x y ∷ [])
-    by true f = told_by (is_ending new) where
+    by true f = told_by _ where
       told_by : (c : Bool) → AreAside a k (if c then [] else notice.Opened new.own p new.foreign x y ∷ [])
       told_by true = tt
       told_by false = (own_off k new f off, tt)
@@ -342,7 +342,7 @@ module _ (a : Host) (k : ℕ) (m : Place) (p : Host) (k0 : Kept) where
       let passes : is_at x y (change e) ≡ true = at ∙ passed in
       let there : entry_at x y (changed_first (is_at x y) change d.entries) ≡ Some (change e) = found_changed (is_at x y) change d.entries e found passes in
       subst (λ (o : Option Entry). Good (desk_told (opening_notices p o) (changed (is_at x y) change d))) (sym there)
-      (good_changed (is_at x y) change (opening_by p (change e) (change e).asked (change e).partner) d e found keeps refuses
+      (good_changed (is_at x y) change (opening_by p (change e) _ (change e).partner) d e found keeps refuses
       (λ is l κ i. at_opening e (change e) l κ lacks bits allocation i)
       (λ is. opening_aside (change e) (change e).asked (change e).partner (refuses e (refusing_found (is_at x y) d.entries e h.refusing found)) (keeps ∙ is)) h) where
         passed : is_at x y e ≡ true

@@ -43,7 +43,7 @@ module _ (a : Host) (k : ℕ) where
       → At a k m p (new ∷ []) l next
   at_here Near p f e new false κ next is opened keeps work lives handed h =
       let own : e.own ≡ k = own_is k e is in
-      let done : EachOn a k (IsLifeOf p new) (where_it (lives_at a k) f κ.book.lives) κ.handed = each_here a k f (IsLifeOf p e) (IsLifeOf p new) κ.book.lives κ.handed keeps work h.1 in
+      let done : EachOn a k (IsLifeOf p new) (where_it (lives_at a k) f κ.book.lives) κ.handed = each_here a k f _ _ κ.book.lives κ.handed keeps work h.1 in
       let moved : EachOn a k (IsLifeOf p new) (where_it (lives_at a e.own) f κ.book.lives) κ.handed = subst (λ (n : ℕ). EachOn a k (IsLifeOf p new) (where_it (lives_at a n) f κ.book.lives) κ.handed) (sym own) done in (
         (λ unopen. clash _ (has_opened new) opened unopen),
         subst (λ (ls : List Life). EachOn a k (IsLifeOf p new) ls next.handed) (sym lives) (subst (λ (hs : List (List Bool)). EachOn a k (IsLifeOf p new) (where_it (lives_at a e.own) f κ.book.lives) hs) (sym handed) moved),
@@ -55,7 +55,7 @@ module _ (a : Host) (k : ℕ) where
   at_still : (m : Place) (p : Host) (e new : Entry) (l : Bool) (κ : Kept) → has_opened new ≡ true
       → ((x : Life) (t : List Bool) → at_socket a k x ≡ true → IsLifeOf p e x t → IsLifeOf p new x t)
       → At a k m p (e ∷ []) l κ → At a k m p (new ∷ []) l κ
-  at_still Near p e new false κ opened work h = ((λ unopen. clash _ (has_opened new) opened unopen), each_weaker a k (IsLifeOf p e) (IsLifeOf p new) κ.book.lives κ.handed work h.1)
+  at_still Near p e new false κ opened work h = ((λ unopen. clash _ (has_opened new) opened unopen), each_weaker a k (IsLifeOf p e) _ κ.book.lives κ.handed work h.1)
   at_still Near p e new true κ opened work h = absurd h
   at_still (Elsewhere g y) p e new l κ opened work h = absurd h
 
@@ -119,7 +119,7 @@ module _ (a : Host) (k : ℕ) (m : Place) (p : Host) (k0 : Kept) where
   G d = Good a k m p k0 d
 
   good_fault : (code : ℕ) (c : Command) (d : DeskState) → G d → G (commands.faulted code c d)
-  good_fault code c d h = good_queued a k m p k0 (error code (spelling c)) d h
+  good_fault code c d h = good_queued a k m p k0 _ d h
 
   -- ---- requests
 
@@ -132,11 +132,11 @@ module _ (a : Host) (k : ℕ) (m : Place) (p : Host) (k0 : Kept) where
         → G (if b then commands.faulted ERRONEOUS c d else commands.matched p x y change d)
     by true f = good_fault ERRONEOUS c d h
     by false f =
-        good_opening a k m p k0 x y change d e found (ap (λ (b : Bool). is_some e.asked && b) f ∙ and_none (is_some e.asked)) keeps at bits allocation refuses h
+        good_opening a k m p k0 x y change d e found (ap (λ (b : Bool). is_some e.asked && b) f ∙ and_none _) keeps at bits allocation refuses h
 
   good_refused : (x y stamp : ℕ) (d : DeskState) → G d → G (commands.refused x y stamp d)
   good_refused x y stamp d h =
-      let joined : G (commands.entry_joined (refused_end x y stamp) d) = good_foreign a k m p k0 (refused_end x y stamp) d refl refl h in
+      let joined : G (commands.entry_joined (refused_end x y stamp) d) = good_foreign a k m p k0 _ d refl refl h in
       record { refusing = joined.refusing; on = joined.on }
 
   good_rts_heard : (x y link stamp : ℕ) (l : Option Listener) (d : DeskState) → listener_on x d.listening ≡ l → G d
@@ -144,25 +144,25 @@ module _ (a : Host) (k : ℕ) (m : Place) (p : Host) (k0 : Kept) where
   good_rts_heard x y link stamp None d is h = good_refused x y stamp d h
   good_rts_heard x y link stamp (Some l) d is h =
       let joined : G (commands.entry_joined (asked_on_link stamp link (sending_end x y l.size)) (answered_on x d)) =
-      good_joined a k m p k0 (asked_on_link stamp link (sending_end x y l.size)) l d refl (λ f. (refl, refl)) is h in
+      good_joined a k m p k0 _ l d refl (λ f. (refl, refl)) is h in
       record { refusing = joined.refusing; on = joined.on }
 
   good_rts_by : (x y link stamp : ℕ) (o : Option Entry) (d : DeskState) → entry_at x y d.entries ≡ o → G d
       → G (rts_taken_by p x y link stamp o d)
-  good_rts_by x y link stamp None d f h = good_rts_heard x y link stamp (listener_on x d.listening) d refl h
-  good_rts_by x y link stamp (Some e) d f h = good_matched x y (command.Rts y x link) e (asked_on_link stamp link) d f refl refl refl refl (λ e r. r) h
+  good_rts_by x y link stamp None d f h = good_rts_heard x y link stamp _ d refl h
+  good_rts_by x y link stamp (Some e) d f h = good_matched x y (command.Rts y x link) e _ d f refl refl refl refl (λ e r. r) h
 
   good_rts : (x y link stamp : ℕ) (d : DeskState) → G d → G (rts_taken p x y link stamp d)
   good_rts x y link stamp d h =
-      good_if a k m p k0 (list_any (sends_on link) d.entries) (commands.faulted ERRONEOUS (command.Rts y x link) d) (rts_taken_by p x y link stamp (entry_at x y d.entries) d)
-      (good_fault ERRONEOUS (command.Rts y x link) d h) (good_rts_by x y link stamp (entry_at x y d.entries) d refl h)
+      good_if a k m p k0 _ _ _
+      (good_fault ERRONEOUS (command.Rts y x link) d h) (good_rts_by x y link stamp _ d refl h)
 
   good_str_linked : (x y size stamp : ℕ) (l : Listener) (link : Option ℕ) (d : DeskState)
       → listener_on x d.listening ≡ Some l → G d → G (str_linked x y size stamp link d)
   good_str_linked x y size stamp l None d is h = good_refused x y stamp d h
   good_str_linked x y size stamp l (Some link) d is h =
       let joined : G (commands.entry_joined (asked_with_size stamp size (receiving_end x y link)) (answered_on x d)) =
-      good_joined a k m p k0 (asked_with_size stamp size (receiving_end x y link)) l d refl (λ f. (refl, refl)) is h in
+      good_joined a k m p k0 _ l d refl (λ f. (refl, refl)) is h in
       record { refusing = joined.refusing; on = joined.on }
 
   good_str_heard : (x y size stamp : ℕ) (l : Option Listener) (d : DeskState) → listener_on x d.listening ≡ l → G d
@@ -172,8 +172,8 @@ module _ (a : Host) (k : ℕ) (m : Place) (p : Host) (k0 : Kept) where
 
   good_str_by : (x y size stamp : ℕ) (o : Option Entry) (d : DeskState) → entry_at x y d.entries ≡ o → G d
       → G (str_taken_by p x y size stamp o d)
-  good_str_by x y size stamp None d f h = good_str_heard x y size stamp (listener_on x d.listening) d refl h
-  good_str_by x y size stamp (Some e) d f h = good_matched x y (command.Str y x size) e (asked_with_size stamp size) d f refl refl refl refl (λ e r. r) h
+  good_str_by x y size stamp None d f h = good_str_heard x y size stamp _ d refl h
+  good_str_by x y size stamp (Some e) d f h = good_matched x y (command.Str y x size) e _ d f refl refl refl refl (λ e r. r) h
 
   -- ---- a CLS
 
@@ -183,8 +183,8 @@ module _ (a : Host) (k : ℕ) (m : Place) (p : Host) (k0 : Kept) where
   good_cls : (busy : List ℕ) (x y : ℕ) (o : Option Entry) (d : DeskState) → G d → G (cls_taken_by p busy x y o d)
   good_cls busy x y None d h = good_fault NO_SOCKET (command.Cls y x) d h
   good_cls busy x y (Some e) d h =
-      good_if a k m p k0 e.partner_closed d (swept p (settled busy (changed (is_at x y) closed_by_partner d))) h
-      (good_swept a k m p k0 (settled busy (changed (is_at x y) closed_by_partner d)) (good_settled a k m p k0 busy (changed (is_at x y) closed_by_partner d) (good_less a k m p k0 (is_at x y) closed_by_partner d heard_less heard_drains heard_refuses h)))
+      good_if a k m p k0 e.partner_closed d _ h
+      (good_swept a k m p k0 _ (good_settled a k m p k0 busy _ (good_less a k m p k0 (is_at x y) closed_by_partner d heard_less heard_drains heard_refuses h)))
 
   -- ---- a link
 
@@ -198,25 +198,25 @@ module _ (a : Host) (k : ℕ) (m : Place) (p : Host) (k0 : Kept) where
       open_by : (b : Bool) → is_open e ≡ b
           → G (at_end c change (if b then commands.Open e else (if is_ending e then commands.Ending else commands.Unconnected)) d)
       open_by true o = work e f o
-      open_by false o = ending_by (is_ending e) where
+      open_by false o = ending_by _ where
         ending_by : (b : Bool) → G (at_end c change (if b then commands.Ending else commands.Unconnected) d)
         ending_by true = h
         ending_by false = good_fault NOT_CONNECTED c d h
 
   sending_found : (link : ℕ) (d : DeskState) (e : Entry) → find (sends_on link) d.entries ≡ Some e
       → is_receiving e ≡ false
-  sending_found link d e f = not_is (is_receiving e) (both (not (is_receiving e)) (is_link link e.link) (split (sends_on link) (λ x. x) d.entries e f).passes).0
+  sending_found link d e f = not_is _ (both (not (is_receiving e)) (is_link link e.link) (split _ (λ x. x) d.entries e f).passes).0
 
   receiving_found : (link : ℕ) (d : DeskState) (e : Entry) → find (receives_on link) d.entries ≡ Some e
       → is_receiving e ≡ true
-  receiving_found link d e f = (both (is_receiving e) (is_link link e.link) (split (receives_on link) (λ x. x) d.entries e f).passes).0
+  receiving_found link d e f = (both (is_receiving e) (is_link link e.link) (split _ (λ x. x) d.entries e f).passes).0
 
   -- the counters of a sending end
   good_sender : (link : ℕ) (c : Entry → Allocation) (d : DeskState) (e : Entry)
       → find (sends_on link) d.entries ≡ Some e → is_open e ≡ true → G d
       → G (changed (sends_on link) (λ e. record e { allocation = c e }) d)
   good_sender link c d e f o h =
-      good_quiet a k m p k0 (sends_on link) (λ e. record e { allocation = c e }) d e f refl (λ e r. r)
+      good_quiet a k m p k0 _ _ d e f refl (λ e r. r)
       (λ is l κ i. at_still a k m p e (record e { allocation = c e }) l κ (open_opened e o)
       (λ x t there j. sender_still p e (c e) x t (life_receives a k e x is there ∙ sending_found link d e f) j) i) h
 
@@ -243,24 +243,24 @@ module _ (a : Host) (k : ℕ) (m : Place) (p : Host) (k0 : Kept) where
 
   pub good_taken : (busy : List ℕ) (stamp : ℕ) (c : Command) (d : DeskState) → G d → G (desk_taken p busy stamp c d)
   good_taken busy stamp (command.Rts receive send link) d h = good_rts send receive link stamp d h
-  good_taken busy stamp (command.Str send receive size) d h = good_str_by receive send size stamp (entry_at receive send d.entries) d refl h
-  good_taken busy stamp (command.Cls own foreign) d h = good_cls busy foreign own (entry_at foreign own d.entries) d h
+  good_taken busy stamp (command.Str send receive size) d h = good_str_by receive send size stamp _ d refl h
+  good_taken busy stamp (command.Cls own foreign) d h = good_cls busy foreign own _ d h
   good_taken busy stamp (command.All link messages bits) d h =
-      good_found (command.All link messages bits) (sends_on link) (commands.all_taken link messages bits) d
+      good_found (command.All link messages bits) _ (commands.all_taken link messages bits) d
       (λ e f o. good_sender link (λ e. counters.granted e.allocation messages bits) d e f o h) h
   good_taken busy stamp (command.Gvb link messages bits) d h =
-      good_found (command.Gvb link messages bits) (sends_on link) (gvb_taken link messages bits) d
-      (λ e f o. let done : G (changed (sends_on link) (λ e. record e { allocation = counters.given_back e.allocation messages bits }) d) = good_sender link (λ e. counters.given_back e.allocation messages bits) d e f o h in
+      good_found (command.Gvb link messages bits) _ (gvb_taken link messages bits) d
+      (λ e f o. let done : G (changed _ _ d) = good_sender link (λ e. counters.given_back e.allocation messages bits) d e f o h in
       record { refusing = done.refusing; on = done.on }) h
   good_taken busy stamp (command.Ret link messages bits) d h =
-      good_found (command.Ret link messages bits) (receives_on link) (ret_taken link messages bits) d (λ e f o. good_ret link messages bits d e f o h) h
+      good_found (command.Ret link messages bits) _ (ret_taken link messages bits) d (λ e f o. good_ret link messages bits d e f o h) h
   good_taken busy stamp (command.Inr link) d h =
-      good_found (command.Inr link) (sends_on link) interrupted d (λ e f o. good_aside a k m p k0 (notice.Interrupt e.own ∷ []) d (tt, tt) h) h
+      good_found (command.Inr link) _ interrupted d (λ e f o. good_aside a k m p k0 (notice.Interrupt e.own ∷ []) d (tt, tt) h) h
   good_taken busy stamp (command.Ins link) d h =
-      good_found (command.Ins link) (receives_on link) interrupted d (λ e f o. good_aside a k m p k0 (notice.Interrupt e.own ∷ []) d (tt, tt) h) h
-  good_taken busy stamp (command.Eco octet) d h = good_queued a k m p k0 (command.Erp octet) d h
-  good_taken busy stamp (command.Erp octet) d h = good_aside a k m p k0 (notice.Echoed p octet ∷ []) d (tt, tt) h
-  good_taken busy stamp (command.Err code detail) d h = good_aside a k m p k0 (notice.RemoteError p code detail ∷ []) d (tt, tt) h
+      good_found (command.Ins link) _ interrupted d (λ e f o. good_aside a k m p k0 (notice.Interrupt e.own ∷ []) d (tt, tt) h) h
+  good_taken busy stamp (command.Eco octet) d h = good_queued a k m p k0 _ d h
+  good_taken busy stamp (command.Erp octet) d h = good_aside a k m p k0 _ d (tt, tt) h
+  good_taken busy stamp (command.Err code detail) d h = good_aside a k m p k0 _ d (tt, tt) h
   good_taken busy stamp c d h = h
 
   -- ---- data
@@ -270,18 +270,18 @@ module _ (a : Host) (k : ℕ) (m : Place) (p : Host) (k0 : Kept) where
   good_arrived link text None d e headed f o h = record { refusing = h.refusing; on = h.on }
   good_arrived link text (Some g) d e headed f o h = by (is_acceptable e g) refl where
     mine : e.mine ≡ true
-    mine = open_mine e (refusing_found (receives_on link) d.entries e h.refusing f) o
+    mine = open_mine e (refusing_found _ d.entries e h.refusing f) o
 
     by : (b : Bool) → is_acceptable e g ≡ b
         → G (if b then arrived link e (data_bits g) text d else text_faulted ERRONEOUS text d)
     by true fits =
-        let ok : (0 < e.allocation.messages) × (data_bits g ≤ e.allocation.bits) = covered (data_bits g) e.allocation (both (is_size g.size e.size) (is_covered (data_bits g) e.allocation) fits).1 in
+        let ok : (0 < e.allocation.messages) × (data_bits g ≤ e.allocation.bits) = covered _ e.allocation (both (is_size g.size e.size) (is_covered (data_bits g) e.allocation) fits).1 in
         let ds : List Bool = data_of (data_bits g) text in
         let whole : length ds ≡ data_bits g = bits_there text g headed in
         good_changed a k m p k0 (receives_on link) (spent (data_bits g)) (notice.Arrived e.own ds ∷ []) d e f refl (λ e r. r)
         (λ is l κ i. at_here a k m p (carried ds) e (spent (data_bits g) e) l κ (all_told a (notice.Arrived e.own ds ∷ []) κ) is (open_opened e o) (λ x. refl)
         (λ x t there s j. let off : sends x ≡ true → ⊥ = λ q. life_sends a k ⊥ e x is there (receiving_found link d e f) q in
-        (taken_safe x t ds (data_bits g) e.allocation off ok whole (j.left (life_receives a k e x is there ∙ receiving_found link d e f)) s, taken_life p e x t ds (data_bits g) off ok whole j)) refl refl i)
+        (taken_safe x t ds (data_bits g) e.allocation off ok whole (j.left (life_receives a k e x is there ∙ receiving_found link d e f)) s, taken_life p e x t ds _ off ok whole j)) refl refl i)
         (λ off. (own_off k e mine off, tt)) h
     by false fits = record { refusing = h.refusing; on = h.on }
 
@@ -293,7 +293,7 @@ module _ (a : Host) (k : ℕ) (m : Place) (p : Host) (k0 : Kept) where
       open_by : (b : Bool) → is_open e ≡ b
           → G (data_found link text (if b then commands.Open e else (if is_ending e then commands.Ending else commands.Unconnected)) d)
       open_by true o = good_arrived link text (header_of text) d e refl f o h
-      open_by false o = ending_by (is_ending e) where
+      open_by false o = ending_by _ where
         ending_by : (b : Bool) → G (data_found link text (if b then commands.Ending else commands.Unconnected) d)
         ending_by true = h
         ending_by false = record { refusing = h.refusing; on = h.on }

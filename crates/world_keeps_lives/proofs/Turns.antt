@@ -69,13 +69,13 @@ module _ (a : Host) (k : ℕ) (m : Place) (p : Host) (k0 : Kept) where
   -- one that isn't ready had none
   none_gone : (ns : List Notice) (t : TurnState) → AreAside a k ns → is_ready t.pair.phase ≡ false → GoodTurn t → At a k m p [] (listens_on k t.listening) (all_told a ns (all_told a t.notices k0))
   none_gone ns t off idle h =
-      at_aside a k m p [] (listens_on k t.listening) ns (all_told a t.notices k0) off
+      at_aside a k m p [] _ ns _ off
       (subst (λ (es : List Entry). At a k m p (mine_on k es) (listens_on k t.listening) (all_told a t.notices k0)) (h.idle idle) h.on)
 
   pub good_reset : (t : TurnState) → GoodTurn t → GoodTurn (reset_taken p t)
   good_reset t h = by t.pair.phase refl where
     by : (ph : Phase) → t.pair.phase ≡ ph → GoodTurn (reset_taken p t)
-    by ph e = cleared (reset_notices p ph) t (reset_taken p t) refl refl (ap (λ (x : Phase). t.notices ++ reset_notices p x) e) (told_by ph e) where
+    by ph e = cleared _ t _ refl refl (ap (λ (x : Phase). t.notices ++ reset_notices p x) e) (told_by ph e) where
       idle : (ph : Phase) → t.pair.phase ≡ ph → is_ready ph ≡ false → is_ready t.pair.phase ≡ false
       idle ph e f = ap is_ready e ∙ f
 
@@ -92,14 +92,14 @@ module _ (a : Host) (k : ℕ) (m : Place) (p : Host) (k0 : Kept) where
   good_reply t h = record {
     refusing = h.refusing;
     idle = λ i. h.idle (reply_idle t.pair.phase i);
-    on = subst (λ (κ : Kept). At a k m p (mine_on k t.pair.entries) (listens_on k t.listening) κ) (sym (all_told_append a t.notices (reply_notices p t.pair.phase) k0))
-        (at_aside a k m p (mine_on k t.pair.entries) (listens_on k t.listening) (reply_notices p t.pair.phase) (all_told a t.notices k0) (reply_aside t.pair.phase) h.on);
+    on = subst (λ (κ : Kept). At a k m p (mine_on k t.pair.entries) (listens_on k t.listening) κ) (sym (all_told_append a t.notices _ k0))
+        (at_aside a k m p _ _ _ _ (reply_aside t.pair.phase) h.on);
   }
 
   -- ---- messages
 
   good_command : (stamp : ℕ) (c : Command) (t : TurnState) → GoodTurn t → GoodTurn (if_ready (desk_taken p t.pair.busy stamp c) t)
-  good_command stamp c t h = good_ready (desk_taken p t.pair.busy stamp c) t (good_taken a k m p (all_told a t.notices k0) t.pair.busy stamp c (desk_of t.pair t.listening)) h
+  good_command stamp c t h = good_ready (desk_taken p t.pair.busy stamp c) t (good_taken a k m p _ t.pair.busy stamp c (desk_of t.pair t.listening)) h
 
   good_legal : (stamp : ℕ) (c : Command) (t : TurnState) → GoodTurn t → GoodTurn (command_taken p stamp c t)
   good_legal stamp command.Rst t h = good_reset t h
@@ -108,7 +108,7 @@ module _ (a : Host) (k : ℕ) (m : Place) (p : Host) (k0 : Kept) where
 
   good_order : (stamp : ℕ) (o : Order) (t : TurnState) → GoodTurn t → GoodTurn (order_taken p stamp o t)
   good_order stamp (Legal c) t h = good_legal stamp c t h
-  good_order stamp (Wrong code octets) t h = good_ready (command_queued (error code octets)) t (good_queued a k m p (all_told a t.notices k0) (error code octets) (desk_of t.pair t.listening)) h
+  good_order stamp (Wrong code octets) t h = good_ready (command_queued (error code octets)) t (good_queued a k m p _ (error code octets) (desk_of t.pair t.listening)) h
 
   good_orders : (stamp : ℕ) (os : List Order) (t : TurnState) → GoodTurn t → GoodTurn (orders_taken p stamp os t)
   good_orders stamp [] t h = h
@@ -118,7 +118,7 @@ module _ (a : Host) (k : ℕ) (m : Place) (p : Host) (k0 : Kept) where
   good_message stamp link text t h = by (link == 0) where
     by : (b : Bool) → GoodTurn (if b then orders_taken p stamp (orders_of text) t else if_ready (data_taken link text) t)
     by true = good_orders stamp (orders_of text) t h
-    by false = good_ready (data_taken link text) t (good_data a k m p (all_told a t.notices k0) link text (desk_of t.pair t.listening)) h
+    by false = good_ready (data_taken link text) t (good_data a k m p _ link text (desk_of t.pair t.listening)) h
 
   -- ---- answers
 
@@ -134,10 +134,10 @@ module _ (a : Host) (k : ℕ) (m : Place) (p : Host) (k0 : Kept) where
   fails : (ph : Phase) (t : TurnState) → t.pair.phase ≡ ph → GoodTurn t → GoodTurn (failed_by p ph t)
   fails phase.Closed t e h = h
   fails phase.Want t e h = h
-  fails (phase.Gone early) t e h = cleared (notice.ContactFailed p ∷ []) t (closed (notice.ContactFailed p ∷ []) t) refl refl refl (none_gone (notice.ContactFailed p ∷ []) t (tt, tt) (ap is_ready e) h)
-  fails phase.Heard t e h = cleared (notice.ContactFailed p ∷ []) t (closed (notice.ContactFailed p ∷ []) t) refl refl refl (none_gone (notice.ContactFailed p ∷ []) t (tt, tt) (ap is_ready e) h)
+  fails (phase.Gone early) t e h = cleared _ t _ refl refl refl (none_gone (notice.ContactFailed p ∷ []) t (tt, tt) (ap is_ready e) h)
+  fails phase.Heard t e h = cleared _ t _ refl refl refl (none_gone (notice.ContactFailed p ∷ []) t (tt, tt) (ap is_ready e) h)
   fails phase.Ready t e h =
-      cleared (notice.PairReset p ∷ []) t (closed (notice.PairReset p ∷ []) t) refl refl refl (cleared_on (mine_on k t.pair.entries) (listens_on k t.listening) (all_told a t.notices k0) h.on)
+      cleared _ t _ refl refl refl (cleared_on _ _ _ h.on)
 
   good_failed : (t : TurnState) → GoodTurn t → GoodTurn (failed p t)
   good_failed t h = by (is_gone t.pair.phase || not t.pair.owed) where
@@ -147,6 +147,6 @@ module _ (a : Host) (k : ℕ) (m : Place) (p : Host) (k0 : Kept) where
 
   pub good_answer : (kind : Answer) (link : ℕ) (t : TurnState) → GoodTurn t → GoodTurn (answered_turn p kind link t)
   good_answer answer.Rfnm link t h =
-      good_settled_turn (record t { pair = record (freed link t.pair) { phase = if link == 0 then taken_phase t.pair.phase else t.pair.phase } })
+      good_settled_turn _
       (record { refusing = h.refusing; idle = λ i. h.idle (rfnm_idle (link == 0) t.pair.phase i); on = h.on })
-  good_answer kind link t h = good_failed (record t { pair = freed link t.pair }) (record { refusing = h.refusing; idle = h.idle; on = h.on })
+  good_answer kind link t h = good_failed _ (record { refusing = h.refusing; idle = h.idle; on = h.on })

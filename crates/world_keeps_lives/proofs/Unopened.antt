@@ -25,7 +25,7 @@ ending_still e f q h = by (has_cls e.closing) e.partner_closed refl refl where
   by : (v w : Bool) → has_cls e.closing ≡ v → e.partner_closed ≡ w → is_ending f ≡ true
   by true w g k = let t : has_cls f.closing ≡ true = q.closing g in rw t refl
   by false true g k = let t : f.partner_closed ≡ true = q.off k in rw t (or_right (has_cls f.closing) true refl)
-  by false false g k = let none : is_ending e ≡ false = (rw (g, k) refl) in no (is_ending e) h none
+  by false false g k = let none : is_ending e ≡ false = (rw (g, k) refl) in no _ h none
 
 module _ (p : Host) (own foreign : ℕ) where
   other : (n : Notice) → IsOther n → IsNoOpening p own foreign n
@@ -46,7 +46,7 @@ module _ (p : Host) (own foreign : ℕ) where
     ];
     others = other;
     opens = λ e a b shut asked partner goes at is there. elim (shut at is there) [
-      | inl h ↦ no (is_ending e) h goes
+      | inl h ↦ no _ h goes
       | inr none ↦ no_place a (sym none.0 ∙ asked)
     ];
     returns = λ e messages bits shut o. tt;
@@ -80,15 +80,15 @@ module _ (p : Host) (own foreign : ℕ) where
 
     at_first : (h g : Host) (New : Type 0) → AreShut h → Each (Shut g New) (pair_with g (program h moments).peers).entries
     at_first h g New shut =
-        each_weaker (λ (e : Entry). Contains (pair_with g (program h moments).peers).entries e) (Shut g New) (pair_with g (program h moments).peers).entries
+        each_weaker _ _ _
         (λ e there at is foreign_is. inl (shut e (subst (λ (x : Host). Contains (pair_with x (program h moments).peers).entries e) at there) is foreign_is))
-        (each_of (pair_with g (program h moments).peers).entries)
+        (each_of _)
 
     pub unopened : (y : Moment) → hosts.strange (host_in y) ≡ false → IsStory hosts (y ∷ moments) → AreShut (host_in y)
         → Each (IsNoOpening p own foreign) (notices_by y moments)
     unopened (Crossed (crossing.Out m)) plain story shut =
-        (offer_keeps (Shut m.flow.destination ⊥) (IsNoOpening p own foreign) m.flow.destination (shut_rules m.flow.destination ⊥) (program m.flow.source moments) (places moments) n.peer n.parcel n.order n.next
-        (sym (ap (λ (x : HostMessage). x.flow.destination) n.message)) (pair_range m.flow.destination (program m.flow.source moments).peers (programs_ranged hosts moments (served_in hosts moments time) m.flow.source plain).pairs).commands (may n.parcel) (at_first m.flow.source m.flow.destination ⊥ shut)).told where
+        (offer_keeps (Shut m.flow.destination ⊥) (IsNoOpening p own foreign) m.flow.destination (shut_rules m.flow.destination ⊥) _ _ n.peer n.parcel n.order n.next
+        (sym (ap (λ (x : HostMessage). x.flow.destination) n.message)) (pair_range m.flow.destination _ (programs_ranged hosts moments (served_in hosts moments time) m.flow.source plain).pairs).commands (may n.parcel) (at_first m.flow.source m.flow.destination ⊥ shut)).told where
           n : IsNext (program m.flow.source moments) m
           n = story.0 plain
 
@@ -96,11 +96,11 @@ module _ (p : Host) (own foreign : ℕ) where
           may (parcel.Commands count) = shut_goes m.flow.destination (places moments) _
           may z = tt
     unopened (Crossed (crossing.In m)) plain story shut =
-        (message_keeps (Shut m.flow.source (Unit {0})) (IsNoOpening p own foreign) m.flow.source (shut_rules m.flow.source (Unit {0})) (program m.flow.destination moments) m (places moments) refl
+        (message_keeps (Shut m.flow.source (Unit {0})) (IsNoOpening p own foreign) m.flow.source (shut_rules m.flow.source (Unit {0})) _ m _ refl
         ((λ zero. shut_hears m.flow.source (places moments) _), (λ off e k f o t. tt)) (at_first m.flow.destination m.flow.source (Unit {0}) shut)).told
     unopened (Crossed (crossing.Answer kind f)) plain story shut =
-        (answer_keeps (Shut f.destination ⊥) (IsNoOpening p own foreign) f.destination (shut_rules f.destination ⊥) (program f.source moments) kind f (places moments) refl (at_first f.source f.destination ⊥ shut)).told
+        (answer_keeps (Shut f.destination ⊥) (IsNoOpening p own foreign) f.destination (shut_rules f.destination ⊥) _ kind f _ refl (at_first f.source f.destination ⊥ shut)).told
     unopened (Crossed (crossing.Down g)) plain story shut = tt
     unopened (Crossed (crossing.Up g)) plain story shut = tt
     unopened (Asked h r) plain story shut =
-        request_told (Shut h ⊥) (IsNoOpening p own foreign) h (shut_rules h ⊥) (program h moments) r
+        request_told (Shut h ⊥) (IsNoOpening p own foreign) h (shut_rules h ⊥) _ r

@@ -98,7 +98,7 @@ module _ (hosts : Network) where
         → flow_of x link ≡ record { source = x.peer; destination = x.host; link = record { 0 = link } } → (v : Bool)
         → same_flow (flow_of x link) m.flow ≡ v → (if v then m.text ∷ [] else []) ≡ []
     taken m off is true f =
-        let same : record { source = x.peer; destination = x.host; link = record { 0 = link } } ≡ m.flow = sym is ∙ same_flow-true (flow_of x link) m.flow f in
+        let same : record { source = x.peer; destination = x.host; link = record { 0 = link } } ≡ m.flow = sym is ∙ same_flow-true _ m.flow f in
         absurd (off (
           subst (λ (h : Host). hosts.strange h ≡ false) (ap (λ (g : Flow). g.destination) same) two.0,
           subst (λ (h : Host). hosts.strange h ≡ false) (ap (λ (g : Flow). g.source) same) two.1,
@@ -109,7 +109,7 @@ module _ (hosts : Network) where
         → flow_of x link ≡ record { source = x.host; destination = x.peer; link = record { 0 = link } } → (v : Bool)
         → same_flow (flow_of x link) m.flow ≡ v → (if v then m.text ∷ [] else []) ≡ []
     sent m off is true f =
-        let same : record { source = x.host; destination = x.peer; link = record { 0 = link } } ≡ m.flow = sym is ∙ same_flow-true (flow_of x link) m.flow f in
+        let same : record { source = x.host; destination = x.peer; link = record { 0 = link } } ≡ m.flow = sym is ∙ same_flow-true _ m.flow f in
         absurd (off (
           subst (λ (h : Host). hosts.strange h ≡ false) (ap (λ (g : Flow). g.source) same) two.0,
           subst (λ (h : Host). hosts.strange h ≡ false) (ap (λ (g : Flow). g.destination) same) two.1,
@@ -142,7 +142,7 @@ module _ (hosts : Network) (given : Together hosts) where
         → Good hosts (y ∷ ms)
     calm y late follows silent still =
         good_calm hosts given y ms l late (story_by y ms follows) g still
-        (λ q there t goes o c is. quiet q there t c is (silent c is)) (λ m is two. off m is two (silent (crossing.Out m) is)) where
+        (λ q there t goes o c is. quiet q there t c is (silent c is)) (λ m is two. off m is two (silent _ is)) where
           quiet : (q : Linked) → Contains (lives_in hosts ms) q.life → Tracked ms q → (c : Crossing) → y ≡ Crossed c
               → IsControl c ⊎ IsAside hosts y → text_of (receives q.life) (flow_of q.life q.link) c ≡ []
           quiet q there t c is (inl control) = quiet_text (receives q.life) (flow_of q.life q.link) c (ap (λ (n : ℕ). n == 0) (flow_link q.life q.link) ∙ t.other) control
@@ -158,7 +158,7 @@ module _ (hosts : Network) (given : Together hosts) where
         → Good hosts (y ∷ ms)
     told_calm y late follows silent told =
         calm y late follows silent
-        (calm_moment hosts (lives_in hosts ms) (places ms) (crossings_of (y ∷ ms)) y ms (other_in y) told
+        (calm_moment hosts (lives_in hosts ms) (places ms) (crossings_of (y ∷ ms)) y ms _ told
         (λ two. stamped hosts l.0 ms l.1 l.2 (lives_in hosts ms) (all_due hosts given ms l) y two
         (λ m is. story_by y ms follows m is (let both_ours : AreOurs hosts m.flow.source m.flow.destination = subst (λ (z : Moment). AreOurs hosts (host_in z) (other_in z)) is two in both_ours.0))))
 
@@ -171,7 +171,7 @@ module _ (hosts : Network) (given : Together hosts) where
     module _ (a b : Host) (plain : hosts.strange a ≡ false) (on : hosts.strange b ≡ true) (e : Entry)
         (there : Contains (ends_in a b ms) e) (opened : is_open e ≡ true) where
       refusing : e.mine ≡ false → has_cls e.closing ≡ true
-      refusing = each_in (λ (f : Entry). f.mine ≡ false → has_cls f.closing ≡ true) (ends_in a b ms) e there (all_refuse (ends_in a b ms) ((holds hosts ms l.0 l.1 l.2 a plain 0).steady.refusing b))
+      refusing = each_in _ _ e there (all_refuse _ ((holds hosts ms l.0 l.1 l.2 a plain 0).steady.refusing b))
 
       elsewhere : (x : Life) → Contains (lives_in hosts ms) x → (v : Bool) → lives_at a e.own x ≡ v
           → lives_at a e.own x ≡ false
@@ -181,12 +181,12 @@ module _ (hosts : Network) (given : Together hosts) where
           let q : (same_host a x.host ≡ true) × ((x.socket == e.own) ≡ true) = both (same_host a x.host) (x.socket == e.own) p.0 in
           let o : HasOpenEnd (program x.host ms) x = live_now hosts given ms l x i (not_is x.ended p.1) in
           let here : Contains (ends_in x.host b ms) e = subst (λ (h : Host). Contains (ends_in h b ms) e) (same_host-true a x.host q.0) there in
-          let its : Contains (mine_on x.socket (ends_in x.host b ms)) e = each_in (λ (f : Entry). is_mine_on x.socket f ≡ true → Contains (mine_on x.socket (ends_in x.host b ms)) f) (ends_in x.host b ms) e here (in_filter (is_mine_on x.socket) (ends_in x.host b ms)) (mine_true x.socket e (open_mine e refusing opened) (sym (eqb-true x.socket e.own q.1))) in
+          let its : Contains (mine_on x.socket (ends_in x.host b ms)) e = each_in (λ (f : Entry). is_mine_on x.socket f ≡ true → Contains (mine_on x.socket (ends_in x.host b ms)) f) _ e here (in_filter _ _) (mine_true x.socket e (open_mine e refusing opened) (sym (eqb-true x.socket e.own q.1))) in
           nobody e (subst (λ (es : List Entry). Contains es e) (o.others b (apart x i (same_host b x.peer) refl)) its) where
             apart : (x : Life) → Contains (lives_in hosts ms) x → (v : Bool) → same_host b x.peer ≡ v
                 → same_host b x.peer ≡ false
             apart x i false f = f
-            apart x i true f = no (hosts.strange x.peer) (subst (λ (h : Host). hosts.strange h ≡ true) (same_host-true b x.peer f) on) (ours hosts given ms l x i).1
+            apart x i true f = no _ (subst (λ (h : Host). hosts.strange h ≡ true) (same_host-true b x.peer f) on) (ours hosts given ms l x i).1
 
       pub aside_good : (y : Moment) (bits : List Bool) → Lawful hosts (y ∷ ms) → Follows hosts y ms → IsAside hosts y
           → lives_in hosts (y ∷ ms) ≡ where_it (lives_at a e.own) (carried bits) (lives_in hosts ms)
@@ -194,8 +194,8 @@ module _ (hosts : Network) (given : Together hosts) where
       aside_good y bits late follows aside is =
           calm y late follows (λ c same. inr aside)
           (subst (λ (xs : List Life). Calm (lives_in hosts ms) (places ms) (crossings_of (y ∷ ms)) (lives_in hosts ms) xs)
-          (sym (is ∙ where_none (lives_at a e.own) (carried bits) (lives_in hosts ms) (each_all (λ (x : Life). lives_at a e.own x ≡ false) (lives_in hosts ms) (λ x i. elsewhere x i (lives_at a e.own x) refl))))
-          (calm_none (lives_in hosts ms) (places ms) (crossings_of (y ∷ ms)) (lives_in hosts ms)))
+          (sym (is ∙ where_none _ _ _ (each_all _ _ (λ x i. elsewhere x i (lives_at a e.own x) refl))))
+          (calm_none (lives_in hosts ms) (places ms) (crossings_of (y ∷ ms)) _))
 
     -- what a host with a program is notified of changes these lives as it changes all
     told_where : (y : Moment) (test : Life → Bool) (change : Life → Life) → hosts.strange (host_in y) ≡ false
@@ -204,7 +204,7 @@ module _ (hosts : Network) (given : Together hosts) where
         → lives_in hosts (y ∷ ms) ≡ where_it test change (lives_in hosts ms)
     told_where y test change own leaves is =
         ap (λ (v : Bool). lives_among hosts.strange (if v then crossed_only y (mixed_kept hosts.strange ms) else all_told (host_in y) (notices_by y ms) (kept_by y (mixed_kept hosts.strange ms))).book.lives) own
-        ∙ ap (lives_among hosts.strange) is ∙ among_where hosts.strange test change (mixed_kept hosts.strange ms).book.lives leaves
+        ∙ ap (lives_among hosts.strange) is ∙ among_where hosts.strange test change _ leaves
 
     -- ---- a message goes out
 
@@ -216,7 +216,7 @@ module _ (hosts : Network) (given : Together hosts) where
       quiet_out : (z : Parcel) → IsNoData z → link_for z ≡ 0
           → next_in (program m.flow.source ms).peers ≡ Some (n.peer, z)
           → m ≡ message_for (program m.flow.source ms).own n.peer z → Good hosts (Crossed (crossing.Out m) ∷ ms)
-      quiet_out z quiet zero next is = told_calm (Crossed (crossing.Out m)) late follows (λ c same. inl (control c same)) (λ off. offer_told hosts l.0 ms l.1 l.2 m plain n z quiet next is) where
+      quiet_out z quiet zero next is = told_calm _ late follows (λ c same. inl (control c same)) (λ off. offer_told hosts l.0 ms l.1 l.2 m plain n z quiet next is) where
         on : (m.flow.link.0 == 0) ≡ true
         on = eq-eqb m.flow.link.0 0 (ap (λ (x : HostMessage). x.flow.link.0) is ∙ zero)
 
@@ -230,17 +230,17 @@ module _ (hosts : Network) (given : Together hosts) where
         to = ap (λ (x : HostMessage). x.flow.destination) is
 
         same : pair_with m.flow.destination (program m.flow.source ms).peers ≡ n.peer.pair
-        same = subst (λ (y : Host). pair_with y (program m.flow.source ms).peers ≡ n.peer.pair) (sym to) (next_pair (program m.flow.source ms).peers n.peer (parcel.Bytes e size count) n.order next)
+        same = subst (λ (y : Host). pair_with y (program m.flow.source ms).peers ≡ n.peer.pair) (sym to) (next_pair _ n.peer _ n.order next)
 
         parcel_next : next_of n.peer.pair ≡ Some (parcel.Bytes e size count)
         parcel_next = next_is n.peer (parcel.Bytes e size count) (program m.flow.source ms).peers next
 
         may : MayGo n.peer.pair (parcel.Bytes e size count)
-        may = what_goes n.peer.pair (parcel.Bytes e size count) parcel_next
+        may = what_goes n.peer.pair _ parcel_next
 
         among : Contains (ends_in m.flow.source m.flow.destination ms) e
         among = subst (λ (q : PairState). Contains q.entries e) (sym same)
-            (found_in (λ (y : Entry). Contains n.peer.pair.entries y) (may_send_on n.peer.pair.busy (link_of e.link)) n.peer.pair.entries e (senders.next_is n.peer.pair e size count parcel_next) (each_of n.peer.pair.entries))
+            (found_in _ _ n.peer.pair.entries e (senders.next_is n.peer.pair e size count parcel_next) (each_of n.peer.pair.entries))
 
         text : drop 40 m.text ≡ take (size * count) e.bits
         text =
@@ -251,7 +251,7 @@ module _ (hosts : Network) (given : Together hosts) where
         linked = some_link e.link may.1.linked ∙ ap (λ (k : ℕ). Some k) (sym (ap (λ (x : HostMessage). x.flow.link.0) is))
 
         lives_are : lives_in hosts (Crossed (crossing.Out m) ∷ ms) ≡ where_it (lives_at m.flow.source e.own) (carried (take (size * count) e.bits)) (lives_in hosts ms)
-        lives_are = told_where (Crossed (crossing.Out m)) (lives_at m.flow.source e.own) (carried (take (size * count) e.bits)) plain (λ x. (refl, refl))
+        lives_are = told_where (Crossed (crossing.Out m)) _ _ plain (λ x. (refl, refl))
             (ap (λ (ns : List Notice). (all_told m.flow.source ns (kept_by (Crossed (crossing.Out m)) (mixed_kept hosts.strange ms))).book.lives) (bytes_told (program m.flow.source ms) (places ms) n.peer e size count next))
 
         -- a life on whose flow it is
@@ -266,7 +266,7 @@ module _ (hosts : Network) (given : Together hosts) where
             → (text_of (receives x) (flow_of x link) (crossing.Out m) ≡ m.text ∷ []) × (data_in (receives x) m.text ≡ Some (take (size * count) e.bits))
         hit x link host peer socket its =
             let f : (receives x ≡ false) × (m.flow ≡ flow_of x link) = on_flow x link host peer socket its in (
-              ap (λ (v : Bool). text_of v (flow_of x link) (crossing.Out m)) f.0 ∙ text_here false (flow_of x link) m.flow m.text f.1,
+              ap (λ (v : Bool). text_of v (flow_of x link) (crossing.Out m)) f.0 ∙ text_here false _ m.flow m.text f.1,
               ap (λ (v : Bool). data_in v m.text) f.0 ∙ ap (λ (bs : List Bool). Some bs) text,
             )
 
@@ -290,20 +290,20 @@ module _ (hosts : Network) (given : Together hosts) where
               let h : same_host m.flow.source p.life.host ≡ true = subst (λ (x : Host). same_host m.flow.source x ≡ true) (sym host) (same_host-refl m.flow.source) in
               let s : (p.life.socket == e.own) ≡ true = eq-eqb p.life.socket e.own socket in
               let on : lives_at m.flow.source e.own p.life ≡ true = rw (h, s, goes) refl in
-              no (lives_at m.flow.source e.own p.life) on off where
+              no _ on off where
                 sends : (x : Entry) → is_receiving x ≡ false → x.link ≡ Some p.link → sends_on p.link x ≡ true
                 sends x k is = let s : is_link p.link x.link ≡ true = ap (is_link p.link) is ∙ eq-eqb p.link p.link refl in rw (k, s) refl
 
           by : (v : Bool) → receives p.life ≡ v → text_of v (flow_of p.life p.link) (crossing.Out m) ≡ []
           by true kind = refl
-          by false kind = flows (same_flow (flow_of p.life p.link) m.flow) refl where
+          by false kind = flows _ refl where
             flows : (v : Bool) → same_flow (flow_of p.life p.link) m.flow ≡ v → (if v then m.text ∷ [] else []) ≡ []
-            flows true f = absurd (never kind (same_flow-true (flow_of p.life p.link) m.flow f))
+            flows true f = absurd (never kind (same_flow-true _ m.flow f))
             flows false f = refl
 
         bytes_out : hosts.strange m.flow.destination ≡ false → Good hosts (Crossed (crossing.Out m) ∷ ms)
         bytes_out off =
-            good_data hosts given (Crossed (crossing.Out m)) ms l late (story_by (Crossed (crossing.Out m)) ms follows) g (crossing.Out m) refl m.flow.source m.flow.destination (plain, off) e m.text (take (size * count) e.bits) among may.1.is_opened lives_are hit missed
+            good_data hosts given (Crossed (crossing.Out m)) ms l late (story_by _ ms follows) g (crossing.Out m) refl m.flow.source m.flow.destination (plain, off) e m.text (take (size * count) e.bits) among may.1.is_opened lives_are hit missed
             (λ k two x link host peer socket its. subst (λ (w : HostMessage). (receives x ≡ false) × (w.flow ≡ flow_of x link)) (same_out m k two) (on_flow x link host peer socket its))
 
         bytes_good : Good hosts (Crossed (crossing.Out m) ∷ ms)
@@ -340,18 +340,18 @@ module _ (hosts : Network) (given : Together hosts) where
       taken_text p never = by (receives p.life) refl where
         by : (v : Bool) → receives p.life ≡ v → text_of v (flow_of p.life p.link) (crossing.In m) ≡ []
         by false kind = refl
-        by true kind = flows (same_flow (flow_of p.life p.link) m.flow) refl where
+        by true kind = flows _ refl where
           flows : (v : Bool) → same_flow (flow_of p.life p.link) m.flow ≡ v → (if v then m.text ∷ [] else []) ≡ []
-          flows true f = absurd (never kind (same_flow-true (flow_of p.life p.link) m.flow f))
+          flows true f = absurd (never kind (same_flow-true _ m.flow f))
           flows false f = refl
 
       taken_none : notices_by (Crossed (crossing.In m)) ms ≡ []
           → Calm (lives_in hosts ms) (places ms) (crossings_of (Crossed (crossing.In m) ∷ ms)) (lives_in hosts ms) (lives_in hosts (Crossed (crossing.In m) ∷ ms))
       taken_none none =
           subst (λ (xs : List Life). Calm (lives_in hosts ms) (places ms) (crossings_of (Crossed (crossing.In m) ∷ ms)) (lives_in hosts ms) xs)
-          (sym (told_where (Crossed (crossing.In m)) (λ x. false) (λ x. x) plain (λ x. (refl, refl)) (ap (λ (ns : List Notice). (all_told m.flow.destination ns (kept_by (Crossed (crossing.In m)) (mixed_kept hosts.strange ms))).book.lives) none ∙ sym (where_none (λ x. false) (λ x. x) (mixed_kept hosts.strange ms).book.lives (each_all (λ (x : Life). false ≡ false) (mixed_kept hosts.strange ms).book.lives (λ x i. refl))))
-          ∙ where_none (λ x. false) (λ x. x) (lives_in hosts ms) (each_all (λ (x : Life). false ≡ false) (lives_in hosts ms) (λ x i. refl))))
-          (calm_none (lives_in hosts ms) (places ms) (crossings_of (Crossed (crossing.In m) ∷ ms)) (lives_in hosts ms))
+          (sym (told_where (Crossed (crossing.In m)) (λ x. false) (λ x. x) plain (λ x. (refl, refl)) (ap (λ (ns : List Notice). (all_told m.flow.destination ns (kept_by (Crossed (crossing.In m)) (mixed_kept hosts.strange ms))).book.lives) none ∙ sym (where_none (λ x. false) (λ x. x) _ (each_all (λ (x : Life). false ≡ false) (mixed_kept hosts.strange ms).book.lives (λ x i. refl))))
+          ∙ where_none _ (λ x. x) _ (each_all _ _ (λ x i. refl))))
+          (calm_none (lives_in hosts ms) (places ms) (crossings_of (Crossed (crossing.In m) ∷ ms)) _)
 
       taken_ours : hosts.strange m.flow.source ≡ false
           → TakesIf m.flow.link.0 m.text (ends_in m.flow.destination m.flow.source ms) (notices_by (Crossed (crossing.In m)) ms)
@@ -431,9 +431,9 @@ module _ (hosts : Network) (given : Together hosts) where
     own_good (Crossed (crossing.Out m)) late follows plain = out_good m late follows plain
     own_good (Crossed (crossing.In m)) late follows plain = in_good m late follows plain
     own_good (Crossed (crossing.Answer kind f)) late follows plain =
-        told_calm (Crossed (crossing.Answer kind f)) late follows (λ c two. inl (subst (λ (d : Crossing). IsControl d) (let same : crossing.Answer kind f ≡ c = cc in same) tt)) (λ off. answer_told hosts l.0 ms l.1 l.2 kind f plain)
-    own_good (Crossed (crossing.Down h)) late follows plain = told_calm (Crossed (crossing.Down h)) late follows (λ c two. inl (subst (λ (d : Crossing). IsControl d) (let same : crossing.Down h ≡ c = cc in same) tt)) (λ off. tt)
-    own_good (Crossed (crossing.Up h)) late follows plain = told_calm (Crossed (crossing.Up h)) late follows (λ c two. inl (subst (λ (d : Crossing). IsControl d) (let same : crossing.Up h ≡ c = cc in same) tt)) (λ off. tt)
+        told_calm _ late follows (λ c two. inl (subst (λ (d : Crossing). IsControl d) (let same : crossing.Answer kind f ≡ c = cc in same) tt)) (λ off. answer_told hosts l.0 ms l.1 l.2 kind f plain)
+    own_good (Crossed (crossing.Down h)) late follows plain = told_calm _ late follows (λ c two. inl (subst (λ (d : Crossing). IsControl d) (let same : crossing.Down h ≡ c = cc in same) tt)) (λ off. tt)
+    own_good (Crossed (crossing.Up h)) late follows plain = told_calm _ late follows (λ c two. inl (subst (λ (d : Crossing). IsControl d) (let same : crossing.Up h ≡ c = cc in same) tt)) (λ off. tt)
     own_good (Asked h r) late follows plain = told_calm (Asked h r) late follows (λ c two. absurd (let no_two : Asked h r ≡ Crossed c = two in cc)) (λ off. asking_told hosts ms h r)
 
     one_more : (y : Moment) → Lawful hosts (y ∷ ms) → Follows hosts y ms → Good hosts (y ∷ ms)
@@ -468,7 +468,7 @@ module _ (hosts : Network) (given : Together hosts) where
   pub linked_book : (ms : List Moment) → Lawful hosts ms → LinkedBook hosts (crossings_of ms) (lives_in hosts ms)
   linked_book ms l =
       let g : Good hosts ms = good ms l in
-      record { links = g.links; all = g.all; first = λ p there. (each_in (Tracked ms) g.links p there g.tracked).first; apart = all_apart (crossings_of ms) g.links g.apart; sent = g.sent }
+      record { links = g.links; all = g.all; first = λ p there. (each_in _ g.links p there g.tracked).first; apart = all_apart _ g.links g.apart; sent = g.sent }
 
   -- the end of a life that isn't over has a link
   abbrev HasLink : List Moment → Life → Type 0
@@ -510,8 +510,8 @@ module _ (hosts : Network) (given : Together hosts) where
   was_or_begins y ms l late x there =
       let g : Good hosts (y ∷ ms) = good (y ∷ ms) late in
       let f : From life_of g.links x = from_map life_of g.links x (subst (λ (ls : List Life). Contains ls x) (sym g.all) there) in
-      let t : Tracked (y ∷ ms) f.one = each_in (Tracked (y ∷ ms)) g.links f.one f.there g.tracked in
-      subst (WasOrBegins y ms) f.is (from f.one (subst (λ (z : Life). Contains (lives_in hosts (y ∷ ms)) z) (sym f.is) there) t (each_in (IsGrown hosts (y ∷ ms)) g.links f.one f.there g.grown)) where
+      let t : Tracked (y ∷ ms) f.one = each_in _ g.links f.one f.there g.tracked in
+      subst (WasOrBegins y ms) f.is (from f.one (subst (λ (z : Life). Contains (lives_in hosts (y ∷ ms)) z) (sym f.is) there) t (each_in _ g.links f.one f.there g.grown)) where
         from : (p : Linked) → Contains (lives_in hosts (y ∷ ms)) p.life → Tracked (y ∷ ms) p → IsGrown hosts (y ∷ ms) p
             → WasOrBegins y ms p.life
         from p here t (inr now) goes o link linked = inr now

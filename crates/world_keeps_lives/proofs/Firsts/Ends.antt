@@ -41,7 +41,7 @@ orders_each [] h = tt
 orders_each (o ∷ os) h = (h.0, orders_each os h.1)
 
 order_there : (text : List Bool) (c : Command) → Contains (orders_of text) (Legal c) → IsCommand c
-order_there text c there = each_in IsOrder (orders_of text) (Legal c) there (orders_each (orders_of text) (text_good text))
+order_there text c there = each_in IsOrder _ (Legal c) there (orders_each _ (text_good text))
 
 pub not_zero : (link : ℕ) → is_connection_link link ≡ true → (link == 0) ≡ false
 not_zero link e = by (link == 0) refl where
@@ -53,14 +53,14 @@ rts_off : (text : List Bool) (own foreign link : ℕ) → is_receive_socket own 
     → Contains (orders_of text) (Legal (request own foreign link)) → (link == 0) ≡ false
 rts_off text own foreign link even there =
     let c : request own foreign link ≡ command.Rts own foreign link = ap (λ (b : Bool). if b then command.Rts own foreign link else command.Str own foreign link) even in
-    let ok : IsCommand (command.Rts own foreign link) = order_there text (command.Rts own foreign link) (subst (λ (d : Command). Contains (orders_of text) (Legal d)) c there) in
+    let ok : IsCommand (command.Rts own foreign link) = order_there text _ (subst (λ (d : Command). Contains (orders_of text) (Legal d)) c there) in
     not_zero link ok.4
 
 pub str_foreign : (text : List Bool) (own foreign size : ℕ) → is_receive_socket own ≡ false
     → Contains (orders_of text) (Legal (request own foreign size)) → is_receive_socket foreign ≡ true
 str_foreign text own foreign size odd there =
     let c : request own foreign size ≡ command.Str own foreign size = ap (λ (b : Bool). if b then command.Rts own foreign size else command.Str own foreign size) odd in
-    let ok : IsCommand (command.Str own foreign size) = order_there text (command.Str own foreign size) (subst (λ (d : Command). Contains (orders_of text) (Legal d)) c there) in
+    let ok : IsCommand (command.Str own foreign size) = order_there text _ (subst (λ (d : Command). Contains (orders_of text) (Legal d)) c there) in
     ok.3
 
 pub linked_off : (log : List Crossing) (p : Linked) → HasRequests log p → (p.link == 0) ≡ false
@@ -205,10 +205,10 @@ flow_link x link = by (receives x) where
 
 module _ (ms : List Moment) (p : Linked) (t : Tracked ms p) where
   pub asked_before : p.life.own_stamp < length (crossings_of ms)
-  asked_before = crossed_below p.life.own_stamp (going t.first.asked.own.message) (crossings_of ms) t.first.asked.own.crossed
+  asked_before = crossed_below p.life.own_stamp _ _ t.first.asked.own.crossed
 
   pub answered_before : p.life.partner_stamp < length (crossings_of ms)
-  answered_before = crossed_below p.life.partner_stamp (coming t.first.asked.partner.message) (crossings_of ms) t.first.asked.partner.crossed
+  answered_before = crossed_below p.life.partner_stamp _ _ t.first.asked.partner.crossed
 
   pub begun_before : begun p.life ≤ length (crossings_of ms)
   begun_before =
@@ -247,22 +247,22 @@ module _ (hosts : Network) (given : Together hosts) where
   module _ (ms : List Moment) (l : Lawful hosts ms) where
     -- each of them is in the book, and between two such hosts
     pub ours : (x : Life) → Contains (lives_in hosts ms) x → AreOurs hosts x.host x.peer
-    ours x there = (in_book hosts (mixed_kept hosts.strange ms).book.lives x there).1
+    ours x there = (in_book hosts _ x there).1
 
     -- the end of one that isn't over
     pub live_now : (x : Life) → Contains (lives_in hosts ms) x → x.ended ≡ false → HasOpenEnd (program x.host ms) x
-    live_now x there goes = live hosts ms l.0 l.1 l.2 x (ours x there).0 (in_book hosts (mixed_kept hosts.strange ms).book.lives x there).0 goes
+    live_now x there goes = live hosts ms l.0 l.1 l.2 x (ours x there).0 (in_book hosts _ x there).0 goes
 
     -- the one end of a life that isn't over
     pub is_end : (x : Life) (o : HasOpenEnd (program x.host ms) x) (e : Entry) → Contains (ends_in x.host x.peer ms) e
         → e.mine ≡ true → e.own ≡ x.socket → e ≡ o.end
-    is_end x o e there mine own = each_in (λ (f : Entry). f.mine ≡ true → f.own ≡ x.socket → f ≡ o.end) (ends_in x.host x.peer ms) e there (alone_on x.socket (ends_in x.host x.peer ms) o.end o.one) mine own
+    is_end x o e there mine own = each_in (λ (f : Entry). f.mine ≡ true → f.own ≡ x.socket → f ≡ o.end) (ends_in x.host x.peer ms) e there (alone_on x.socket _ o.end o.one) mine own
 
     pub owned : (a b : Host) → AreOurs hosts a b → (e : Entry) → Contains (ends_in a b ms) e → is_open e ≡ true
         → Owner hosts a b ms e
     owned a b two e there opened = from (given.owner ms l a b two e there mine opened) where
       ground : Grounded a b (crossings_of ms) e
-      ground = each_in (Grounded a b (crossings_of ms)) (ends_in a b ms) e there (grounds hosts l.0 ms l.1 l.2 a b two)
+      ground = each_in (Grounded a b (crossings_of ms)) _ e there (grounds hosts l.0 ms l.1 l.2 a b two)
 
       mine : e.mine ≡ true
       mine = open_mine e ground.refusing opened
@@ -287,7 +287,7 @@ module _ (hosts : Network) (given : Together hosts) where
 
     -- so each open end has a life of its own request
     pub all_due : (a b : Host) → AreOurs hosts a b → Each (Due (lives_in hosts ms) (places ms)) (ends_in a b ms)
-    all_due a b two = each_all (Due (lives_in hosts ms) (places ms)) (ends_in a b ms) (λ e there opened u v asked partner.
+    all_due a b two = each_all _ _ (λ e there opened u v asked partner.
         (let w : Owner hosts a b ms e = owned a b two e there opened in
         inr (inr (record { life = w.life; there = w.there; place = same_Some w.life.own_stamp u (sym w.asked ∙ asked); socket = sym w.socket; foreign_is = sym w.foreign }))))
 

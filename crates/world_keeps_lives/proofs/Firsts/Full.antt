@@ -49,7 +49,7 @@ module _ (f : Flow) (a b : ℕ) where
     partner = k.partner;
     older = ap (λ (ts : List (List Bool)). length ts) (texts_same false f a b c log none) ∙ k.older
         ∙ ap (λ (xs : List Crossing). length (texts_of false f a b xs) + 1) (sym (before_still k.place c log
-        (let less : k.place < length log = crossed_below k.place (crossing.Out k.message) log k.crossed in
+        (let less : k.place < length log = crossed_below k.place _ log k.crossed in
         omega (arith, less))));
   }
 
@@ -68,7 +68,7 @@ module _ (f : Flow) (a b : ℕ) where
         partner = behind;
         older = ap (λ (ts : List (List Bool)). length ts) one ∙ length-append (texts_of false f a b log) (m.text ∷ [])
             ∙ ap (λ (xs : List Crossing). length (texts_of false f a b xs) + 1) (sym (before_here
-            (crossing.Out m) log));
+            _ log));
       }
 
   latest_early : (c : Crossing) (log : List Crossing) → length log ≤ max a b
@@ -101,14 +101,14 @@ module _ (f : Flow) (a b : ℕ) where
           ltb-false b (length log) j in omega (arith, less)) some
 
     by : (d : Crossing) → c ≡ d → (1 ≤ length (texts_of false f a b log) → Latest f a b log) → Latest f a b (c ∷ log)
-    by (crossing.Out m) is rest = sent (same_flow f m.flow) refl where
+    by (crossing.Out m) is rest = sent _ refl where
       sent : (v : Bool) → same_flow f m.flow ≡ v → Latest f a b (c ∷ log)
       sent true same = out m is same
       sent false other = still (crossing.Out m) is (rw other refl) (rw other refl) rest
     by (crossing.In m) is rest = still (crossing.In m) is refl refl rest
     by (crossing.Answer kind g) is rest = still (crossing.Answer kind g) is refl refl rest
     by (crossing.Down h) is rest = still (crossing.Down h) is refl refl rest
-    by (crossing.Up h) is rest = still (crossing.Up h) is refl refl rest
+    by (crossing.Up h) is rest = still _ is refl refl rest
 
 -- ---- fewer went out before an earlier place
 
@@ -139,8 +139,7 @@ first_or : (z p : Linked) (zs : List Linked) → Contains (z ∷ zs) p → (p �
 first_or z p zs there =
     each_in (λ (y : Linked). (y ≡ z) ⊎ Contains zs y) (z ∷ zs) p there (
       inl refl,
-      each_weaker (λ (y : Linked). Contains zs y) (λ (y : Linked). (y
-          ≡ z) ⊎ Contains zs y) zs (λ y i. inr i) (each_of zs),
+      each_weaker _ _ zs (λ y i. inr i) (each_of zs),
     )
 
 in_order : (R : Linked → Linked → Type 0) (ps : List Linked) → Pairwise R ps → (p q : Linked) → Contains ps p
@@ -150,9 +149,9 @@ in_order R (z ∷ zs) h p q i j = by (first_or z p zs i) (first_or z q zs j) (λ
   by : (p ≡ z) ⊎ Contains zs p → (q ≡ z) ⊎ Contains zs q → (Contains zs p → Contains zs q → (p ≡ q) ⊎ (R p q ⊎ R q p))
       → (p ≡ q) ⊎ (R p q ⊎ R q p)
   by (inl e) (inl g) rest = inl (e ∙ sym g)
-  by (inl e) (inr k) rest = inr (inl (subst (λ (w : Linked). R w q) (sym e) (each_in (λ (w : Linked). R z w) zs q k
+  by (inl e) (inr k) rest = inr (inl (subst (λ (w : Linked). R w q) (sym e) (each_in _ zs q k
       (after_each R z zs h.0))))
-  by (inr k) (inl g) rest = inr (inr (subst (λ (w : Linked). R w p) (sym g) (each_in (λ (w : Linked). R z w) zs p k
+  by (inr k) (inl g) rest = inr (inr (subst (λ (w : Linked). R w p) (sym g) (each_in _ zs p k
       (after_each R z zs h.0))))
   by (inr k) (inr n) rest = rest k n
 
@@ -214,8 +213,7 @@ module _ (hosts : Network) (given : Together hosts) (ms : List Moment) (l : Lawf
             k.own in omega (arith, o)) (let o : p.life.partner_stamp < k.place = k.partner in omega (arith, o)) in
             let less : length (texts_for q.life q.link (before (begun p.life) (crossings_of ms))) ≤ length
             (texts_for q.life q.link (before k.place (crossings_of ms))) =
-            fewer (receives q.life) (flow_of q.life q.link) q.life.own_stamp q.life.partner_stamp (length
-            (crossings_of ms) - k.place) (length (crossings_of ms) - begun p.life) (crossings_of ms) (omega
+            fewer _ _ q.life.own_stamp q.life.partner_stamp _ _ (crossings_of ms) (omega
             (arith, below)) in
             absurd (omega (arith, c, all, less)))
       ]
@@ -226,14 +224,14 @@ module _ (hosts : Network) (given : Together hosts) (ms : List Moment) (l : Lawf
       by zero e = omega (arith, e)
       by (suc n) e =
           let k : Latest (flow_of p.life p.link) p.life.own_stamp p.life.partner_stamp (crossings_of ms) =
-          latest (flow_of p.life p.link) p.life.own_stamp p.life.partner_stamp (crossings_of ms) (omega (arith, e)) in
+          latest _ p.life.own_stamp p.life.partner_stamp (crossings_of ms) (omega (arith, e)) in
           let off : (k.message.flow.link.0 == 0) ≡ false = ap (λ (f : Flow). f.link.0 == 0) k.flow
           ∙ ap (λ (n : ℕ). n == 0) (flow_link p.life p.link) ∙ t.other in
           let between : AreOurs hosts k.message.flow.source k.message.flow.destination =
           subst (λ (f : Flow). AreOurs hosts f.source f.destination) (sym (k.flow ∙ sends_to)) two in
           let s : (q : Linked) × Contains g.links q × IsSentIn (crossings_of ms) k.place k.message q =
           g.sent k.place k.message between k.crossed off in
-          elim (in_order (Apart (crossings_of ms)) g.links g.apart p s.0 there s.1) [
+          elim (in_order _ g.links g.apart p s.0 there s.1) [
             | inl e ↦ itself k s.0 s.2 e
             | inr two ↦ elim two [
               | inl apart ↦ later k s.0 s.2 apart
@@ -261,7 +259,7 @@ module _ (hosts : Network) (given : Together hosts) (ms : List Moment) (l : Lawf
       let g : Good hosts ms = good hosts given ms l in
       let f : From life_of g.links x = from_map life_of g.links x (subst (λ (ls : List Life). Contains ls x)
       (sym g.all) there) in
-      let t : Tracked ms f.one = each_in (Tracked ms) g.links f.one f.there g.tracked in
+      let t : Tracked ms f.one = each_in _ g.links f.one f.there g.tracked in
       let two : AreOurs hosts f.one.life.host f.one.life.peer =
       ours hosts given ms l f.one.life (subst (λ (z : Life). Contains (lives_in hosts ms) z) (sym f.is) there) in
       subst HasAll f.is (whole g f.one two f.there t)
@@ -308,4 +306,4 @@ module _ (hosts : Network) (given : Together hosts) (y : Moment) (ms : List Mome
       let g : Good hosts (y ∷ ms) = good hosts given (y ∷ ms) l in
       let f : From life_of g.links x = from_map life_of g.links x (subst (λ (ls : List Life). Contains ls x)
       (sym g.all) there) in
-      subst Were f.is (from_grown f.one (each_in (IsGrown hosts (y ∷ ms)) g.links f.one f.there g.grown))
+      subst Were f.is (from_grown f.one (each_in _ g.links f.one f.there g.grown))

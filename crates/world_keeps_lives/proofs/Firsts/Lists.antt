@@ -13,7 +13,7 @@ each_two P Q R (x ∷ xs) k h j = (k x h.0 j.0, each_two P Q R xs k h.1 j.1)
 
 -- what holds of all that a list has
 pub each_all : {A : Type 0} (Q : A → Type 0) (xs : List A) → ((x : A) → Contains xs x → Q x) → Each Q xs
-each_all Q xs k = each_weaker (λ x. Contains xs x) Q xs k (each_of xs)
+each_all Q xs k = each_weaker _ Q xs k (each_of xs)
 
 pub each_changed : {A : Type 0} (P Q : A → Type 0) (f : A → A) (xs : List A) → ((x : A) → P x → Q (f x)) → Each P xs
     → Each Q (map f xs)
@@ -23,10 +23,10 @@ each_changed P Q f (x ∷ xs) k h = (k x h.0, each_changed P Q f xs k h.1)
 all_mapped : {A B : Type 0} (f : A → B) (xs : List A) → Each (λ (x : A). Contains (map f xs) (f x)) xs
 all_mapped f [] = tt
 all_mapped {A} f (x ∷ xs) =
-    (contains_head (f x) (map f xs), each_weaker (λ (y : A). Contains (map f xs) (f y)) (λ (y : A). Contains (f x ∷ map f xs) (f y)) xs (λ y there. contains_tail (f x) (map f xs) (f y) there) (all_mapped f xs))
+    (contains_head (f x) (map f xs), each_weaker _ _ xs (λ y there. contains_tail (f x) (map f xs) (f y) there) (all_mapped f xs))
 
 pub mapped : {A B : Type 0} (f : A → B) (xs : List A) (x : A) → Contains xs x → Contains (map f xs) (f x)
-mapped {A} f xs x there = each_in (λ (y : A). Contains (map f xs) (f y)) xs x there (all_mapped f xs)
+mapped {A} f xs x there = each_in _ xs x there (all_mapped f xs)
 
 pub record From {A B : Type 0} (f : A → B) (xs : List A) (y : B) : Type 0 where
   pub one : A
@@ -37,11 +37,11 @@ all_from : {A B : Type 0} (f : A → B) (xs : List A) → Each (λ (y : B). From
 all_from f [] = tt
 all_from {A} {B} f (x ∷ xs) = (
   record { one = x; there = contains_head x xs; is = refl },
-  each_weaker (λ (y : B). From f xs y) (λ (y : B). From f (x ∷ xs) y) (map f xs) (λ y k. record { one = k.one; there = contains_tail x xs k.one k.there; is = k.is }) (all_from f xs),
+  each_weaker _ _ (map f xs) (λ y k. record { one = k.one; there = contains_tail x xs k.one k.there; is = k.is }) (all_from f xs),
 )
 
 pub from_map : {A B : Type 0} (f : A → B) (xs : List A) (y : B) → Contains (map f xs) y → From f xs y
-from_map {A} {B} f xs y there = each_in (λ (z : B). From f xs z) (map f xs) y there (all_from f xs)
+from_map {A} {B} f xs y there = each_in _ (map f xs) y there (all_from f xs)
 
 -- ---- each two of a list, the one before the other
 
@@ -128,15 +128,15 @@ pub all_distinct : (front : List Life) (ps : List Linked)
     → Pairwise AreDistinct ps
 all_distinct front [] once = tt
 all_distinct front (p ∷ ps) once = (
-  after_all AreDistinct (λ q. Contains ps q) p ps
+  after_all AreDistinct _ p ps
       (λ q there. once p.life q.life
-      (let t : AreTwo ((front ++ p.life ∷ []) ++ map life_of ps) p.life q.life = two_in (front ++ p.life ∷ []) (map life_of ps) p.life q.life (behind p.life front) (mapped life_of ps q there) in
+      (let t : AreTwo ((front ++ p.life ∷ []) ++ map life_of ps) p.life q.life = two_in _ _ p.life q.life (behind p.life front) (mapped life_of ps q there) in
       subst (λ (l : List Life). AreTwo l p.life q.life) (append_assoc front (p.life ∷ []) (map life_of ps)) t)) (each_of ps),
   all_distinct (front ++ p.life ∷ []) ps (λ x y two. once x y (subst (λ (l : List Life). AreTwo l x y) (append_assoc front (p.life ∷ []) (map life_of ps)) two)),
 ) where
   behind : (x : Life) (xs : List Life) → Contains (xs ++ x ∷ []) x
   behind x [] = contains_head x []
-  behind x (y ∷ xs) = contains_tail y (xs ++ x ∷ []) x (behind x xs)
+  behind x (y ∷ xs) = contains_tail y _ x (behind x xs)
 
 pub map_life : (f : Linked → Linked) (g : Life → Life) → ((p : Linked) → (f p).life ≡ g p.life) → (ps : List Linked)
     → map life_of (map f ps) ≡ map g (map life_of ps)

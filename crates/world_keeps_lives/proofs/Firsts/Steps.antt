@@ -24,18 +24,18 @@ use Rattle.interface.proofs.lemmas.{not_true, contains_head, contains_tail}
 
 first_later : (y : Moment) (ms : List Moment) (p : Linked) → IsFirst (crossings_of ms) p
     → IsFirst (crossings_of (y ∷ ms)) p
-first_later (Crossed c) ms p f = first_still c (crossings_of ms) p f
+first_later (Crossed c) ms p f = first_still c _ p f
 first_later (Asked h r) ms p f = f
 
 before_later : (y : Moment) (ms : List Moment) (place : ℕ) → place ≤ length (crossings_of ms)
     → before place (crossings_of (y ∷ ms)) ≡ before place (crossings_of ms)
-before_later (Crossed c) ms place less = before_still place c (crossings_of ms) less
+before_later (Crossed c) ms place less = before_still place c _ less
 before_later (Asked h r) ms place less = refl
 
 before_now : (y : Moment) (ms : List Moment)
     → before (length (crossings_of ms)) (crossings_of (y ∷ ms)) ≡ crossings_of ms
-before_now (Crossed c) ms = before_here c (crossings_of ms)
-before_now (Asked h r) ms = before_all (crossings_of ms)
+before_now (Crossed c) ms = before_here c _
+before_now (Asked h r) ms = before_all _
 
 length_now : (y : Moment) (ms : List Moment) → length (crossings_of (y ∷ ms)) ≤ suc (length (crossings_of ms))
 length_now (Crossed c) ms = omega arith
@@ -44,7 +44,7 @@ length_now (Asked h r) ms = omega arith
 full_later : (y : Moment) (ms : List Moment) (p : Linked)
     → ((d : Crossing) → y ≡ Crossed d → text_of (receives p.life) (flow_of p.life p.link) d ≡ [])
     → IsFull (crossings_of ms) p.life p.link → IsFull (crossings_of (y ∷ ms)) p.life p.link
-full_later (Crossed c) ms p quiet f = f ∙ ap length (sym (texts_same (receives p.life) (flow_of p.life p.link) p.life.own_stamp p.life.partner_stamp c (crossings_of ms) (quiet c refl)))
+full_later (Crossed c) ms p quiet f = f ∙ ap length (sym (texts_same _ _ p.life.own_stamp p.life.partner_stamp c (crossings_of ms) (quiet c refl)))
 full_later (Asked h r) ms p quiet f = f
 
 crossed_now : (y : Moment) (ms : List Moment) (place : ℕ) (m : HostMessage)
@@ -71,13 +71,13 @@ module _ (hosts : Network) (given : Together hosts) (y : Moment) (ms : List Mome
   Known p = Contains (lives_in hosts ms) p.life × Tracked ms p
 
   all_known : Each Known g.links
-  all_known = each_two (λ p. Contains g.links p) (Tracked ms) Known g.links (λ p there t. (life_there p there, t)) (each_of g.links) g.tracked
+  all_known = each_two _ _ Known g.links (λ p there t. (life_there p there, t)) (each_of g.links) g.tracked
 
   partners : SafePartners (crossings_of (y ∷ ms)) (lives_in hosts (y ∷ ms))
   partners =
       let c : Coupled hosts (y ∷ ms) = coupled hosts late.0 (y ∷ ms) late.1 late.2 in
       safe_partners hosts (y ∷ ms) c.story c.run late.1 (served_in hosts (y ∷ ms) late.2) (lives_in hosts (y ∷ ms))
-      (in_book hosts (mixed_kept hosts.strange (y ∷ ms)).book.lives) (two_in_book hosts (mixed_kept hosts.strange (y ∷ ms)).book.lives)
+      (in_book hosts _) (two_in_book hosts _)
 
   -- ---- a life's end
 
@@ -97,12 +97,12 @@ module _ (hosts : Network) (given : Together hosts) (y : Moment) (ms : List Mome
     held_on N goes shows =
         step_ends (Held p.life p.link N) Nothing p.life.host p.life.peer (held_rules p.life p.link N p.life.peer) (held_begins p.life p.link N) y ms (queued_commands hosts ms l.0 l.1 l.2 p.life.host p.life.peer two)
         (held_may p.life p.link N y ms p.life.host p.life.peer (λ m is from. story m is (subst (λ (g : Host). hosts.strange g ≡ false) from two.0)) below.0 below.1)
-        (each_two (λ e. Contains (ends_in p.life.host p.life.peer ms) e) (Held p.life p.link (IsFull (crossings_of ms) p.life p.link)) (Held p.life p.link N) (ends_in p.life.host p.life.peer ms)
+        (each_two _ _ _ _
         (λ e in_ends h mine own asked partner. (
           (h mine own asked partner).0,
           λ o. shows (subst (λ (f : Entry). is_open f ≡ true) (is_end hosts given ms l p.life (live_now hosts given ms l p.life there goes) e in_ends mine own) o),
         ))
-        (each_of (ends_in p.life.host p.life.peer ms)) (t.held goes))
+        (each_of _) (t.held goes))
 
     -- the life after the moment
     tracked_as : (bits : List Bool) (messages : ℕ) (granted returned : Amount) (ended : Bool)
@@ -113,7 +113,7 @@ module _ (hosts : Network) (given : Together hosts) (y : Moment) (ms : List Mome
     tracked_as bits messages granted returned ended still first full = record {
       first = first;
       other = t.other;
-      held = λ goes. held_on (messages ≡ length (texts_for p.life p.link (crossings_of (y ∷ ms)))) (before_it goes) (full (before_it goes));
+      held = λ goes. held_on (messages ≡ length (texts_for p.life p.link (crossings_of (y ∷ ms)))) (before_it goes) (full _);
     } where
       before_it : ended ≡ false → p.life.ended ≡ false
       before_it e = by p.life.ended refl where
@@ -157,14 +157,14 @@ module _ (hosts : Network) (given : Together hosts) (y : Moment) (ms : List Mome
     all = all;
     tracked = tracked;
     grown = grown;
-    apart = pairs_both Pre AreDistinct (Apart (crossings_of (y ∷ ms))) Now_known links resolved known pairs apart;
+    apart = pairs_both Pre AreDistinct _ Now_known links resolved known pairs apart;
     sent = sent;
   } where
     Now_known : Linked → Type 0
     Now_known p = Contains (lives_in hosts (y ∷ ms)) p.life × Tracked (y ∷ ms) p
 
     known : Each Now_known links
-    known = each_two (λ p. Contains links p) (Tracked (y ∷ ms)) Now_known links (λ p there t. (subst (λ (xs : List Life). Contains xs p.life) all (mapped life_of links p there), t)) (each_of links) tracked
+    known = each_two (λ p. Contains links p) _ Now_known links (λ p there t. (subst (λ (xs : List Life). Contains xs p.life) all (mapped life_of links p there), t)) (each_of links) tracked
 
     apart : Pairwise AreDistinct links
     apart = all_distinct [] links (λ u v two. partners.own_once u v (subst (λ (xs : List Life). AreTwo xs u v) all two))
@@ -222,7 +222,7 @@ module _ (hosts : Network) (given : Together hosts) (y : Moment) (ms : List Mome
       there = subst (λ (xs : List Life). Contains xs x) (sym c.is) (Contains-append_right (map (kept_so c.given c.back c.over) (lives_in hosts ms)) c.more x more)
 
       made : Begun (y ∷ ms) x
-      made = begins hosts late.0 (y ∷ ms) late.1 late.2 x (ours hosts given (y ∷ ms) late x there) (in_book hosts (mixed_kept hosts.strange (y ∷ ms)).book.lives x there).0 b.2
+      made = begins hosts late.0 (y ∷ ms) late.1 late.2 x (ours hosts given (y ∷ ms) late x there) (in_book hosts _ x there).0 b.2
 
       -- no life has its own request yet
       name_is : (w : HasLife (lives_in hosts ms) (places ms) x.socket x.foreign x.own_stamp)
@@ -235,14 +235,14 @@ module _ (hosts : Network) (given : Together hosts) (y : Moment) (ms : List Mome
       unknown w =
           partners.own_once (kept_so c.given c.back c.over w.life) x
           (subst (λ (xs : List Life). AreTwo xs (kept_so c.given c.back c.over w.life) x) (sym c.is)
-          (two_in (map (kept_so c.given c.back c.over) (lives_in hosts ms)) c.more (kept_so c.given c.back c.over w.life) x (mapped (kept_so c.given c.back c.over) (lives_in hosts ms) w.life w.there) more)) (name_is w)
+          (two_in _ c.more _ x (mapped _ _ w.life w.there) more)) (name_is w)
 
       just : begun x ≡ length (crossings_of ms)
       just =
-          let a : x.own_stamp < length (crossings_of (y ∷ ms)) = crossed_below x.own_stamp (going b.2.own.message) (crossings_of (y ∷ ms)) b.2.own.crossed in
-          let d : x.partner_stamp < length (crossings_of (y ∷ ms)) = crossed_below x.partner_stamp (coming b.2.partner.message) (crossings_of (y ∷ ms)) b.2.partner.crossed in
+          let a : x.own_stamp < length (crossings_of (y ∷ ms)) = crossed_below x.own_stamp _ _ b.2.own.crossed in
+          let d : x.partner_stamp < length (crossings_of (y ∷ ms)) = crossed_below x.partner_stamp _ _ b.2.partner.crossed in
           let n : length (crossings_of (y ∷ ms)) ≤ suc (length (crossings_of ms)) = length_now y ms in
-          latest x.own_stamp x.partner_stamp (length (crossings_of ms)) (omega (arith, a, n)) (omega (arith, d, n)) (which b.3) where
+          latest x.own_stamp x.partner_stamp _ (omega (arith, a, n)) (omega (arith, d, n)) (which b.3) where
             which : Now (lives_in hosts ms) (places ms) x.socket x.foreign x.own_stamp x.partner_stamp
                 → (x.own_stamp ≡ length (crossings_of ms)) ⊎ (x.partner_stamp ≡ length (crossings_of ms))
             which (inl e) = inl (e ∙ places_same ms)
@@ -253,7 +253,7 @@ module _ (hosts : Network) (given : Together hosts) (y : Moment) (ms : List Mome
       none link =
           let n : length (crossings_of (y ∷ ms)) ≤ suc (length (crossings_of ms)) = length_now y ms in
           let k : max x.own_stamp x.partner_stamp ≡ length (crossings_of ms) = just in
-          texts_none (receives x) (flow_of x link) x.own_stamp x.partner_stamp (crossings_of (y ∷ ms)) (omega (arith, n, k))
+          texts_none _ _ x.own_stamp x.partner_stamp (crossings_of (y ∷ ms)) (omega (arith, n, k))
 
       full : (link : ℕ) → IsFull (crossings_of (y ∷ ms)) x link
       full link = b.0 ∙ ap length (sym (none link))
@@ -262,7 +262,7 @@ module _ (hosts : Network) (given : Together hosts) (y : Moment) (ms : List Mome
       first = record {
         asked = made.asked;
         enough = (let e : x.messages ≡ length (texts_for x made.link (crossings_of (y ∷ ms))) = full made.link in omega (arith, e));
-        bits = ap (all_data (receives x)) (take_whole x.messages (texts_for x made.link (crossings_of (y ∷ ms))) (full made.link) ∙ none made.link) ∙ ap (λ (bs : List Bool). Some bs) (sym b.1);
+        bits = ap (all_data _) (take_whole x.messages _ (full made.link) ∙ none made.link) ∙ ap (λ (bs : List Bool). Some bs) (sym b.1);
       }
 
       begins_so : Newly x
@@ -271,14 +271,14 @@ module _ (hosts : Network) (given : Together hosts) (y : Moment) (ms : List Mome
         is = refl;
         tracked = record {
           first = first;
-          other = linked_off (crossings_of (y ∷ ms)) (record { life = x; link = made.link }) made.asked;
+          other = linked_off _ _ made.asked;
           held = λ goes. held_by (made.bound goes);
         };
         newest = (b.0, just);
       } where
         held_by : Each (Bound x made.link) (ends_in x.host x.peer (y ∷ ms))
             → Each (Held x made.link (IsFull (crossings_of (y ∷ ms)) x made.link)) (ends_in x.host x.peer (y ∷ ms))
-        held_by h = each_weaker (Bound x made.link) (Held x made.link (IsFull (crossings_of (y ∷ ms)) x made.link)) (ends_in x.host x.peer (y ∷ ms)) (λ e k mine own asked partner. (k mine own asked partner, λ o. full made.link)) h
+        held_by h = each_weaker _ _ _ (λ e k mine own asked partner. (k mine own asked partner, λ o. full made.link)) h
 
     record AllBegun (xs : List Life) : Type 0 where
       ones : List Linked
@@ -303,7 +303,7 @@ module _ (hosts : Network) (given : Together hosts) (y : Moment) (ms : List Mome
     old_pair p q j k apart kind like flow = elim (apart kind like flow) [
       | inl e ↦ inl (inl (e.0, c.still q.life e.1))
       | inr e ↦
-          inl (inr (c.still p.life e.0, subst (λ (log : List Crossing). p.life.messages ≤ length (texts_for p.life p.link log)) (sym (before_later y ms (begun q.life) (begun_before ms q k.1))) e.1))
+          inl (inr (c.still p.life e.0, subst (λ (log : List Crossing). p.life.messages ≤ length (texts_for p.life p.link log)) (sym (before_later y ms _ (begun_before ms q k.1))) e.1))
     ]
 
     cross_pair : (p q : Linked) → Known p → Newest q → Pre (calm_one p) q
@@ -337,29 +337,29 @@ module _ (hosts : Network) (given : Together hosts) (y : Moment) (ms : List Mome
     calm_all : map life_of (map calm_one g.links ++ new.ones) ≡ lives_in hosts (y ∷ ms)
     calm_all =
         map-append life_of (map calm_one g.links) new.ones
-        ∙ ap (λ (xs : List Life). xs ++ map life_of new.ones) (map_life calm_one (kept_so c.given c.back c.over) (λ p. refl) g.links ∙ ap (map (kept_so c.given c.back c.over)) g.all)
+        ∙ ap (λ (xs : List Life). xs ++ map life_of new.ones) (map_life calm_one _ (λ p. refl) g.links ∙ ap (map (kept_so c.given c.back c.over)) g.all)
         ∙ ap (λ (xs : List Life). map (kept_so c.given c.back c.over) (lives_in hosts ms) ++ xs) new.are ∙ sym c.is
 
     calm_sent : (place : ℕ) (m : HostMessage) → AreOurs hosts m.flow.source m.flow.destination
         → CrossedAt place (crossing.Out m) (crossings_of (y ∷ ms)) → (m.flow.link.0 == 0) ≡ false
         → (p : Linked) × Contains (map calm_one g.links ++ new.ones) p × IsSentIn (crossings_of (y ∷ ms)) place m p
     calm_sent place m between i off = elim (crossed_now y ms place m i) [
-      | inl now ↦ no (m.flow.link.0 == 0) (control m now.0 between) off
+      | inl now ↦ no _ (control m now.0 between) off
       | inr was ↦
           (let s : (p : Linked) × Contains g.links p × IsSentIn (crossings_of ms) place m p = g.sent place m between was off in (
             calm_one s.0,
             Contains-append_left (map calm_one g.links) new.ones (calm_one s.0) (mapped calm_one g.links s.0 s.1),
-            sent_as place m s.0 s.0.life.bits s.0.life.messages (c.given s.0.life) (c.back s.0.life) (c.over s.0.life) (crossed_below place (crossing.Out m) (crossings_of ms) was) (omega arith) s.2,
+            sent_as place m s.0 s.0.life.bits s.0.life.messages _ _ _ (crossed_below place _ _ was) (omega arith) s.2,
           ))
     ]
 
     pub good_calm : Good hosts (y ∷ ms)
     good_calm =
         finish calm_links calm_all
-        (each_append (Tracked (y ∷ ms)) (map calm_one g.links) new.ones (each_changed Known (Tracked (y ∷ ms)) calm_one g.links calm_tracked all_known) new.tracked)
-        (each_append (IsGrown hosts (y ∷ ms)) (map calm_one g.links) new.ones (each_changed Known (IsGrown hosts (y ∷ ms)) calm_one g.links calm_grown all_known) (each_weaker Newest (IsGrown hosts (y ∷ ms)) new.ones (λ q n. inr n.1) new.newest))
-        (pairs_append Pre (map calm_one g.links) new.ones (pairs_changed (Apart (crossings_of ms)) Pre Known calm_one g.links old_pair all_known g.apart) (pairs_all Pre Newest new.ones new_pair new.newest)
-        (each_changed Known (λ p. After Pre p new.ones) calm_one g.links (λ p k. after_all Pre Newest (calm_one p) new.ones (λ q n. cross_pair p q k n) new.newest) all_known)) calm_sent
+        (each_append _ _ new.ones (each_changed Known _ calm_one g.links calm_tracked all_known) new.tracked)
+        (each_append _ _ new.ones (each_changed Known _ calm_one g.links calm_grown all_known) (each_weaker Newest _ new.ones (λ q n. inr n.1) new.newest))
+        (pairs_append Pre _ new.ones (pairs_changed _ Pre Known calm_one g.links old_pair all_known g.apart) (pairs_all Pre Newest new.ones new_pair new.newest)
+        (each_changed Known _ calm_one g.links (λ p k. after_all Pre Newest (calm_one p) new.ones (λ q n. cross_pair p q k n) new.newest) all_known)) calm_sent
 
   -- ---- a message of data
 
@@ -391,7 +391,7 @@ module _ (hosts : Network) (given : Together hosts) (y : Moment) (ms : List Mome
         → x.peer ≡ b
     peer_at x o here socket = by (same_host b x.peer) refl where
       its : Contains (mine_on x.socket (ends_in x.host b ms)) e
-      its = each_in (λ (f : Entry). is_mine_on x.socket f ≡ true → Contains (mine_on x.socket (ends_in x.host b ms)) f) (ends_in x.host b ms) e here (in_filter (is_mine_on x.socket) (ends_in x.host b ms)) (mine_true x.socket e owner.mine (sym socket))
+      its = each_in (λ (f : Entry). is_mine_on x.socket f ≡ true → Contains (mine_on x.socket (ends_in x.host b ms)) f) (ends_in x.host b ms) e here (in_filter _ _) (mine_true x.socket e owner.mine (sym socket))
 
       by : (v : Bool) → same_host b x.peer ≡ v → x.peer ≡ b
       by true f = sym (same_host-true b x.peer f)
@@ -443,7 +443,7 @@ module _ (hosts : Network) (given : Together hosts) (y : Moment) (ms : List Mome
     pair_one p q j k apart false w f i kind like flow = by w i kind like flow where
       count : p.life.messages ≤ length (texts_for p.life p.link (before (begun q.life) (crossings_of ms)))
           → p.life.messages ≤ length (texts_for p.life p.link (before (begun q.life) (crossings_of (y ∷ ms))))
-      count n = subst (λ (log : List Crossing). p.life.messages ≤ length (texts_for p.life p.link log)) (sym (before_later y ms (begun q.life) (begun_before ms q k.1))) n
+      count n = subst (λ (log : List Crossing). p.life.messages ≤ length (texts_for p.life p.link log)) (sym (before_later y ms _ (begun_before ms q k.1))) n
 
       by : (w : Bool) → lives_at h e.own q.life ≡ w → Pre p (record q { life = changed_when w (carried bits) q.life })
       by true i kind like flow = elim (apart kind like flow) [ inl a ↦ no q.life.ended a.1 (goes_at q.life i) | inr a ↦ inl (inr (a.0, count a.1)) ]
@@ -451,12 +451,12 @@ module _ (hosts : Network) (given : Together hosts) (y : Moment) (ms : List Mome
           elim (apart kind like flow) [ inl a ↦ inl (inl a) | inr a ↦ inl (inr (a.0, count a.1)) ]
 
     data_all : map life_of (map data_one g.links) ≡ lives_in hosts (y ∷ ms)
-    data_all = map_life data_one (λ x. changed_when (lives_at h e.own x) (carried bits) x) (λ p. refl) g.links ∙ ap (map (λ x. changed_when (lives_at h e.own x) (carried bits) x)) g.all ∙ sym lives_are
+    data_all = map_life data_one _ (λ p. refl) g.links ∙ ap (map (λ x. changed_when (lives_at h e.own x) (carried bits) x)) g.all ∙ sym lives_are
 
     sent_one : (place : ℕ) (m : HostMessage) (p : Linked) → place < length (crossings_of ms)
         → IsSentIn (crossings_of ms) place m p → (v : Bool)
         → IsSentIn (crossings_of (y ∷ ms)) place m (record p { life = changed_when v (carried bits) p.life })
-    sent_one place m p less s true = sent_as place m p (p.life.bits ++ bits) (p.life.messages + 1) p.life.granted p.life.returned p.life.ended less (omega arith) s
+    sent_one place m p less s true = sent_as place m p _ _ p.life.granted p.life.returned p.life.ended less (omega arith) s
     sent_one place m p less s false =
         sent_as place m p p.life.bits p.life.messages p.life.granted p.life.returned p.life.ended less (omega arith) s
 
@@ -482,17 +482,17 @@ module _ (hosts : Network) (given : Together hosts) (y : Moment) (ms : List Mome
     data_sent place m between i off = elim (crossed_now y ms place m i) [
       | inl now ↦
           (let f : From life_of g.links owner.life = from_map life_of g.links owner.life (subst (λ (xs : List Life). Contains xs owner.life) (sym g.all) owner.there) in
-          let k : Known f.one = (life_there f.one f.there, each_in (Tracked ms) g.links f.one f.there g.tracked) in
+          let k : Known f.one = (life_there f.one f.there, each_in _ g.links f.one f.there g.tracked) in
           let at_it : lives_at h e.own f.one.life ≡ true = subst (λ (x : Life). lives_at h e.own x ≡ true) (sym f.is) its in (
             data_one f.one,
             mapped data_one g.links f.one f.there,
-            subst (λ (n : ℕ). IsSentIn (crossings_of (y ∷ ms)) n m (data_one f.one)) (sym now.1) (now_one m now.0 f.one k (lives_at h e.own f.one.life) refl at_it),
+            subst (λ (n : ℕ). IsSentIn (crossings_of (y ∷ ms)) n m (data_one f.one)) (sym now.1) (now_one m now.0 f.one k _ refl at_it),
           ))
       | inr was ↦
           (let s : (p : Linked) × Contains g.links p × IsSentIn (crossings_of ms) place m p = g.sent place m between was off in (
             data_one s.0,
             mapped data_one g.links s.0 s.1,
-            sent_one place m s.0 (crossed_below place (crossing.Out m) (crossings_of ms) was) s.2 (lives_at h e.own s.0.life),
+            sent_one place m s.0 (crossed_below place _ _ was) s.2 (lives_at h e.own s.0.life),
           ))
     ] where
       its : lives_at h e.own owner.life ≡ true
@@ -508,6 +508,6 @@ module _ (hosts : Network) (given : Together hosts) (y : Moment) (ms : List Mome
 
     pub good_data : Good hosts (y ∷ ms)
     good_data =
-        finish (map data_one g.links) data_all (each_changed Known (Tracked (y ∷ ms)) data_one g.links (λ p k. one_tracked p k (lives_at h e.own p.life) refl) all_known)
-        (each_changed Known (IsGrown hosts (y ∷ ms)) data_one g.links (λ p k. one_grown p k (lives_at h e.own p.life)) all_known)
-        (pairs_changed (Apart (crossings_of ms)) Pre Known data_one g.links (λ p q j k a. pair_one p q j k a (lives_at h e.own p.life) (lives_at h e.own q.life) refl refl) all_known g.apart) data_sent
+        finish _ data_all (each_changed Known _ data_one g.links (λ p k. one_tracked p k (lives_at h e.own p.life) refl) all_known)
+        (each_changed Known _ data_one g.links (λ p k. one_grown p k (lives_at h e.own p.life)) all_known)
+        (pairs_changed _ Pre Known data_one g.links (λ p q j k a. pair_one p q j k a (lives_at h e.own p.life) (lives_at h e.own q.life) refl refl) all_known g.apart) data_sent

@@ -13,13 +13,13 @@ drop_more n p c log less = let e : suc n - p ≡ suc (n - p) = omega (arith, les
 
 -- what was before a place stays
 pub before_still : (place : ℕ) (c : Crossing) (log : List Crossing) → place ≤ length log → before place (c ∷ log) ≡ before place log
-before_still place c log less = drop_more (length log) place c log less
+before_still place c log less = drop_more _ place c log less
 
 pub before_all : (log : List Crossing) → before (length log) log ≡ log
 before_all log = let e : length log - length log ≡ 0 = omega arith in ap (λ (k : ℕ). drop k log) e
 
 pub before_here : (c : Crossing) (log : List Crossing) → before (length log) (c ∷ log) ≡ log
-before_here c log = before_still (length log) c log (omega arith) ∙ before_all log
+before_here c log = before_still _ c log (omega arith) ∙ before_all log
 
 -- ---- texts
 
@@ -36,7 +36,7 @@ texts_none comes f a b [] less = refl
 texts_none comes f a b (c ∷ log) less =
     let shorter : length log ≤ max a b = omega (arith, less) in
     let early : texts_of comes f a b log ≡ [] = texts_none comes f a b log (omega (arith, shorter)) in
-    ap (λ (ts : List (List Bool)). ts ++ (if nat_lt a (length log) && nat_lt b (length log) then text_of comes f c else [])) early ∙ none_early comes f a b (length log) c shorter
+    ap (λ (ts : List (List Bool)). ts ++ (if nat_lt a (length log) && nat_lt b (length log) then text_of comes f c else [])) early ∙ none_early comes f a b _ c shorter
 
 -- what isn't on the link adds none
 pub texts_same : (comes : Bool) (f : Flow) (a b : ℕ) (c : Crossing) (log : List Crossing) → text_of comes f c ≡ [] → texts_of comes f a b (c ∷ log) ≡ texts_of comes f a b log
@@ -66,8 +66,8 @@ joined_assoc (Some a) (Some b) None = refl
 joined_assoc (Some a) (Some b) (Some c) = ap (λ (bs : List Bool). Some bs) (sym (append_assoc a b c))
 
 pub data_more : (comes : Bool) (ts : List (List Bool)) (t : List Bool) → all_data comes (ts ++ t ∷ []) ≡ joined (all_data comes ts) (data_in comes t)
-data_more comes [] t = joined_nil (data_in comes t)
-data_more comes (u ∷ ts) t = ap (λ (o : Option (List Bool)). joined (data_in comes u) o) (data_more comes ts t) ∙ joined_assoc (data_in comes u) (all_data comes ts) (data_in comes t)
+data_more comes [] t = joined_nil _
+data_more comes (u ∷ ts) t = ap (λ (o : Option (List Bool)). joined (data_in comes u) o) (data_more comes ts t) ∙ joined_assoc _ _ _
 
 pub take_whole : (n : ℕ) (ts : List (List Bool)) → n ≡ length ts → take n ts ≡ ts
 take_whole zero [] e = refl
@@ -85,8 +85,8 @@ IsFull log x link = x.messages ≡ length (texts_for x link log)
 asked_still : (c : Crossing) (log : List Crossing) (p : Linked) → HasRequests log p → HasRequests (c ∷ log) p
 asked_still c log p a = record {
   size = a.size;
-  own = still_crossed going p.life.host p.life.peer p.life.own_stamp (request p.life.socket p.life.foreign (if receives p.life then p.link else a.size)) c log a.own;
-  partner = still_crossed coming p.life.peer p.life.host p.life.partner_stamp (request p.life.foreign p.life.socket (if receives p.life then a.size else p.link)) c log a.partner;
+  own = still_crossed going p.life.host p.life.peer p.life.own_stamp _ c log a.own;
+  partner = still_crossed coming p.life.peer p.life.host p.life.partner_stamp _ c log a.partner;
 }
 
 -- what crosses later comes after its messages
@@ -94,7 +94,7 @@ pub first_still : (c : Crossing) (log : List Crossing) (p : Linked) → IsFirst 
 first_still c log p f = record {
   asked = asked_still c log p f.asked;
   enough = (let e : p.life.messages ≤ length (texts_for p.life p.link log) = f.enough in let g : length (texts_for p.life p.link log ++ more) ≡ length (texts_for p.life p.link log) + length more = length-append (texts_for p.life p.link log) more in omega (arith, e, g));
-  bits = ap (all_data (receives p.life)) (take-append-le p.life.messages (texts_for p.life p.link log) more f.enough) ∙ f.bits;
+  bits = ap (all_data _) (take-append-le p.life.messages (texts_for p.life p.link log) more f.enough) ∙ f.bits;
 } where
   more : List (List Bool)
   more = if nat_lt p.life.own_stamp (length log) && nat_lt p.life.partner_stamp (length log) then text_of (receives p.life) (flow_of p.life p.link) c else []
@@ -103,18 +103,18 @@ first_still c log p f = record {
 module _ (c : Crossing) (log : List Crossing) (p : Linked) (f : IsFirst log p) (full : IsFull log p.life p.link) (text bits : List Bool) (after : p.life.own_stamp < length log) (behind : p.life.partner_stamp < length log)
     (one : text_of (receives p.life) (flow_of p.life p.link) c ≡ text ∷ []) (datum : data_in (receives p.life) text ≡ Some bits) where
   now : texts_for p.life p.link (c ∷ log) ≡ texts_for p.life p.link log ++ text ∷ []
-  now = texts_one (receives p.life) (flow_of p.life p.link) p.life.own_stamp p.life.partner_stamp c log text after behind one
+  now = texts_one _ _ p.life.own_stamp p.life.partner_stamp c log text after behind one
 
   pub full_more : IsFull (c ∷ log) (carried bits p.life) p.link
   full_more = ap (λ (n : ℕ). n + 1) full ∙ sym (length-append (texts_for p.life p.link log) (text ∷ [])) ∙ sym (ap length now)
 
   all_bits : all_data (receives p.life) (texts_for p.life p.link log) ≡ Some p.life.bits
-  all_bits = ap (all_data (receives p.life)) (sym (take_whole p.life.messages (texts_for p.life p.link log) full)) ∙ f.bits
+  all_bits = ap (all_data _) (sym (take_whole p.life.messages _ full)) ∙ f.bits
 
   pub first_more : IsFirst (c ∷ log) (record p { life = carried bits p.life })
   first_more = record {
     asked = (let a : HasRequests (c ∷ log) p = asked_still c log p f.asked in record { size = a.size; own = a.own; partner = a.partner });
     enough = (let e : p.life.messages + 1 ≡ length (texts_for p.life p.link (c ∷ log)) = full_more in omega (arith, e));
-    bits = ap (all_data (receives p.life)) (take_whole (p.life.messages + 1) (texts_for p.life p.link (c ∷ log)) full_more ∙ now)
-        ∙ data_more (receives p.life) (texts_for p.life p.link log) text ∙ ap (λ (o : Option (List Bool)). joined o (data_in (receives p.life) text)) all_bits ∙ ap (λ (o : Option (List Bool)). joined (Some p.life.bits) o) datum;
+    bits = ap (all_data _) (take_whole _ _ full_more ∙ now)
+        ∙ data_more (receives p.life) _ text ∙ ap (λ (o : Option (List Bool)). joined o (data_in (receives p.life) text)) all_bits ∙ ap (λ (o : Option (List Bool)). joined (Some p.life.bits) o) datum;
   }

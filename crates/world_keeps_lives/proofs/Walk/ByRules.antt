@@ -77,4 +77,4 @@ module _ (P : Entry → Type 0) (N : Notice → Type 0) (p : Host) (rules : Rule
   answer_keeps s kind f stamp to h = answer_passes P N p leaves s kind f stamp to h
 
   pub offer_keeps : (s : NcpState) (stamp : ℕ) (g : Peer) (x : Parcel) → AreInOrder s.peers → next_in s.peers ≡ Some (g, x) → g.host ≡ p → AreCommands (pair_with p s.peers).queue → MayTell P N p rules stamp x (pair_with p s.peers) → Ends P p s → Done (offered s stamp)
-  offer_keeps s stamp g x order next to ok may h = offer_passes P N p leaves s stamp g x order next to ok (may_say stamp x (pair_with p s.peers) may) h
+  offer_keeps s stamp g x order next to ok may h = offer_passes P N p leaves s stamp g x order next to ok (may_say stamp x _ may) h

@@ -62,7 +62,7 @@ module _ (P : Entry → Type 0) (N : Notice → Type 0) (p : Host) (leaves : Lea
       (λ e q. asked_by P N p leaves socket (granted messages bits) q (λ y t i. may y (eqb-true y.own socket (both y.mine (y.own == socket) t).1) i)) h
   request_passes begins s (request.AskBack socket messages bits) may h = owner_keeps s (owner_of socket s.peers) (λ e. commanded (command.Gvb (link_of e.link) messages bits)) (λ e q k. k) h
   request_passes begins s (request.Interrupt socket) may h = owner_keeps s (owner_of socket s.peers) (λ e. commanded (interrupt_of e)) (λ e q k. k) h
-  request_passes begins s (request.Close socket) may h = close_keeps s socket h (listens_on socket s.listening) refl
+  request_passes begins s (request.Close socket) may h = close_keeps s socket h _ refl
   request_passes begins s (request.Echo peer octet) may h = kept (λ (q : PairState). Each P q.entries) peer p (commanded (command.Eco octet) (pair_with peer s.peers)) s.peers h (λ k. k)
 
   pub request_reports : (s : NcpState) (r : Request) → Each N (served_notices s r)
@@ -95,9 +95,9 @@ module _ (P : Entry → Type 0) (N : Notice → Type 0) (p : Host) (leaves : Lea
   taken : (s : NcpState) (m : HostMessage) (stamp : ℕ) → MayHear s m stamp → Ends P p s → GoodTurn P N p leaves (message_taken p stamp m.flow.link.0 m.text (turn_of s p))
   taken s m stamp may h = by (m.flow.link.0 == 0) refl where
     by : (b : Bool) → (m.flow.link.0 == 0) ≡ b → GoodTurn P N p leaves (message_taken p stamp m.flow.link.0 m.text (turn_of s p))
-    by true e = rw e (turn_all P N p leaves stamp (orders_of m.text) (may.0 e) (turn_of s p) (text_good m.text) (own_turn s h))
+    by true e = rw e (turn_all P N p leaves stamp (orders_of m.text) (may.0 e) _ (text_good m.text) (own_turn s h))
     by false e =
-        rw e (turn_ready P N p leaves (data_taken m.flow.link.0 m.text) (turn_of s p)
+        rw e (turn_ready P N p leaves (data_taken m.flow.link.0 m.text) _
         (λ k. good_data P N p leaves m.flow.link.0 m.text (desk_of (pair_with p s.peers) s.listening) (may.1 e) k) (own_turn s h))
 
   -- what was taken of a message is what becomes of the call
@@ -126,7 +126,7 @@ module _ (P : Entry → Type 0) (N : Notice → Type 0) (p : Host) (leaves : Lea
     t = answered_turn p kind f.link.0 (turn_of s p)
 
     done : Passed (after_turn s p t)
-    done = let k : GoodTurn P N p leaves (answered_turn p kind f.link.0 (turn_of s p)) = turn_answered P N p leaves kind f.link.0 (turn_of s p) (own_turn s h) in record { ends = here t.pair s.peers k.ends; told = k.told }
+    done = let k : GoodTurn P N p leaves (answered_turn p kind f.link.0 (turn_of s p)) = turn_answered P N p leaves kind f.link.0 _ (own_turn s h) in record { ends = here t.pair s.peers k.ends; told = k.told }
 
     by : (b c : Bool) → same_host s.own f.source ≡ b → is_busy (pair_with f.destination s.peers).busy f.link.0 ≡ c → Passed (accepted_answer s kind f)
     by true true e g = rw (e, g) (subst (λ (x : Host). Passed (after_turn s x (answered_turn x kind f.link.0 (turn_of s x)))) (sym to) done)

@@ -144,7 +144,7 @@ module _ (P : Entry → Type 0) (N : Notice → Type 0) (peer : Host) (leaves : 
   good_changed test change d k h = record { ends = each_changed P test change d.entries k h.ends; told = h.told }
 
   pub good_settled : (busy : List ℕ) (d : DeskState) → Good d → Good (settled busy d)
-  good_settled busy d h = record { ends = each_map P (λ e. closed_when (must_close busy e) e) d.entries (λ e i. leaves.plain e (closed_when (must_close busy e) e) (plain_when (must_close busy e) e) i) h.ends; told = h.told }
+  good_settled busy d h = record { ends = each_map P _ d.entries (λ e i. leaves.plain e (closed_when (must_close busy e) e) (plain_when _ e) i) h.ends; told = h.told }
 
   -- each end that goes is reported
   all_ended : (es : List Entry) → Each P es → Each N (flat_map (ending peer) (filter is_over es))
@@ -160,7 +160,7 @@ module _ (P : Entry → Type 0) (N : Notice → Type 0) (peer : Host) (leaves : 
     by false over rest = rest
 
   pub good_swept : (d : DeskState) → Good d → Good (swept peer d)
-  good_swept d h = record { ends = each_filter P (λ e. not (is_over e)) d.entries h.ends; told = each_append N d.notices (flat_map (ending peer) (filter is_over d.entries)) h.told (all_ended d.entries h.ends) }
+  good_swept d h = record { ends = each_filter P _ d.entries h.ends; told = each_append N d.notices _ h.told (all_ended d.entries h.ends) }
 
   opening_told : (e : Entry) (x y : Option ℕ) → P e → e.asked ≡ x → e.partner ≡ y → Each N (opening_by peer e x y)
   opening_told e None y i f g = tt
@@ -180,20 +180,20 @@ module _ (P : Entry → Type 0) (N : Notice → Type 0) (peer : Host) (leaves : 
       → Good d
       → Good (desk_told (opening_notices peer (entry_at own foreign (changed_first (is_at own foreign) change d.entries))) (changed (is_at own foreign) change d))
   good_opening own foreign change d k h =
-      let now : Good (changed (is_at own foreign) change d) = record {
-        ends = each_first P P (is_at own foreign) change d.entries (λ e i. i) k h.ends;
+      let now : Good (changed _ change d) = record {
+        ends = each_first P P _ change d.entries (λ e i. i) k h.ends;
         told = h.told;
       } in
-      good_told (opening_notices peer (entry_at own foreign (changed_first (is_at own foreign) change d.entries))) (changed (is_at own foreign) change d)
-      (found_told (entry_at own foreign (changed_first (is_at own foreign) change d.entries)) (λ e f. found_in P (is_at own foreign) (changed_first (is_at own foreign) change d.entries) e f now.ends)) now
+      good_told _ _
+      (found_told _ (λ e f. found_in P (is_at own foreign) (changed_first (is_at own foreign) change d.entries) e f now.ends)) now
 
   -- ---- what is heard
 
   good_fault : (code : ℕ) (c : Command) (d : DeskState) → Good d → Good (commands.faulted code c d)
-  good_fault code c d h = good_queued (error code (spelling c)) d h
+  good_fault code c d h = good_queued _ d h
 
   good_refused : Starts P → (own foreign stamp : ℕ) (d : DeskState) → Good d → Good (commands.refused own foreign stamp d)
-  good_refused begins own foreign stamp d h = record { ends = each_append P d.entries (refused_end own foreign stamp ∷ []) h.ends (begins.refused own foreign stamp, tt); told = h.told }
+  good_refused begins own foreign stamp d h = record { ends = each_append P d.entries _ h.ends (begins.refused own foreign stamp, tt); told = h.told }
 
   none_is : (o : Option ℕ) → is_some o ≡ false → o ≡ None
   none_is None e = refl
@@ -249,51 +249,51 @@ module _ (P : Entry → Type 0) (N : Notice → Type 0) (peer : Host) (leaves : 
     good_cls : (busy : List ℕ) (own foreign : ℕ) (o : Option Entry) (d : DeskState) → Good d → Good (cls_taken_by peer busy own foreign o d)
     good_cls busy own foreign None d h = good_fault NO_SOCKET (command.Cls foreign own) d h
     good_cls busy own foreign (Some e) d h =
-        good_if e.partner_closed d (swept peer (settled busy (changed (is_at own foreign) closed_by_partner d))) h
-        (good_swept (settled busy (changed (is_at own foreign) closed_by_partner d)) (good_settled busy (changed (is_at own foreign) closed_by_partner d) (good_changed (is_at own foreign) closed_by_partner d (λ e t i. hears.cls e i) h)))
+        good_if e.partner_closed d _ h
+        (good_swept _ (good_settled busy _ (good_changed _ closed_by_partner d (λ e t i. hears.cls e i) h)))
 
     good_rts_heard : (own foreign link : ℕ) (l : Option Listener) (d : DeskState) → Contains orders (Legal (command.Rts foreign own link)) → is_receive_socket foreign ≡ true → is_send_socket own ≡ true → Good d → Good (rts_heard own foreign link stamp l d)
     good_rts_heard own foreign link None d there even odd h = good_refused hears.begins own foreign stamp d h
     good_rts_heard own foreign link (Some l) d there even odd h = record {
-      ends = each_append P d.entries (asked_on_link stamp link (sending_end own foreign l.size) ∷ []) h.ends (hears.rts own foreign link (sending_end own foreign l.size) there even odd refl refl refl (hears.begins.fresh (sending_end own foreign l.size) refl refl refl refl refl), tt);
+      ends = each_append P d.entries _ h.ends (hears.rts own foreign link (sending_end own foreign l.size) there even odd refl refl refl (hears.begins.fresh (sending_end own foreign l.size) refl refl refl refl refl), tt);
       told = h.told;
     }
 
     good_rts_by : (own foreign link : ℕ) (o : Option Entry) (d : DeskState) → entry_at own foreign d.entries ≡ o
         → Contains orders (Legal (command.Rts foreign own link)) → is_receive_socket foreign ≡ true
         → is_send_socket own ≡ true → Good d → Good (rts_taken_by peer own foreign link stamp o d)
-    good_rts_by own foreign link None d f there even odd h = good_rts_heard own foreign link (listener_on own d.listening) d there even odd h
+    good_rts_by own foreign link None d f there even odd h = good_rts_heard own foreign link _ d there even odd h
     good_rts_by own foreign link (Some e) d f there even odd h =
-        good_matched own foreign (command.Rts foreign own link) e (asked_on_link stamp link) d f
+        good_matched own foreign (command.Rts foreign own link) e _ d f
         (λ x t none i. hears.rts own foreign link x there even odd (sockets_of own foreign x t).0 (sockets_of own foreign x t).1 none i) h
 
     good_rts : (own foreign link : ℕ) (d : DeskState) → Contains orders (Legal (command.Rts foreign own link)) → is_receive_socket foreign ≡ true → is_send_socket own ≡ true → Good d → Good (rts_taken peer own foreign link stamp d)
     good_rts own foreign link d there even odd h =
-        good_if (list_any (sends_on link) d.entries) (commands.faulted ERRONEOUS (command.Rts foreign own link) d) (rts_taken_by peer own foreign link stamp (entry_at own foreign d.entries) d)
-        (good_fault ERRONEOUS (command.Rts foreign own link) d h) (good_rts_by own foreign link (entry_at own foreign d.entries) d refl there even odd h)
+        good_if _ _ _
+        (good_fault ERRONEOUS (command.Rts foreign own link) d h) (good_rts_by own foreign link _ d refl there even odd h)
 
     good_str_linked : (own foreign size : ℕ) (l : Option ℕ) (d : DeskState) → Contains orders (Legal (command.Str foreign own size)) → is_send_socket foreign ≡ true → is_receive_socket own ≡ true → Good d → Good (str_linked own foreign size stamp l d)
     good_str_linked own foreign size None d there odd even h = good_refused hears.begins own foreign stamp d h
     good_str_linked own foreign size (Some link) d there odd even h = record {
-      ends = each_append P d.entries (asked_with_size stamp size (receiving_end own foreign link) ∷ []) h.ends (hears.str own foreign size (receiving_end own foreign link) there odd even refl refl refl (hears.begins.fresh (receiving_end own foreign link) refl refl refl refl refl), tt);
+      ends = each_append P d.entries _ h.ends (hears.str own foreign size (receiving_end own foreign link) there odd even refl refl refl (hears.begins.fresh (receiving_end own foreign link) refl refl refl refl refl), tt);
       told = h.told;
     }
 
     good_str_heard : (own foreign size : ℕ) (l : Option Listener) (d : DeskState) → Contains orders (Legal (command.Str foreign own size)) → is_send_socket foreign ≡ true → is_receive_socket own ≡ true → Good d → Good (str_heard own foreign size stamp l d)
     good_str_heard own foreign size None d there odd even h = good_refused hears.begins own foreign stamp d h
-    good_str_heard own foreign size (Some l) d there odd even h = good_str_linked own foreign size (free_link d.entries) d there odd even h
+    good_str_heard own foreign size (Some l) d there odd even h = good_str_linked own foreign size _ d there odd even h
 
     good_str_by : (own foreign size : ℕ) (o : Option Entry) (d : DeskState) → entry_at own foreign d.entries ≡ o
         → Contains orders (Legal (command.Str foreign own size)) → is_send_socket foreign ≡ true
         → is_receive_socket own ≡ true → Good d → Good (str_taken_by peer own foreign size stamp o d)
-    good_str_by own foreign size None d f there odd even h = good_str_heard own foreign size (listener_on own d.listening) d there odd even h
+    good_str_by own foreign size None d f there odd even h = good_str_heard own foreign size _ d there odd even h
     good_str_by own foreign size (Some e) d f there odd even h =
-        good_matched own foreign (command.Str foreign own size) e (asked_with_size stamp size) d f
+        good_matched own foreign (command.Str foreign own size) e _ d f
         (λ x t none i. hears.str own foreign size x there odd even (sockets_of own foreign x t).0 (sockets_of own foreign x t).1 none i) h
 
     good_ret : (link messages bits : ℕ) (e : Entry) (d : DeskState) → P e → is_open e ≡ true → Good d → Good (ret_taken link messages bits e d)
     good_ret link messages bits e d i o h =
-        good_if _ _ _ (good_told _ (changed (receives_on link) (commands.returned messages bits) d) (leaves.returns e messages bits i o, tt) (good_plain (receives_on link) (commands.returned messages bits) d (λ x. plain_lost x _ _ _) h))
+        good_if _ _ _ (good_told _ _ (leaves.returns e messages bits i o, tt) (good_plain _ _ d (λ x. plain_lost x _ _ _) h))
         (good_fault ERRONEOUS (command.Ret link messages bits) d h)
 
     -- only an open end is given something back
@@ -307,17 +307,17 @@ module _ (P : Entry → Type 0) (N : Notice → Type 0) (peer : Host) (leaves : 
 
     good_taken : (busy : List ℕ) (c : Command) (d : DeskState) → IsOrder (Legal c) → Contains orders (Legal c) → Good d → Good (desk_taken peer busy stamp c d)
     good_taken busy (command.Rts receive send link) d ok there h = good_rts send receive link d there ok.1 ok.3 h
-    good_taken busy (command.Str send receive size) d ok there h = good_str_by receive send size (entry_at receive send d.entries) d refl there ok.1 ok.3 h
-    good_taken busy (command.Cls mine yours) d ok there h = good_cls busy yours mine (entry_at yours mine d.entries) d h
+    good_taken busy (command.Str send receive size) d ok there h = good_str_by receive send size _ d refl there ok.1 ok.3 h
+    good_taken busy (command.Cls mine yours) d ok there h = good_cls busy yours mine _ d h
     good_taken busy (command.All link messages bits) d ok there h =
         good_at (command.All link messages bits) (all_taken link messages bits) (sender_on link d) d (λ e. good_changed (sends_on link) (commands.granted messages bits) d (λ x t i. hears.all link messages bits x there t i) h) h
     good_taken busy (command.Gvb link messages bits) d ok there h =
         good_at (command.Gvb link messages bits) (gvb_taken link messages bits) (sender_on link d) d
-        (λ e. good_queued _ (changed (sends_on link) (commands.given_back messages bits) d) (good_plain (sends_on link) (commands.given_back messages bits) d (λ x. plain_lost x _ _ _) h)) h
-    good_taken busy (command.Ret link messages bits) d ok there h = ret_found link messages bits d (find (receives_on link) d.entries) refl h
-    good_taken busy (command.Inr link) d ok there h = good_at (command.Inr link) interrupted (sender_on link d) d (λ e. good_told _ d (leaves.others _ tt tt, tt) h) h
-    good_taken busy (command.Ins link) d ok there h = good_at (command.Ins link) interrupted (receiver_on link d) d (λ e. good_told _ d (leaves.others _ tt tt, tt) h) h
-    good_taken busy (command.Eco octet) d ok there h = good_queued (command.Erp octet) d h
+        (λ e. good_queued _ (changed (sends_on link) (commands.given_back messages bits) d) (good_plain (sends_on link) _ d (λ x. plain_lost x _ _ _) h)) h
+    good_taken busy (command.Ret link messages bits) d ok there h = ret_found link messages bits d _ refl h
+    good_taken busy (command.Inr link) d ok there h = good_at (command.Inr link) interrupted _ d (λ e. good_told _ d (leaves.others _ tt tt, tt) h) h
+    good_taken busy (command.Ins link) d ok there h = good_at (command.Ins link) interrupted _ d (λ e. good_told _ d (leaves.others _ tt tt, tt) h) h
+    good_taken busy (command.Eco octet) d ok there h = good_queued _ d h
     good_taken busy (command.Erp octet) d ok there h = good_told _ d (leaves.others _ tt tt, tt) h
     good_taken busy (command.Err code detail) d ok there h = good_told _ d (leaves.others _ tt tt, tt) h
     good_taken busy c d ok there h = h
@@ -344,10 +344,10 @@ module _ (P : Entry → Type 0) (N : Notice → Type 0) (peer : Host) (leaves : 
 
   module _ (stamp : ℕ) (cs : List Command) (goes : GoesAll P stamp cs) where
     good_gone : (c : Command) (d : DeskState) → IsCommand c → Contains cs c → Good d → Good (command_gone peer stamp c d)
-    good_gone (command.Rts receive send link) d ok there h = good_opening receive send (asked_at stamp) d (λ x f t i. goes.rts receive send link x there ok.1 (sockets_of receive send x t).0 (sockets_of receive send x t).1 i) h
-    good_gone (command.Str send receive size) d ok there h = good_opening send receive (asked_at stamp) d (λ x f t i. goes.str send receive size x there ok.1 (sockets_of send receive x t).0 (sockets_of send receive x t).1 i) h
+    good_gone (command.Rts receive send link) d ok there h = good_opening receive send _ d (λ x f t i. goes.rts receive send link x there ok.1 (sockets_of receive send x t).0 (sockets_of receive send x t).1 i) h
+    good_gone (command.Str send receive size) d ok there h = good_opening send receive _ d (λ x f t i. goes.str send receive size x there ok.1 (sockets_of send receive x t).0 (sockets_of send receive x t).1 i) h
     good_gone (command.Cls own foreign) d ok there h =
-        good_swept (changed (is_at own foreign) cls_sent d) (good_changed (is_at own foreign) cls_sent d (λ e t i. goes.cls e i) h)
+        good_swept _ (good_changed _ cls_sent d (λ e t i. goes.cls e i) h)
     good_gone c d ok there h = h
 
     good_all_gone : (xs : List Command) (d : DeskState) → AreCommands xs → Each (λ (c : Command). Contains cs c) xs → Good d → Good (commands_gone peer stamp xs d)
@@ -374,10 +374,10 @@ module _ (P : Entry → Type 0) (N : Notice → Type 0) (peer : Host) (leaves : 
   good_parcel stamp parcel.Reset q listening may ok h = (h, tt)
   good_parcel stamp parcel.Reply q listening may ok h = (h, tt)
   good_parcel stamp (parcel.Commands count) q listening may ok h =
-      let gone : Good (commands_gone peer stamp (take count q.queue) (desk_of q listening)) = good_commands stamp (take count q.queue) may (desk_of q listening) (some_commands count q.queue ok) (record { ends = h; told = tt }) in
+      let gone : Good (commands_gone peer stamp (take count q.queue) (desk_of q listening)) = good_commands stamp (take count q.queue) may _ (some_commands count q.queue ok) (record { ends = h; told = tt }) in
       (gone.ends, gone.told)
   good_parcel stamp (parcel.Bytes e size count) q listening may ok h = (
-    each_changed P (may_send_on q.busy (link_of e.link)) (bits_gone (size * count)) q.entries
+    each_changed P _ _ q.entries
         (λ x t i. leaves.plain x (bits_gone (size * count) x) (plain_lost x _ _ _) i) h,
     (may, tt),
   )
@@ -385,27 +385,27 @@ module _ (P : Entry → Type 0) (N : Notice → Type 0) (peer : Host) (leaves : 
   -- ---- data
 
   good_arrived : (link : ℕ) (e : Entry) (text : List Bool) (o : Option DataHeader) (d : DeskState) → ((k : DataHeader) → o ≡ Some k → N (notice.Arrived e.own (data_of (data_bits k) text))) → Good d → Good (arrived_if link e text o d)
-  good_arrived link e text None d k h = good_queued (error ERRONEOUS (octets_of text)) d h
+  good_arrived link e text None d k h = good_queued _ d h
   good_arrived link e text (Some header) d k h =
-      good_if (is_acceptable e header) (arrived link e (data_bits header) text d) (text_faulted ERRONEOUS text d)
-      (good_told (notice.Arrived e.own (data_of (data_bits header) text) ∷ []) (changed (receives_on link) (spent (data_bits header)) d) (k header refl, tt)
-      (good_plain (receives_on link) (spent (data_bits header)) d (λ x. plain_lost x _ _ _) h))
-      (good_queued (error ERRONEOUS (octets_of text)) d h)
+      good_if _ _ _
+      (good_told _ _ (k header refl, tt)
+      (good_plain _ _ d (λ x. plain_lost x _ _ _) h))
+      (good_queued _ d h)
 
   pub good_data : (link : ℕ) (text : List Bool) (d : DeskState) → ((e : Entry) (k : DataHeader) → find (receives_on link) d.entries ≡ Some e → is_open e ≡ true → header_of text ≡ Some k → N (notice.Arrived e.own (data_of (data_bits k) text))) → Good d → Good (data_taken link text d)
   good_data link text d k h = by (find (receives_on link) d.entries) refl where
     by : (o : Option Entry) → find (receives_on link) d.entries ≡ o → Good (data_found link text (commands.found_in o) d)
     by None f = good_queued (error NOT_CONNECTED (octets_of text)) d h
-    by (Some e) f = opened (is_open e) (is_ending e) refl where
+    by (Some e) f = opened (is_open e) _ refl where
       opened : (a b : Bool) → is_open e ≡ a → Good (data_found link text (if a then Open e else (if b then Ending else Unconnected)) d)
       opened true b g = good_arrived link e text (header_of text) d (λ header t. k e header f g t) h
       opened false true g = h
-      opened false false g = good_queued (error NOT_CONNECTED (octets_of text)) d h
+      opened false false g = good_queued _ d h
 
   -- ---- answers
 
   turn_settled : (t : TurnState) → GoodTurn t → GoodTurn (settled_turn t)
-  turn_settled t h = turn_desk t (settled t.pair.busy (desk_of t.pair t.listening)) h (good_settled t.pair.busy (desk_of t.pair t.listening) (record { ends = h.ends; told = tt }))
+  turn_settled t h = turn_desk t _ h (good_settled t.pair.busy _ (record { ends = h.ends; told = tt }))
 
   turn_closed : (n : Notice) (t : TurnState) → IsOther n → IsUnended n → GoodTurn t → GoodTurn (closed (n ∷ []) t)
   turn_closed n t other unended h = record { ends = tt; told = each_append N t.notices (n ∷ []) h.told (leaves.others n other unended, tt) }
@@ -413,9 +413,9 @@ module _ (P : Entry → Type 0) (N : Notice → Type 0) (peer : Host) (leaves : 
   turn_failed_by : (p : Phase) (t : TurnState) → GoodTurn t → GoodTurn (failed_by peer p t)
   turn_failed_by phase.Closed t h = h
   turn_failed_by phase.Want t h = h
-  turn_failed_by (phase.Gone early) t h = turn_closed (notice.ContactFailed peer) t tt tt h
-  turn_failed_by phase.Heard t h = turn_closed (notice.ContactFailed peer) t tt tt h
-  turn_failed_by phase.Ready t h = turn_closed (notice.PairReset peer) t tt tt h
+  turn_failed_by (phase.Gone early) t h = turn_closed _ t tt tt h
+  turn_failed_by phase.Heard t h = turn_closed _ t tt tt h
+  turn_failed_by phase.Ready t h = turn_closed _ t tt tt h
 
   turn_failed : (t : TurnState) → GoodTurn t → GoodTurn (failed peer t)
   turn_failed t h = by (is_gone t.pair.phase || not t.pair.owed) where
@@ -432,7 +432,7 @@ module _ (P : Entry → Type 0) (N : Notice → Type 0) (peer : Host) (leaves : 
   pub asked_by : (socket : ℕ) (change : Entry → Entry) (q : PairState)
       → ((e : Entry) → is_mine_on socket e ≡ true → P e → P (change e)) → Each P q.entries
       → Each P (with_end socket change q).entries
-  asked_by socket change q k h = each_changed P (is_mine_on socket) change q.entries k h
+  asked_by socket change q k h = each_changed P _ change q.entries k h
 
   pub asked_closed : (socket : ℕ) (q : PairState) → Each P q.entries → Each P (closed_end socket q).entries
   asked_closed socket q h =
@@ -445,4 +445,4 @@ module _ (P : Entry → Type 0) (N : Notice → Type 0) (peer : Host) (leaves : 
 
   pub asked_receiver : Starts P → (own foreign : ℕ) (link : Option ℕ) (q : PairState) → Each P q.entries → Each P (receiver_requested own foreign link q).entries
   asked_receiver begins own foreign None q h = h
-  asked_receiver begins own foreign (Some link) q h = asked_new begins (receiving_end own foreign link) (command.Rts own foreign link) q refl refl refl refl refl h
+  asked_receiver begins own foreign (Some link) q h = asked_new begins _ (command.Rts own foreign link) q refl refl refl refl refl h

@@ -24,9 +24,9 @@ none_of : (has : Life → Bool) (xs : List Life) (x : Life) → none_has has xs 
 unfolding none_has
 none_of has [] x none (k, lt, is) = absurd (omega (arith, lt))
 none_of has (y ∷ ys) x none (zero, lt, is) =
-    subst (λ (z : Life). has z ≡ false) is (not_one (has y) (none_has has ys) none).0
+    subst (λ (z : Life). has z ≡ false) is (not_one (has y) _ none).0
 none_of has (y ∷ ys) x none (suc k, lt, is) =
-    none_of has ys x (not_one (has y) (none_has has ys) none).1 (k, omega (arith, lt), is)
+    none_of has ys x (not_one (has y) _ none).1 (k, omega (arith, lt), is)
 
 module _ (has : List Moment → Life → Bool) where
   pub has_not : (ms : List Moment) (x : Life) → never_has has ms ≡ true → Contains (kept_in ms).book.lives x
@@ -35,13 +35,13 @@ module _ (has : List Moment → Life → Bool) where
   has_not [] x never (k, lt, is) = absurd (omega (arith, lt))
   has_not (m ∷ ms) x never there =
       let now : none_has (has (m ∷ ms)) (kept_in (m ∷ ms)).book.lives ≡ true =
-      (by_two (none_has (has (m ∷ ms)) (kept_in (m ∷ ms)).book.lives) (never_has has ms) never).0 in
-      none_of (has (m ∷ ms)) (kept_in (m ∷ ms)).book.lives x now there
+      (by_two _ _ never).0 in
+      none_of _ _ x now there
 
   earlier_too : (m : Moment) (ms : List Moment) → never_has has (m ∷ ms) ≡ true → never_has has ms ≡ true
   unfolding never_has
-  earlier_too m ms never = (by_two (none_has (has (m ∷ ms)) (kept_in (m ∷ ms)).book.lives) (never_has has ms) never).1
+  earlier_too m ms never = (by_two _ _ never).1
 
   pub never_earlier : (later earlier : List Moment) → never_has has (later ++ earlier) ≡ true → never_has has earlier ≡ true
   never_earlier [] earlier never = never
-  never_earlier (m ∷ later) earlier never = never_earlier later earlier (earlier_too m (later ++ earlier) never)
+  never_earlier (m ∷ later) earlier never = never_earlier later earlier (earlier_too m _ never)

@@ -64,7 +64,7 @@ each_in Q xs x there h = each_at Q xs x there.0 there.1 there.2 h
 
 pub each_of : {A : Type 0} (xs : List A) → Each (λ (x : A). Contains xs x) xs
 each_of [] = tt
-each_of {A} (x ∷ xs) = (contains_head x xs, each_weaker (λ (y : A). Contains xs y) (λ (y : A). Contains (x ∷ xs) y) xs (λ y there. contains_tail x xs y there) (each_of xs))
+each_of {A} (x ∷ xs) = (contains_head x xs, each_weaker _ _ xs (λ y there. contains_tail x xs y there) (each_of xs))
 
 pub found_in : {A : Type 0} (Q : A → Type 0) (test : A → Bool) (xs : List A) (x : A) → find test xs ≡ Some x → Each Q xs
     → Q x

@@ -34,8 +34,8 @@ unfolding has_first ends_first
 not_then ms x never there f =
     let is_not : has_first ms x ≡ false = has_not has_first ms x never there in
     let end : List Entry = mine_on x.socket (pair_with x.peer (program x.host ms).peers).entries in
-    let shown : ends_first end ≡ true = ap ends_first f.end.one ∙ shows f.end.end.partner_closed (has_cls f.end.end.closing) f.unheard f.closed in
-    let both : false ≡ true = sym is_not ∙ sending_shows (sends x) (ends_first end) f.sending ∙ shown in
+    let shown : ends_first end ≡ true = ap ends_first f.end.one ∙ shows f.end.end.partner_closed _ f.unheard f.closed in
+    let both : false ≡ true = sym is_not ∙ sending_shows (sends x) _ f.sending ∙ shown in
     absurd (cc)
 
 not_so_far : (ms : List Moment) (x : Life) → never_has has_first ms ≡ true → ClosedFirst all_lives ms x → ⊥
