@@ -52,9 +52,12 @@ class Mailboxes:
     def turns(self, crossing: Turned) -> bool:
         fits = self.is_up.get(crossing.host) is (crossing.kind == "down")
         self.is_up[crossing.host] = crossing.kind == "up"
-        if crossing.kind == "up":
-            self.boxes = {flow: it for flow, it in self.boxes.items() if flow.source != crossing.host}
+        self.boxes = {flow: it for flow, it in self.boxes.items() if self.keeps(flow, crossing)}
         return fits
+
+    def keeps(self, flow: Flow, crossing: Turned) -> bool:
+        """Whether a flow's box stays as it is: what a host handed over is forgotten as it comes up."""
+        return crossing.kind == "down" or flow.source != crossing.host
 
 
 def hosts_of(log: Iterable[Crossing]) -> set[HostName]:

@@ -347,11 +347,8 @@ class RunBefore(Judge):
 
 
 class KeptBoxes(Mailboxes):
-    def turns(self, crossing: Turned) -> bool:
-        boxes = self.boxes
-        fits = super().turns(crossing)
-        self.boxes = boxes
-        return fits
+    def keeps(self, flow: Flow, crossing: Turned) -> bool:
+        return True
 
 
 class BoxesStay(Judge):
@@ -361,11 +358,8 @@ class BoxesStay(Judge):
 
 
 class ClearedBoxes(Mailboxes):
-    def turns(self, crossing: Turned) -> bool:
-        fits = super().turns(crossing)
-        if crossing.kind == "up":
-            self.boxes = {flow: it for flow, it in self.boxes.items() if flow.destination != crossing.host}
-        return fits
+    def keeps(self, flow: Flow, crossing: Turned) -> bool:
+        return crossing.kind == "down" or crossing.host not in (flow.source, flow.destination)
 
 
 class BoxesToItGo(Judge):
@@ -375,10 +369,8 @@ class BoxesToItGo(Judge):
 
 
 class DownBoxes(Mailboxes):
-    def turns(self, crossing: Turned) -> bool:
-        fits = super().turns(crossing)
-        self.boxes = {flow: it for flow, it in self.boxes.items() if crossing.kind == "up" or flow.source != crossing.host}
-        return fits
+    def keeps(self, flow: Flow, crossing: Turned) -> bool:
+        return flow.source != crossing.host
 
 
 class BoxesGoAtOnce(Judge):
