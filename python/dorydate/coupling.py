@@ -34,6 +34,13 @@ class Speaks(Protocol):
         """What it answers to a line."""
 
 
+class Silent:
+    """What answers nothing."""
+
+    def hear(self, line: str) -> Sequence[str]:
+        return []
+
+
 class Mute(Exception):
     """Why a program can't be heard."""
 

@@ -12,6 +12,7 @@ from __future__ import annotations
 
 from collections.abc import Iterable, Iterator, Sequence
 from dataclasses import dataclass
+from typing import NamedTuple
 
 from dorydate.program import MOST_OCTETS
 
@@ -25,8 +26,7 @@ class Unmarked(Exception):
     """The lines that were printed don't show the marks that were put in."""
 
 
-@dataclass(frozen=True)
-class Part:
+class Part(NamedTuple):
     """The events from one place to another, which are the last ones of an input."""
 
     begin: int

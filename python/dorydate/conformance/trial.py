@@ -3,10 +3,10 @@
 from __future__ import annotations
 
 from collections.abc import Iterable, Sequence
-from dataclasses import dataclass
+from typing import NamedTuple
 
 from dorydate.conformance.steps import HERE, MINE, OTHER, Dialogue, Step, fits, in_words, joined
-from dorydate.coupling import Coupled, Mute, Speaks, settle
+from dorydate.coupling import Coupled, Mute, Silent, Speaks, settle
 from dorydate.deeds import Stopped
 from dorydate.explore.pattern import Names
 from dorydate.model.bits import octets, read_bits
@@ -19,8 +19,7 @@ NETWORK = Network.joined("HERE-MINE-OTHER-HERE", foreign=["MINE", "OTHER"])
 MOST_TURNS = 12  # of one step: a network that isn't at rest then never will be
 
 
-@dataclass(frozen=True)
-class Finding:
+class Finding(NamedTuple):
     """What is wrong with a program: after which step of a dialogue, and why."""
 
     dialogue: Dialogue
@@ -31,20 +30,13 @@ class Finding:
         return f"after `{self.step.does}` {self.why}. The rule: {self.dialogue.rule}"
 
 
-class Silent:
-    """The second stranger: it takes what comes, and answers nothing."""
-
-    def hear(self, line: str) -> list[str]:
-        return []
-
-
 class Trial:
     """A network with a program in it, and how far a dialogue has come."""
 
     def __init__(self, program: Speaks, dialogue: Dialogue, simulator: Program | None = None) -> None:
         self.net = Replay(NETWORK, simulator, [f"The dialogue `{dialogue.name}`: {dialogue.rule}."])
         self.mine = Coupled(self.net.foreign("MINE"), program)
-        self.hosts = [self.mine, Coupled(self.net.foreign("OTHER"), Silent())]
+        self.hosts = [self.mine, Coupled(self.net.foreign("OTHER"), Silent())]  # it takes what comes, and no more
         self.dialogue = dialogue
         self.names: Names = ()
 

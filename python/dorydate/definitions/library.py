@@ -4,7 +4,7 @@ from __future__ import annotations
 
 from collections.abc import Callable, Collection, Sequence
 from dataclasses import dataclass
-from typing import Union
+from typing import Generic, TypeVar, Union
 
 from dorydate.definitions.files import Definition, Group, Item, Structure, Use, read_file
 from dorydate.definitions.terms import Binder, Field, Name
@@ -12,6 +12,7 @@ from dorydate.definitions.terms import Binder, Field, Name
 # the text of a file, by its path below `crates`; None where there is no such file
 Sources = Callable[[str], "str | None"]
 WORDS = "words"  # the module that has the words of the library
+Thing = TypeVar("Thing")
 
 
 class NoMeaning(Exception):
@@ -19,19 +20,19 @@ class NoMeaning(Exception):
 
 
 @dataclass(frozen=True)
-class Defined:
+class InModule(Generic[Thing]):
+    """What a module declares."""
+
+    module: str
+    item: Thing
+
+
+class Defined(InModule[Definition]):
     """A definition, in its module."""
 
-    module: str
-    item: Definition
 
-
-@dataclass(frozen=True)
-class Typed:
+class Typed(InModule[Structure]):
     """A record or data."""
-
-    module: str
-    item: Structure
 
 
 @dataclass(frozen=True)

@@ -13,6 +13,7 @@ import sys
 import time
 from collections.abc import Callable, Iterator, Sequence
 from dataclasses import dataclass
+from typing import NamedTuple
 
 from dorydate.explore.confirm import confirm
 from dorydate.explore.many import CannotRun, Many
@@ -46,8 +47,7 @@ class Node:
         return not all(self.reached)
 
 
-@dataclass(frozen=True)
-class Count:
+class Count(NamedTuple):
     """What was looked at at a depth: steps, how many of them were refused, states that are new, all states, and seconds."""
 
     depth: int

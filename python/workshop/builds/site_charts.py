@@ -6,7 +6,7 @@ import html
 import re
 import textwrap
 from collections.abc import Iterator, Sequence
-from dataclasses import dataclass
+from typing import NamedTuple
 
 
 class NotDrawn(Exception):
@@ -20,8 +20,7 @@ ARROW = re.compile(r"(\w+)(->>|-->>|-x)(\w+): (.*)")
 NOTE = re.compile(r"Note over (\w+): (.*)")
 
 
-@dataclass(frozen=True)
-class Row:
+class Row(NamedTuple):
     """An arrow between two lanes, or a note over one."""
 
     source: str
