@@ -1,6 +1,6 @@
 pub mod Common
 pub mod Elements
-pub mod Requests
+pub mod Identities
 pub mod Peace
 pub mod FirstLives
 pub mod Worked

@@ -15,7 +15,7 @@ use Rattle.net_sim.specs.declared.auditing.findings.Finding.TheVariants as findi
 use Rattle.promise.specs.Safe.{IsGranted, SafeGrants, SafePartners, Source}
 use Rattle.book_judge.specs.Inside.Chains.{fits_of}
 use Rattle.book_judge.proofs.Elements.{AreAt, contains_place, false_not, get_take, get_took, place_contains, places_two, read_at, two_places}
-use Rattle.book_judge.proofs.Requests.Known.{Apart, apart_is, apart_there, apart_true, same_is, same_true}
+use Rattle.book_judge.proofs.Identities.Known.{Apart, apart_is, apart_there, apart_true, same_is, same_true}
 
 -- ---- the partner's request of a life
 

@@ -35,7 +35,7 @@ fn named_by(own: u32, foreign: u32, command: &Command) -> Option<u8>
 
 /// Returns what the command that the octets begin with names, and how many octets are read by it: all of them, where the
 /// reading ends.
-#[tactic(auto, using(crate::proofs::Requests::Named::orders_of_none))]
+#[tactic(auto, using(crate::proofs::Identities::Named::orders_of_none))]
 fn first_named(own: u32, foreign: u32, octets: &[u8]) -> (Option<u8>, usize)
     requires { 0 < length octets.now }
     ensures named { (more : ℕ) → named_in own foreign (orders_within (1 + more) octets.now) ≡ option_or result.0 (named_in own foreign (orders_within more (drop result.1 octets.now))) }

@@ -1,9 +1,10 @@
-"""docs/measured/promise.md: all that the clauses of headline::book_of promise without a program, from the top.
+"""docs/measured/promise.md: all that the clauses of headline::book_of promise without a program, from the top; and
+docs/measured/among.md, all that those of mixed_worlds::book_among promise beside it.
 
-The clauses of `book_of` are read from its source, but for those that compare with the world (`LEFT`). Below each clause are the definitions to which
+The clauses are read from their source, but for those that compare with the world (`LEFT`). Below each clause are the definitions to which
 its names lead, each before those that it uses, by the imports of its file; what reads texts comes last. A name that is both a field's and a
-definition's counts as the definition, so the page may have too much, and never too little. Then come the types that are declared in Rust, a key
-to the language, and a book worked by hand.
+definition's counts as the definition, so the page may have too much, and never too little. Then come the types that are declared in Rust. The first
+page has a key to the language, and a book worked by hand; the second one has no definition of the first again.
 """
 
 from __future__ import annotations
@@ -19,9 +20,9 @@ from workshop.documents import believed_promises, believed_words
 from workshop.documents.rules import Place, read
 from workshop.parts import ROOT
 
-PAGE = f"{ROOT}/docs/measured/promise.md"
-BOOK = f"{ROOT}/crates/headline/src/book.rt"
-MOST_LINES = 577  # without comments, imports and empty lines: what the clauses need, counted
+MOST_LINES = 577  # without comments, imports and empty lines: what the clauses of book_of need, counted
+MOST_AMONG = 137  # and what those of book_among need beside them
+WORLD = ("net_sim", "World", "WorldState")  # of a world the clauses of book_among use only what is kept, which HEAD_AMONG says
 READING = ("host_pairs", "ncp_control", "bit_messages")  # crates whose definitions say how texts are read
 HEAD = """# What must be believed
 
@@ -30,6 +31,14 @@ HEAD = """# What must be believed
 In a clause, `result` is what `book_of` gives of a world: its `book`, in `handed` the bits that were handed over to be sent in each of the lives, and in `fates` the fate of each (`crates/net_sim/specs/Book.antt`). `(C.calls.seen world.now.carrier).hosts` are the hosts of its network (`crates/interface/specs/Calls.antt`).
 
 Logs are read newest first, and all other lists oldest first. Words that definitions share with Rust are [below](#the-types), and so are [those of the language](#the-words-of-the-language), and [a book to try it on](#a-book-to-try-it-on).
+"""
+HEAD_AMONG = """# What must be believed among strangers
+
+`./check docs --write` makes this page from the sources. It has what is promised [among strangers](../among.md) of a book: the clauses of `mixed_worlds::book_among` but `value`, and every definition that they use and that [the promise's page](promise.md) doesn't have, each before those that it uses. These are {definitions} definitions of {files} files, in {lines} lines without comments; `./check docs` wants at most {most}. [The words of the language](promise.md#the-words-of-the-language) are on that page.
+
+In a clause, `strange_in world.now` says of a host whether it is a stranger (`crates/net_sim/specs/MixedWorlds.antt`), and `hosts` are all hosts of the network, with strangers. Of a world `w` only what it keeps occurs: `w.kept.book`, in `w.kept.handed` the bits that were handed over to be sent in each of its lives, and in `w.kept.fates` the fate of each (`crates/net_sim/specs/Book.antt`).
+
+Logs are read newest first, and all other lists oldest first.
 """
 USE = re.compile(r"^(?:pub )?use Rattle\.(\w+)\.specs\.([\w.]+?)(?:\.\{(.*)\}| as (\w+))?$", re.MULTILINE)
 GHOST_USE = re.compile(r"^ghost use Rattle\.(\w+)\.specs\.([\w.]+)\.\{(.*)\};$", re.MULTILINE)
@@ -40,6 +49,21 @@ FIELD = re.compile(r"^  pub ([\w'-]+) :", re.MULTILINE)
 WORD = re.compile(r"[\w'.-]+")
 
 Key = tuple[str, str, str]  # a definition: its crate, its file's path and its name
+
+
+@dataclass(frozen=True)
+class Page:
+    """A page: its file, the function whose clauses it has, its head, at most how many lines it may have, and the page whose definitions it leaves out."""
+
+    file: str
+    source: str
+    head: str
+    most: int
+    beside: Page | None = None
+
+
+PROMISE = Page("docs/measured/promise.md", "crates/headline/src/book.rt", HEAD, MOST_LINES)
+AMONG = Page("docs/measured/among.md", "crates/mixed_worlds/src/book.rt", HEAD_AMONG, MOST_AMONG, PROMISE)
 
 
 @dataclass(frozen=True)
@@ -142,7 +166,7 @@ class Reading:
 
 @dataclass(frozen=True)
 class Clause:
-    """A clause of `book_of`: its name, its text, and the definition that it begins with."""
+    """A clause of a page: its name, its text, and the definition that it begins with."""
 
     name: str
     text: str
@@ -162,9 +186,9 @@ class Clause:
         return [(part, [key for word in words for key in named(crate, path, word)]) for part, words in names]
 
 
-def clauses() -> list[Clause]:
-    """The clauses of `book_of` that speak of no program, in its order."""
-    text = read(BOOK)
+def clauses(of: Page = PROMISE) -> list[Clause]:
+    """The clauses of a page that speak of no program, in their order."""
+    text = read(f"{ROOT}/{of.source}")
     imports = {name: (crate, path) for crate, path, names in GHOST_USE.findall(text) for name in re.findall(r"[^\s,]+", names)}
     found = [(name, said, said.split()[0]) for name, said in CLAUSE_OF_BOOK.findall(text) if name not in LEFT]
     return [Clause(name, said, (*imports[first], first)) for name, said, first in found]
@@ -187,9 +211,9 @@ def rust_type(crate: str, path: str) -> str:
     return f"\n{Place(file).link(f'{crate}::{name}')}\n\n{text}"
 
 
-def reading() -> tuple[list[tuple[str, dict[Key, Definition]]], Reading]:
-    """The sections of the page, each with its heading and its definitions, and all that they reach."""
-    whole = Reading()
+def reading(of: Page = PROMISE) -> tuple[list[tuple[str, dict[Key, Definition]]], Reading]:
+    """The sections of a page, each with its heading and its definitions, and all that they reach that isn't on the page beside it."""
+    whole = Reading(seen={WORLD} | (reading(of.beside)[1].seen if of.beside else set()))
     sections: list[tuple[str, dict[Key, Definition]]] = []
 
     def section(heading: str, keys: list[Key]) -> None:
@@ -198,7 +222,7 @@ def reading() -> tuple[list[tuple[str, dict[Key, Definition]]], Reading]:
             whole.follow(key)
         sections.append((heading, {key: it for key, it in whole.definitions.items() if key not in before and key[0] not in READING}))
 
-    for clause in clauses():
+    for clause in clauses(of):
         crate, path, name = clause.first
         own = module_of(crate, path).definitions[name]
         heading = f"\n## `{clause.name}`\n\n    ensures {clause.name} {{ {clause.text} }}\n"
@@ -214,15 +238,16 @@ def reading() -> tuple[list[tuple[str, dict[Key, Definition]]], Reading]:
     return sections, whole
 
 
-def page() -> str:
-    sections, whole = reading()
+def page(of: Page = PROMISE) -> str:
+    sections, whole = reading(of)
     files = {key[:2] for key in whole.definitions}
     lines = sum(it.size for it in whole.definitions.values())
-    parts = [HEAD.format(definitions=len(whole.definitions), files=len(files), lines=lines, most=MOST_LINES)]
+    parts = [of.head.format(definitions=len(whole.definitions), files=len(files), lines=lines, most=of.most)]
     parts += [f"{heading}{listed(definitions)}" for heading, definitions in sections if definitions]
     parts.append("\n## The types\n\nRecords and variants that definitions share with the program. `HostAddr` is a `Host` here, `Bits` and `BitLog` are lists of bits.\n")
-    parts += [rust_type(crate, path) for crate, path in sorted(whole.types)]
-    return "".join([*parts, believed_words.key(), believed_words.worked(), believed_promises.table()])
+    parts += [rust_type(crate, path) for crate, path in sorted(whole.types - (reading(of.beside)[1].types if of.beside else set()))]
+    rest = [] if of.beside else [believed_words.key(), believed_words.worked(), believed_promises.table()]
+    return "".join([*parts, *rest])
 
 
 def field_names() -> set[str]:
@@ -241,28 +266,34 @@ def field_names() -> set[str]:
     return {it for clause in clauses() for it in below(clause.name, clause.first)}
 
 
-def left_out(whole: Reading) -> Iterator[str]:
-    """The definitions that those of the page name, and that are not there."""
+def left_out(of: Page, whole: Reading) -> Iterator[str]:
+    """The definitions that those of a page name, and that are not there, nor on the page beside it."""
     for crate, path, name in whole.definitions:
         for word in WORD.findall("\n".join(module_of(crate, path).definitions[name].lines)):
             for key in named(crate, path, word):
-                if key[2] in module_of(*key[:2]).definitions and key not in whole.definitions:
-                    yield f"docs/measured/promise.md: `{name}` names `{key[2]}`, which isn't on the page"
+                if key[2] in module_of(*key[:2]).definitions and key not in whole.definitions and key not in whole.seen:
+                    yield f"{of.file}: `{name}` names `{key[2]}`, which isn't on the page"
 
 
 def write() -> None:
-    text = page()
-    with open(PAGE, "w", encoding="utf-8") as file:
-        file.write(text)
+    for of in (PROMISE, AMONG):
+        text = page(of)
+        with open(f"{ROOT}/{of.file}", "w", encoding="utf-8") as file:
+            file.write(text)
+
+
+def faults_of(of: Page, most: int) -> list[str]:
+    """Whether a page is as it is made and no longer than it may be, and the key explains each name of the library that it uses."""
+    _, whole = reading(of)
+    wrong = [] if os.path.exists(f"{ROOT}/{of.file}") and read(f"{ROOT}/{of.file}") == page(of) else [f"{of.file}: not as it is made (./check docs --write)"]
+    lines = sum(it.size for it in whole.definitions.values())
+    what = "beside the headline" if of.beside else "of the headline"
+    wrong += [f"{of.file}: {lines} lines must be believed {what}, of at most {most}"] if lines > most else []
+    known = believed_words.known_words()
+    wrong += [*dict.fromkeys(left_out(of, whole))]
+    return wrong + [f"{of.file}: the key has no word `{it}`" for it in sorted(whole.library) if it.strip("◌") not in known and it not in known]
 
 
 def faults() -> list[str]:
-    """Whether the page is as it is made and no longer than it may be, and explains each name of the library that it uses."""
-    _, whole = reading()
-    wrong = [] if os.path.exists(PAGE) and read(PAGE) == page() else ["docs/measured/promise.md: not as it is made (./check docs --write)"]
-    lines = sum(it.size for it in whole.definitions.values())
-    wrong += [f"docs/measured/promise.md: {lines} lines must be believed of the headline, of at most {MOST_LINES}"] if lines > MOST_LINES else []
-    known = believed_words.known_words()
-    wrong += [*dict.fromkeys(left_out(whole))]
-    wrong += believed_promises.faults(field_names())
-    return wrong + [f"docs/measured/promise.md: the key has no word `{it}`" for it in sorted(whole.library) if it.strip("◌") not in known and it not in known]
+    """The same of both pages, and whether the first one's table has all that README and the tour promise."""
+    return [*faults_of(PROMISE, MOST_LINES), *faults_of(AMONG, MOST_AMONG), *believed_promises.faults(field_names())]

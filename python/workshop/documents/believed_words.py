@@ -29,7 +29,7 @@ KEY = (
     ("`List A`, `[]`, `x ∷ xs`, `xs ++ ys`, `length`", "a list; the empty one; x before xs; one after the other; how many members it has. A text is a `List Bool`"),
     ("`take n xs`, `drop n xs`", "the first n members, or all where there are fewer; what is left without them"),
     ("`slice_index xs n`, `slice_index_or xs n d`", "member n, from 0 on; d where there is none"),
-    ("`Contains xs x`, `list_any test xs`", "x is a member of xs; whether a member passes the test"),
+    ("`Contains xs x`, `list_any test xs`, `filter test xs`", "x is a member of xs; whether a member passes the test; those that do"),
     ("`Option A`, `Some x`, `None`, `IsSome`, `option_or`, `option_map f o`", "an x, or nothing; that there is one; the first where there is one, else the second; f of what there is"),
     ("`Result A E`, `Ok x`, `Err e`", "a value, or a fault"),
     ("`Width`, `w16`, `w32`, `byte_len`, `from_be_bytes w xs`", "widths of numbers, of 16 and 32 bits; how many octets one has; the number in these octets, the highest first"),

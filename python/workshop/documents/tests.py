@@ -246,6 +246,13 @@ class Believed(unittest.TestCase):
         with mock.patch.object(believed, "MOST_LINES", 10):
             self.assertIn("lines must be believed of the headline, of at most 10", believed.faults()[-1])
 
+    def test_the_page_among_strangers_has_nothing_of_the_first_again(self) -> None:
+        first, second = believed.reading()[1], believed.reading(believed.AMONG)[1]
+        self.assertEqual({*first.definitions} & {*second.definitions}, set())
+        self.assertIn(("mixed_worlds", "Toward", "IsCarried"), second.definitions)
+        with mock.patch.object(believed, "MOST_AMONG", 10):
+            self.assertIn("lines must be believed beside the headline, of at most 10", believed.faults()[-1])
+
     def test_a_word_that_the_key_lacks_is_named(self) -> None:
         with mock.patch.object(believed_words, "KEY", tuple(it for it in believed_words.KEY if "Contains" not in it[0])):
             self.assertIn("docs/measured/promise.md: the key has no word `Contains`", believed.faults())

@@ -6,9 +6,9 @@ use Rattle.interface.specs.declared.crossing.Crossing.TheVariants as crossing
 use Rattle.book_judge.specs.Inside.Arrivals.{AreArrivals, ArrivalOf, IsArrival, IsArrivalAt, IsSteady, found_in, risen, sent_by}
 use Rattle.book_judge.specs.Inside.Joined.{IsNth, PlaceOf, message_of}
 use Rattle.book_judge.specs.declared.arrivals.Arrival.{Arrival}
-use Rattle.book_judge.proofs.Requests.Asked.{grown_length}
+use Rattle.book_judge.proofs.Identities.Asked.{grown_length}
 use Rattle.book_judge.proofs.Elements.{read_at}
-use Rattle.book_judge.proofs.Requests.Named.{get_cases}
+use Rattle.book_judge.proofs.Identities.Named.{get_cases}
 use Rattle.book_judge.proofs.Crossed.Numbers.{nth_message, nth_once}
 use Rattle.book_judge.proofs.Crossed.TextsBy.{texts_within}
 

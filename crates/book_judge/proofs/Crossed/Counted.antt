@@ -20,7 +20,7 @@ use Rattle.book_judge.proofs.Crossed.Sent.{count_since, sent_back, sent_forth}
 use Rattle.book_judge.proofs.Crossed.TextsBy.{texts_less}
 use Rattle.book_judge.proofs.Elements.{contains_place, get_take, get_took, place_contains}
 use Rattle.book_judge.proofs.FirstLives.Strangers.{one_kind}
-use Rattle.book_judge.proofs.Requests.Named.{crossed_there, got_there}
+use Rattle.book_judge.proofs.Identities.Named.{crossed_there, got_there}
 use Rattle.book_judge.proofs.Peace.{asked_of, fits_match, match_fits, one_some}
 
 -- ---- the test

@@ -6,7 +6,7 @@ use Rattle.book_judge.specs.Inside.Deeds.{end_by}
 use Rattle.std.proofs.Common.{eq-eqb, leb-true, max, nat_le}
 use Rattle.book_judge.specs.Inside.Made.{Counts, HasBits, IsMadeBy, Makes, since}
 use Rattle.book_judge.specs.Lives.{UnmadeAt}
-use Rattle.book_judge.proofs.Requests.Named.{contains_cases}
+use Rattle.book_judge.proofs.Identities.Named.{contains_cases}
 use Rattle.book_judge.proofs.Crossed.TextsBy.{before_take, data_read, texts_past, texts_same}
 use Rattle.book_judge.proofs.Ends.Reached.{all_crossings}
 use Rattle.interface.proofs.lemmas.{contains_head, contains_tail, contains_none}

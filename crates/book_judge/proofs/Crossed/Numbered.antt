@@ -11,7 +11,7 @@ use Rattle.book_judge.specs.declared.arrivals.Arrival.{Arrival}
 use Rattle.book_judge.specs.declared.joined.Joined.{Joined}
 use Rattle.book_judge.specs.declared.starts.Start.{Start}
 use Rattle.book_judge.specs.declared.starts.Taking.{Taking}
-use Rattle.book_judge.proofs.Requests.Asked.{below_cases, grown_get, grown_last, grown_length}
+use Rattle.book_judge.proofs.Identities.Asked.{below_cases, grown_get, grown_last, grown_length}
 use Rattle.book_judge.proofs.Crossed.Counted.{counts_is, counts_true}
 use Rattle.book_judge.proofs.Crossed.Numbers.{nth_once}
 use Rattle.book_judge.proofs.Crossed.TextsBy.{texts_within}

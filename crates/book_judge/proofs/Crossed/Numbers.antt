@@ -6,7 +6,7 @@ use Rattle.std.specs.Prelude.{max, nat_lt}
 use Rattle.interface.specs.declared.crossing.Crossing.TheVariants as crossing
 use Rattle.book_judge.specs.Inside.Joined.{IsNth}
 use Rattle.book_judge.proofs.Elements.{read_at}
-use Rattle.book_judge.proofs.Requests.Named.{same_flow_is}
+use Rattle.book_judge.proofs.Identities.Named.{same_flow_is}
 use Rattle.book_judge.proofs.Crossed.Streamed.{place_more}
 use Rattle.book_judge.proofs.Crossed.TextsBy.{both_below, one_above, texts_append, texts_less}
 

@@ -12,7 +12,7 @@ use Rattle.book_judge.specs.declared.joined.Joined.{Joined}
 use Rattle.book_judge.specs.declared.joined.Stream.{Stream}
 use Rattle.book_judge.proofs.Elements.{read_at}
 use Rattle.book_judge.proofs.Crossed.Mailboxes.{get_set}
-use Rattle.book_judge.proofs.Requests.Named.{get_cases, get_front, get_seam, named_there, same_flow_is, texts_at}
+use Rattle.book_judge.proofs.Identities.Named.{get_cases, get_front, get_seam, named_there, same_flow_is, texts_at}
 use Rattle.book_judge.proofs.Crossed.TextsBy.{AreRead, between, bits_append, data_ends, data_read, read_data, texts_after, texts_append, texts_between, texts_less, texts_past, texts_split, texts_within, unread_append, unread_two, within}
 
 -- ---- one crossing more

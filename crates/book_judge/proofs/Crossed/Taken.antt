@@ -9,10 +9,10 @@ use Rattle.interface.proofs.lemmas.{or_false}
 use Rattle.book_judge.specs.Inside.{says, waits_with}
 use Rattle.book_judge.specs.Inside.Taken.{finds, held_or, last_on, noted, was_taken}
 use Rattle.book_judge.specs.declared.mail.Held.TheVariants as held
-use Rattle.book_judge.proofs.Requests.Asked.{one_back}
+use Rattle.book_judge.proofs.Identities.Asked.{one_back}
 use Rattle.book_judge.proofs.Crossed.TextsBy.{before_place}
 use Rattle.book_judge.proofs.Crossed.Mailboxes.{get_set}
-use Rattle.book_judge.proofs.Requests.Named.{same_flow_is}
+use Rattle.book_judge.proofs.Identities.Named.{same_flow_is}
 use Rattle.book_judge.proofs.Crossed.SameText.{same_text-is, same_text-true}
 
 -- ---- what crossed last on a flow

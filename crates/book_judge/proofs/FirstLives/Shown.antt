@@ -7,7 +7,7 @@ use Rattle.std.specs.List.{slice_get}
 use Rattle.std.specs.Prelude.{nat_le}
 use Rattle.promise.specs.declared.life.Amount.{Amount}
 use Rattle.book_judge.specs.Inside.Chains.{is_shown, same_amount, shown_of}
-use Rattle.book_judge.proofs.Requests.Known.{same_true}
+use Rattle.book_judge.proofs.Identities.Known.{same_true}
 
 same_amounts : (a b : Amount) → same_amount a b ≡ true → a ≡ b
 same_amounts a b h =

@@ -112,7 +112,7 @@ fn push_act(
 /// of them, where the reading ends.
 ///
 /// Errors: `AllocError`.
-#[tactic(auto, using(crate::proofs::Requests::Named::orders_of_none))]
+#[tactic(auto, using(crate::proofs::Identities::Named::orders_of_none))]
 fn add_first(
     deeds: &mut Vec<Deed>,
     comes: bool,

@@ -1,5 +1,5 @@
 use Rattle.std.proofs.Common.{arith}
-use Rattle.book_judge.proofs.Requests.Walks.{all_chained, chain_init, chain_next}
+use Rattle.book_judge.proofs.Identities.Walks.{all_chained, chain_init, chain_next}
 use Rattle.book_judge.proofs.chains.chained.Goals as goal
 
 pub loop-place-init : goal.loop-place-init

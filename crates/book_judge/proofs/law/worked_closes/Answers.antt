@@ -2,7 +2,7 @@ use Rattle.book_judge.proofs.Common.{◌≡◌, ◌++◌, ◌∙◌, Bool, true,
 use Rattle.net_sim.specs.Worked.{eight, four}
 use Rattle.promise.specs.declared.life.Fate.TheVariants as fate
 use Rattle.book_judge.proofs.Elements.{place_contains}
-use Rattle.book_judge.proofs.Requests.Named.{contains_cases}
+use Rattle.book_judge.proofs.Identities.Named.{contains_cases}
 use Rattle.book_judge.proofs.law.worked_closes.Goals as goal
 use Rattle.interface.proofs.lemmas.{contains_none}
 

@@ -4,7 +4,7 @@ use Rattle.ncp_control.specs.Reading.{command_of, read_of}
 use Rattle.host_pairs.specs.Control.{orders_of}
 use Rattle.book_judge.specs.WorkedLives.{stopped_log}
 use Rattle.book_judge.proofs.Crossed.Made.{made_formed, none_made}
-use Rattle.book_judge.proofs.Requests.Named.{contains_cases}
+use Rattle.book_judge.proofs.Identities.Named.{contains_cases}
 use Rattle.book_judge.proofs.Worked.{gave_goes, took_goes}
 use Rattle.book_judge.proofs.law.worked_lives.Goals as goal
 use Rattle.interface.proofs.lemmas.{contains_head, contains_none}

@@ -1,6 +1,6 @@
 use Rattle.book_judge.proofs.Common.{◌≡◌, Some, length, refl, sym, ◌∙◌, arith, slice_get_read}
 use Rattle.std.specs.List.{slice_get}
-use Rattle.book_judge.proofs.Requests.Known.{known_next, new_apart}
+use Rattle.book_judge.proofs.Identities.Known.{known_next, new_apart}
 use Rattle.book_judge.proofs.partners.takes.Goals as goal
 
 pub returns : goal.returns

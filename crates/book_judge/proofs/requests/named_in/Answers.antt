@@ -1,5 +1,5 @@
 use Rattle.std.proofs.Common.{◌<◌, length, sym, rules}
-use Rattle.book_judge.proofs.Requests.Named.{named_here, named_next, none_named}
+use Rattle.book_judge.proofs.Identities.Named.{named_here, named_next, none_named}
 use Rattle.book_judge.proofs.requests.named_in.Goals as goal
 
 pub orders-preserved : goal.orders-preserved

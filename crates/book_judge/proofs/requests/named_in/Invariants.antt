@@ -1,5 +1,5 @@
 use Rattle.book_judge.proofs.Common.{length, orders_of, named_in}
-use Rattle.book_judge.proofs.Requests.Named.{IsNamed}
+use Rattle.book_judge.proofs.Identities.Named.{IsNamed}
 use Rattle.book_judge.proofs.requests.named_in.Given as goal
 
 abbrev pub invariant-orders : goal.invariant-orders

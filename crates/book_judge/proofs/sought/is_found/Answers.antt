@@ -2,7 +2,7 @@ use Rattle.book_judge.proofs.Common.{ℕ, refl, ap, ◌∙◌, SoughtAt}
 use Rattle.book_judge.specs.Inside.Asked.{key}
 use Rattle.std.specs.FinMap as map
 use Rattle.book_judge.proofs.Elements.{when_false}
-use Rattle.book_judge.proofs.Requests.Walks.{sought_keyed, walk_init, walk_on, walk_over, walk_smaller}
+use Rattle.book_judge.proofs.Identities.Walks.{sought_keyed, walk_init, walk_on, walk_over, walk_smaller}
 use Rattle.book_judge.proofs.sought.is_found.Goals as goal
 
 pub chain-init : goal.chain-init

@@ -1,5 +1,5 @@
 use Rattle.book_judge.proofs.Common.{◌≡◌, ℕ, length, subst, arith, AreOuts}
-use Rattle.book_judge.proofs.Requests.Asked.{outs_init, outs_next}
+use Rattle.book_judge.proofs.Identities.Asked.{outs_init, outs_next}
 use Rattle.book_judge.proofs.stamps.outs_of.Goals as goal
 
 pub loop-place-init : goal.loop-place-init

@@ -1,5 +1,5 @@
 use Rattle.book_judge.proofs.Common.{◌≤◌, length, reverse, take, AreOuts}
-use Rattle.book_judge.proofs.Requests.Asked.{AreLast}
+use Rattle.book_judge.proofs.Identities.Asked.{AreLast}
 use Rattle.book_judge.proofs.stamps.outs_of.Given as goal
 
 abbrev pub invariant-loop-place : goal.invariant-loop-place

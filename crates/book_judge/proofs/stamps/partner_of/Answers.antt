@@ -1,5 +1,5 @@
 use Rattle.std.proofs.Common.{rules}
-use Rattle.book_judge.proofs.Requests.Asked.{stamped_by, unasked, unsent, untaken}
+use Rattle.book_judge.proofs.Identities.Asked.{stamped_by, unasked, unsent, untaken}
 use Rattle.book_judge.proofs.stamps.partner_of.Goals as goal
 
 pub returns-then-not-passes_at : goal.returns-then-not-passes_at

@@ -1,5 +1,5 @@
 use Rattle.std.proofs.Common.{reverse, arith}
-use Rattle.book_judge.proofs.Requests.Asked.{all_asked, named_init, named_next, unstamped_here}
+use Rattle.book_judge.proofs.Identities.Asked.{all_asked, named_init, named_next, unstamped_here}
 use Rattle.book_judge.proofs.stamps.partners_of.Goals as goal
 
 pub loop-place-init : goal.loop-place-init

@@ -1,6 +1,6 @@
 use Rattle.std.proofs.Common.{ap, sym, ◌∙◌}
 use Rattle.std.specs.FinMap as map
-use Rattle.book_judge.proofs.Requests.Placed.{get_place}
+use Rattle.book_judge.proofs.Identities.Placed.{get_place}
 use Rattle.book_judge.proofs.places.Places.get.Goals as goal
 
 pub returns : goal.returns

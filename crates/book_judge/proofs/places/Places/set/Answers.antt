@@ -1,6 +1,6 @@
 use Rattle.std.proofs.Common.{ap, ◌∙◌}
 use Rattle.std.specs.FinMap as map
-use Rattle.book_judge.proofs.Requests.Placed.{place_set}
+use Rattle.book_judge.proofs.Identities.Placed.{place_set}
 use Rattle.book_judge.proofs.places.Places.set.Goals as goal
 
 pub returns : goal.returns

@@ -9,7 +9,7 @@ use Rattle.promise.specs.Formed.{coming, going}
 use Rattle.book_judge.specs.Inside.Asked.{noted, out_at, passes}
 use Rattle.book_judge.proofs.Elements.{contains_place, get_take, get_took, place_contains}
 use Rattle.book_judge.proofs.Crossed.Mailboxes.{get_set}
-use Rattle.book_judge.proofs.Requests.Named.{crossed_there, get_front, get_seam, got_there, same_flow_is}
+use Rattle.book_judge.proofs.Identities.Named.{crossed_there, get_front, get_seam, got_there, same_flow_is}
 
 -- ---- a list that grows
 

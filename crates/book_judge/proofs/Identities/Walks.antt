@@ -5,10 +5,10 @@ use Rattle.std.specs.List.{slice_get}
 use Rattle.std.specs.FinMap as map
 use Rattle.book_judge.specs.Inside.Chains.{NoneWith}
 use Rattle.book_judge.specs.declared.sought.Sought.{Sought}
-use Rattle.book_judge.proofs.Requests.Asked.{below_cases, grown_get, grown_last, grown_length}
+use Rattle.book_judge.proofs.Identities.Asked.{below_cases, grown_get, grown_last, grown_length}
 use Rattle.book_judge.proofs.Elements.{read_at}
-use Rattle.book_judge.proofs.Requests.Known.{same_true}
-use Rattle.book_judge.proofs.Requests.Placed.{set_cases}
+use Rattle.book_judge.proofs.Identities.Known.{same_true}
+use Rattle.book_judge.proofs.Identities.Placed.{set_cases}
 
 -- ---- chains that grow
 

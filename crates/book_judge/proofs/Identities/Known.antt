@@ -6,9 +6,9 @@ use Rattle.std.specs.List.{slice_get}
 use Rattle.std.specs.FinMap as map
 use Rattle.std.proofs.lemmas.Bool.{and_from}
 use Rattle.book_judge.specs.Inside.Partners.{AreKnown, alike, apart_of, are_apart, is_mate, is_new, is_none_at, mate_of}
-use Rattle.book_judge.proofs.Requests.Asked.{below_cases}
+use Rattle.book_judge.proofs.Identities.Asked.{below_cases}
 use Rattle.book_judge.proofs.Elements.{not_is, not_true}
-use Rattle.book_judge.proofs.Requests.Placed.{has_more}
+use Rattle.book_judge.proofs.Identities.Placed.{has_more}
 
 -- ---- names
 
