@@ -15,7 +15,7 @@ from pathlib import Path
 from dorydate import ending
 from dorydate.given import Input
 from dorydate.live import record as records
-from dorydate.live.engine import Ended, Rounds
+from dorydate.live.engine import Ended, engine_of
 from dorydate.live.gateway import Gateway
 from dorydate.live.interface import Interface
 from dorydate.live.page import Page
@@ -125,7 +125,7 @@ def opened(chosen: argparse.Namespace) -> Session:
     network = Network.read(topology)
     if not network.strangers():
         raise Refused("no host of this topology is a stranger: an IMP names them as in `foreign = [0]`")
-    engine = Rounds(found(), topology, network)
+    engine = engine_of(found(), topology, network)
     printed = engine.resumed([it for it in lines if it and not it.startswith(b"#")]) if chosen.resume else []
     chosen.lines, chosen.printed = lines, printed
     folder = Path(chosen.record or chosen.resume)
@@ -244,6 +244,7 @@ def main(words: Sequence[str] | None = None) -> int:
         why = asyncio.run(serve(session, chosen))
         session.say(f"ends after {session.events} events: {why}")
         session.record.end()
+        session.engine.end()
     except (Refused, Ended, BadNetwork, NoProgram) as fault:
         print(f"live: {fault}", file=sys.stderr)
         return 1

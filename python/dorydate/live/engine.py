@@ -2,16 +2,24 @@
 
 from __future__ import annotations
 
+import os
+import select
+import subprocess
+import time
 from collections.abc import Sequence
 from typing import Protocol
 
 from dorydate.marks import LAST, NO_SUCH_LINE, Part, Unmarked, printed_in
 from dorydate.network import Network
 from dorydate.printed import refusal
-from dorydate.program import MOST_OCTETS, Program, TookTooLong
+from dorydate.program import MOST_OCTETS, MOST_PRINTED, SECONDS, PrintedTooMuch, Program, TookTooLong
 from dorydate.script import Event, Offer, Take
 
 Heard = list[list[str]]  # what each event prints, with the octets of messages
+
+
+LIVE = "--live"
+AT_ONCE = 1 << 16  # octets of an answer that are read at once
 
 
 class Ended(Exception):
@@ -26,6 +34,16 @@ class Engine(Protocol):
 
     def resumed(self, lines: Sequence[bytes]) -> list[str]:
         """Lets all lines of an earlier session happen, and answers what they print."""
+
+    def end(self) -> None:
+        """Lets nothing happen any more."""
+
+
+def engine_of(program: Program, topology: str, network: Network) -> Engine:
+    """What lets events happen: the program as it stays, where it does (`--live`), else one run of it for each round."""
+    if LIVE in program.run(b"", "--help").output:
+        return Lines(program, topology)
+    return Rounds(program, topology, network)
 
 
 def changes(event: Event, said: Sequence[str]) -> bool:
@@ -74,3 +92,76 @@ class Rounds:
             raise Ended(f"the program says of the earlier session: {ran.said.strip()} (status {ran.status})")
         self.happened, self.printed = happened, ran.output.removesuffix(f"{LAST}\n")
         return self.printed.splitlines()
+
+    def end(self) -> None:
+        """Nothing runs between two rounds."""
+
+
+class Lines:
+    """The program as it stays: it answers each line as it comes, by what it prints of it and an empty line."""
+
+    def __init__(self, program: Program, topology: str) -> None:
+        # in a group of its own, so that an interrupt at a terminal doesn't end the program before the session
+        self.process = subprocess.Popen(
+            [program.path, LIVE],
+            stdin=subprocess.PIPE,
+            stdout=subprocess.PIPE,
+            stderr=subprocess.PIPE,
+            bufsize=0,
+            start_new_session=True,
+        )
+        self._say(topology.encode("utf-8", "surrogateescape") + b"%\n")
+
+    def hear(self, events: Sequence[Event]) -> Heard:
+        return [self._answer(str(it).encode("latin-1")) for it in events]
+
+    def resumed(self, lines: Sequence[bytes]) -> list[str]:
+        """Lets all lines of an earlier session happen, and answers what they print."""
+        return [said for it in lines for said in self._answer(it)]
+
+    def end(self) -> None:
+        """Ends the input, after which the program prints its last line and ends."""
+        if self.process.poll() is None and (last := self._ended()) != f"{LAST}\n".encode():
+            raise Ended(f"the program ends with {last!r}")
+
+    def _say(self, octets: bytes) -> None:
+        stdin = self.process.stdin
+        assert stdin is not None
+        try:
+            while octets:
+                octets = octets[stdin.write(octets) :]
+        except BrokenPipeError:
+            self._ended()
+
+    def _answer(self, line: bytes) -> list[str]:
+        """What the program prints of a line."""
+        self._say(line + b"\n")
+        stdout = self.process.stdout
+        assert stdout is not None
+        last = time.monotonic() + SECONDS
+        answer = bytearray()
+        while not (answer == b"\n" or answer.endswith(b"\n\n")):
+            if not select.select([stdout], [], [], max(0.0, last - time.monotonic()))[0]:
+                raise self._stopped(TookTooLong(f"the program ran longer than {SECONDS} seconds"))
+            if not (piece := os.read(stdout.fileno(), AT_ONCE)):
+                self._ended()
+            answer += piece
+            if len(answer) > MOST_PRINTED:
+                raise self._stopped(PrintedTooMuch())
+        return answer.decode("latin-1").splitlines()[:-1]
+
+    def _ended(self) -> bytes:
+        """What the program still prints at the end of its input. It says why, if it ended with a fault."""
+        try:
+            output, said = self.process.communicate(timeout=SECONDS)
+        except subprocess.TimeoutExpired:
+            raise self._stopped(TookTooLong(f"the program ran longer than {SECONDS} seconds")) from None
+        if status := self.process.returncode:
+            raise Ended(f"the program says: {said.decode('utf-8', 'replace').strip()} (status {status})")
+        return bytes(output)
+
+    def _stopped(self, why: TookTooLong) -> Ended:
+        """Stops the program, and says why."""
+        self.process.kill()
+        self.process.communicate()
+        return Ended(str(why))
