@@ -119,6 +119,15 @@ class Carried(unittest.TestCase):
         self.assertEqual(expected(["--check"], PAIR, ["take 0/1"]), (0, "ok\n", ""))
         self.assertEqual(expected(["--log"], PAIR, []), (1, "", "arpasim: bad arguments\n"))
 
+    def test_how_sessions_end(self) -> None:
+        lines = ["# it sends", "out 0/1 0/2 5 8 41", "out 0/1 0/2 5 8 42", "no", ""]
+        said = "\nout 0/1 0/2 5 8 41\n\nrefused Blocked\n\n"
+        self.assertEqual(expected(["--live"], PAIR, lines), (2, said, "arpasim: bad script line 4\n"))
+        self.assertEqual(expected(["--live"], PAIR, [*lines[:3], ""]), (0, f"{said}end\n", ""))
+        self.assertEqual(expected(["--live"], PAIR, lines[:3]), (0, f"{said}end\n", ""))
+        self.assertEqual(expected(["--live"], PAIR, [""]), (0, "end\n", ""))
+        self.assertEqual(expected(["--live", "--texts"], PAIR, [""]), (1, "", "arpasim: bad arguments\n"))
+
 
 class Judged(unittest.TestCase):
     def test_logs_of_mailboxes(self) -> None:

@@ -90,6 +90,8 @@ def asked(words: Sequence[str]) -> tuple[str, list[str]] | None:
 
 def expected(options: Sequence[str], network: Topology, lines: Iterable[str], runs: Collection[str] = EVERYTHING) -> End:
     """How the program ends on a network and the lines of a script."""
+    if [*options] == ["--live"]:
+        return session(network, [*lines], runs)
     if any(word not in ("--book", "--check", "--texts") or options.count(word) > 1 for word in options):
         return BAD_ARGUMENTS
     if not network_is_good(network, runs):
@@ -108,6 +110,25 @@ def expected(options: Sequence[str], network: Topology, lines: Iterable[str], ru
     printed = with_texts(place.printed, log_of(place)) if "--texts" in options else place.printed
     lives = place.end_of_book() if "--book" in options and isinstance(place, World) else []
     return 0, "\n".join([*printed, *lives, "end\n"]), ""
+
+
+def session(network: Topology, lines: Sequence[str], runs: Collection[str] = EVERYTHING) -> End:
+    """How a session ends: each line is answered by what `--texts` prints of it and an empty line, up to one that is no event.
+
+    The last of the lines is what follows the last line feed: no line, where that is nothing."""
+    if not network_is_good(network, runs):
+        return 1, "", "arpasim: bad topology\n"
+    place, said = opened(network), ""
+    for number, line in enumerate(lines if lines[-1:] != [""] else lines[:-1], 1):
+        printed, crossed = len(place.printed), len(log_of(place))
+        try:
+            event = read_line(line, network.raw, runs, strangers=bool(network.foreign))
+        except BadLine:
+            return 2, said, f"arpasim: bad script line {number}\n"
+        if event:
+            place.happen(*event)
+        said += "\n".join([*with_texts(place.printed[printed:], log_of(place)[crossed:]), "\n"])
+    return 0, f"{said}end\n", ""
 
 
 def with_texts(printed: Iterable[str], crossings: Iterable[Crossing]) -> Iterator[str]:

@@ -76,9 +76,10 @@ class Case:
     def read(name: str, octets: bytes, path: str) -> Case:
         """The case of an input, with what is stored beside a file."""
         printed, words = octets_of(path + ".stdout") or b"", (octets_of(path + ".stderr") or b"").decode()
-        if printed and words:
-            raise Wrong(f"{name}: an input that is refused prints nothing")
-        return Case(name, octets, octets_of(path + ".args"), printed, words, int(octets_of(path + ".status") or 0))
+        options = octets_of(path + ".args")
+        if printed and words and options != b"--live\n":
+            raise Wrong(f"{name}: an input that is refused prints nothing, but in a session")
+        return Case(name, octets, options, printed, words, int(octets_of(path + ".status") or 0))
 
     def differs(self, program: str, may_help: bool = False) -> str | None:
         """How what comes of the case differs from what is stored, or None. A form that `may_help` says more after a fault."""

@@ -11,7 +11,7 @@ plainest spelling.
 Networks with host programs are tried as far as the program runs them, which it is asked first: their scripts are made event by
 event, by looking at what the model has come to (python/dorydate/model/chance/worlds.py), and it is counted what they came to. So are scripts of raw
 networks in which IMPs ask what became of their messages (python/dorydate/model/chance/questions.py). Of these the log is compared too, since two answers
-are printed alike. And so are scripts of networks with strangers, some by their logs (python/dorydate/model/chance/strangers.py).
+are printed alike. And so are scripts of networks with strangers, some by their logs (python/dorydate/model/chance/strangers.py). Some of each kind are sessions, whose lines are answered one by one.
 `./check model asking RUNS` tries only those with questions, this many.
 
 It takes the proved program, or where ./build has not made that the one that was built without proofs. With `--try`, and perhaps the folder of another clone of the repository, it
@@ -47,6 +47,7 @@ PLAIN_AND_LOG: tuple[list[str], list[str]] = [], ["--log"]
 INPUTS = 3000
 WORLDS = 1500
 MIXED = 500
+SESSIONS = 200  # of each kind of network
 ASKING = 500
 
 # ---- random inputs
@@ -74,6 +75,12 @@ def some_mixed_input(seed: int) -> Given:
         lines[chance.randrange(len(lines))] = changed(chance, other) if chance.random() < 0.2 else other
     options: list[list[str]] = [[], ["--book"], ["--texts", "--book"], ["--log"]]
     return chance.choice(options), naming(network, world.strangers), lines
+
+
+def some_sessions(seed: int, runs: Sequence[str]) -> Iterator[Given]:
+    """Networks of each kind, and scripts whose lines are answered one by one."""
+    for _, network, lines in some_input(random.Random(seed)), some_world_input(seed, runs), some_mixed_input(seed):
+        yield ["--live"], network, lines
 
 
 def some_questions(seed: int, seen: Counter[str]) -> tuple[Topology, list[str]]:
@@ -190,7 +197,8 @@ def main() -> int:
         return 1
     print("check model: worlds came to", ", ".join(f"{count} {name}" for name, count in sorted(came_to.items())))
     mixed = [some_mixed_input(seed) for seed in range(MIXED if not is_tried else MIXED // 10)]
-    if compare(program, mixed, runs) is None:
+    sessions = [given for seed in range(SESSIONS if not is_tried else SESSIONS // 10) for given in some_sessions(seed, runs)]
+    if compare(program, mixed, runs) is None or compare(program, sessions, runs) is None:
         return 1
     return compare_asking(program, ASKING if not is_tried else ASKING // 10, runs)
 
