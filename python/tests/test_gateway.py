@@ -119,6 +119,7 @@ class Live(unittest.TestCase):
         with contextlib.redirect_stderr(said):
             session = opened(chosen)
             why = asyncio.run(both())
+            session.engine.end()
         self.is_the_replay(folder)
         return f"{said.getvalue()}{why}"
 
@@ -238,6 +239,7 @@ class Live(unittest.TestCase):
         asked = ["--record", str(self.folder / folder)]
         asked += ["--resume", str(self.folder / folder)] if resumed else [str(self.folder / "three")]
         session = opened(parser().parse_args(asked))
+        self.addCleanup(session.engine.end)
         session.say = session.record.say
         return session, Gateway(session)
 

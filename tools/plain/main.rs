@@ -8,7 +8,7 @@
 //! It leaves out
 //!
 //! - most of TOML: it reads the spelling that topologies here have, one key a line, and takes some documents that TOML refuses;
-//! - `--log`, `--trace` and `--audit`;
+//! - `--log`, `--trace`, `--audit` and `--live`;
 //! - running out of memory, which ends it.
 
 mod bits;

@@ -127,6 +127,8 @@ class Lines:
     def _say(self, octets: bytes) -> None:
         stdin = self.process.stdin
         assert stdin is not None
+        if stdin.closed:
+            raise Ended("the program has ended")
         try:
             while octets:
                 octets = octets[stdin.write(octets) :]

@@ -18,7 +18,7 @@ from workshop.checks.cases import cases_below
 from workshop.parts import ROOT
 from workshop.words import Words
 
-LEFT_OUT = ("--log", "--trace", "--audit")
+LEFT_OUT = ("--log", "--trace", "--audit", "--live")
 
 
 def ended(program: str, options: Iterable[str], octets: bytes) -> tuple[int, bytes, str]:
