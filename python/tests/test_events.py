@@ -11,9 +11,10 @@ import dorydate
 from dorydate import script
 from dorydate.explain.inside import LOOKS
 from dorydate.explore.kinds import LEFT_OUT, pools
-from dorydate.model.chance.subnets import WEIGHTS
+from dorydate.model.chance.subnets import WEIGHTS, Chance
 from dorydate.model.names import Refused
 from dorydate.model.script import BadLine, read_event
+from dorydate.model.trace import spelled
 from dorydate.network import Network
 from dorydate.sentences import IN_A_HOST, IN_A_SUBNET
 from dorydate.sentences.events import EVENTS, OF_CARRIERS, OF_RAW, OF_SUBNETS, OF_WORLDS, REFUSALS, words_of
@@ -57,6 +58,9 @@ class Events(unittest.TestCase):
     def test_what_happens_in_a_carrier_is_explained_tried_and_explored(self) -> None:
         self.assertEqual({*OF_CARRIERS} - {*LOOKS}, {"hostup"})  # a host that starts does nothing else
         self.assertLessEqual({*OF_RAW}, {*WEIGHTS})
+        chance = Chance(0, is_largest=False)
+        for word in OF_RAW:
+            self.assertEqual(str(script.read_event(spelled((word, *chance.parts(word))))).split(" ")[0], word)
         self.assertEqual({*pools(Network.joined("A-B", raw=True))}, {*OF_RAW} - {*LEFT_OUT, "calm"})
 
 

@@ -13,7 +13,7 @@ from workshop.documents import anchors, believed, believed_words, budget, clause
 from workshop.documents import event_words, figures, long_clauses, named_crates, paragraphs, rules, stated, tags
 from workshop.drawings import facts, formats, hosts, network, pictures, repository
 from workshop.drawings.svg import Drawing
-from workshop.parts import ROOT
+from workshop.parts import ROOT, text_of
 
 
 def drawn(*texts: tuple[float, float, str]) -> Drawing:
@@ -419,7 +419,7 @@ class EventWords(unittest.TestCase):
         self.assertEqual(self.listed("a.js", f"const WEIGHTS = {{ {pairs} }};"), 0)
 
     def test_a_page_with_other_words_or_operands_is_named(self) -> None:
-        page = event_words.text_of(event_words.PAGE)
+        page = text_of(event_words.PAGE)
         for was, now in (("`ask S D N`", "`ask S D`"), ("`resend I`, ", ""), ("| `NoRoom` |", "| `NoPlace` |")):
             self.assertIn(was, page)
             with mock.patch.object(event_words, "text_of", lambda path, was=was, now=now: wrong(path, was, now)):

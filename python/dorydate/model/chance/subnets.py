@@ -15,7 +15,8 @@ from dorydate.model.names import Flow, HostName
 from dorydate.model.packets import MOST_IMPS
 from dorydate.model.script import Event
 from dorydate.model.subnet import Subnet
-from dorydate.sentences.events import EVENTS, OF_RAW
+from dorydate.sentences.events import EVENTS as WORDS
+from dorydate.sentences.events import OF_RAW
 
 EVENTS = 100
 LARGEST_EVENTS = 400
@@ -81,7 +82,7 @@ class Chance:
         """The parts of an event of a kind: as a rule about what is there."""
         imps = [number for number, _ in self.imps] * 6 + [self.random.randrange(1, 64)]
         sure = self.random.random() < 0.9
-        match kind, EVENTS[kind].shape if kind in EVENTS else "":
+        match kind, WORDS[kind].shape if kind in WORDS else "":
             case "out", _:
                 length = self.random.choice(self.lengths)
                 return self.random.choice(self.flows), "".join(self.random.choice("01") for _ in range(length))
