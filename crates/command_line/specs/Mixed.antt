@@ -20,7 +20,6 @@ use Rattle.world_replay.specs.Output as lines
 use Rattle.world_script.specs.Mixed.{AskForMixed, IsEventAmong, mixed_spelling}
 use Rattle.world_script.specs.declared.event.MixedWorldEvent.{MixedWorldEvent}
 use Rattle.command_line.specs.Carriers.{plain_of, subnet_of}
-use Rattle.command_line.specs.Input.{WantsMemory}
 use Rattle.command_line.specs.Replayed.{ShowsBook, WritesWorld}
 use Rattle.command_line.specs.declared.fault.ScriptFault.{ScriptFault}
 use Rattle.command_line.specs.declared.fault.ScriptFault.TheVariants as fault
@@ -60,16 +59,13 @@ pub record HasNoStrangers (octets : List ℕ) : Type 0 where
   pub parted : IsParted octets document script
   pub unfit : IsUtf8 document → (t : MixedFields) → ¬ DescribesMixed document t
 
-abbrev pub IsMixedNetwork : List ℕ → Type 0
-IsMixedNetwork document = (t : MixedFields) × DescribesMixed document t
-
 -- when each fault may be given for octets that have to be such an input
 abbrev pub IsMixedFault : List ℕ → ScriptFault → Type 0
 IsMixedFault octets (fault.BadLine number) = HasBadMixedLine octets number
 IsMixedFault octets fault.TooLong = 268435456 < length octets
 IsMixedFault octets fault.BadTopology = (All (λ line. line ≢ codes "%") (lines_of octets)) ⊎ HasNoStrangers octets
 IsMixedFault octets fault.CannotRead = ⊥
-IsMixedFault octets fault.OutOfMemory = WantsMemory IsMixedNetwork octets
+IsMixedFault octets fault.OutOfMemory = Unit {0}
 IsMixedFault octets fault.CannotWrite = IsSomeMixed octets
 IsMixedFault octets fault.BadOptions = ⊥
 
