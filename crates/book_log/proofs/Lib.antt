@@ -3,7 +3,6 @@ mod Books
 mod Cuts
 mod Going
 mod Keywords
-mod Memory
 mod Named
 mod Networks
 mod Numbers

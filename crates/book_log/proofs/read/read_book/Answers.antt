@@ -1,6 +1,5 @@
-use Rattle.std.proofs.Common.{◌∙◌, arith, inl, inr, sym}
+use Rattle.std.proofs.Common.{◌∙◌, arith, sym}
 use Rattle.book_log.proofs.Going.{bad_behind, bad_end, bad_here, bad_place, line_more, shorter, whole}
-use Rattle.book_log.proofs.Memory.{begins_one, ran_out}
 use Rattle.book_log.proofs.read.read_book.Goals as goal
 
 pub returns-in_default-2 : goal.returns-in_default-2
@@ -41,10 +40,3 @@ lines-preserved c =
 pub returns : goal.returns
 returns c =
     bad_end c.args.text.now c.lines.left.now c.lines.book c.lines.passed c.lines.invariant.0 c.in_default.ensures
-
--- ---- memory
-
-pub returns-in_err-told : goal.returns-in_err-told
-returns-in_err-told c =
-    ran_out c.args.text.now c.lines.left.now c.in-Some.line.now c.in-Some.more.now c.lines.book c.lines.passed
-    c.lines.invariant.0 c.in-Some.ensures.0 (inl c.in_err-told.ensures)

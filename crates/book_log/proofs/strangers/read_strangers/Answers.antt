@@ -1,5 +1,3 @@
-use Rattle.book_log.proofs.Common.{List, ap, ◌++◌, ◌∙◌, ℕ}
-use Rattle.book_log.specs.Log.{strangers_text}
 use Rattle.book_log.proofs.Named.{named_less, names, one_more}
 use Rattle.book_log.proofs.strangers.read_strangers.Goals as goal
 
@@ -15,13 +13,3 @@ lines-smaller c = named_less c.lines.left.now c.in-Some.next.1.now c.in-Some.nex
 pub returns : goal.returns
 returns c =
     names c.args.text.now c.lines.left.now c.lines.strangers.items c.lines.last c.lines.invariant c.in_default.ensures
-
-pub returns-in_err-push : goal.returns-in_err-push
-returns-in_err-push c = record {
-  strangers = c.lines.strangers.items;
-  next = c.in-Some.next.0;
-  rest = c.in-Some.next.1.now;
-  parted = c.lines.invariant.parted ∙ ap (λ (t : List ℕ). strangers_text c.lines.strangers.items ++ t) c.in-Some.ensures.0;
-  named = c.lines.invariant.named;
-  meant = c.in-Some.ensures.1;
-}
