@@ -496,10 +496,11 @@ async function lessons(browser) {
     const options = 'document.querySelectorAll("#lesson option")';
     const names = await browser.evaluate(`return [...${options}].map((it) => it.value);`);
     let steps = 0;
-    for (const name of names) {
+    for (const [place, name] of names.entries()) {
         if (/a-bad-line|an-unknown-event/.test(name)) continue;
         wrong.push(...(await trial(browser, [open, name], [trials.stepped, name])));
         steps += await browser.evaluate('return Number(document.getElementById("slider").max);');
+        if (place % 20 === 19) console.log(`${browser.name}: lessons: ${place + 1} of ${names.length}`);
     }
     return { wrong, tried: `ready after ${first} ms, ${names.length} lessons with ${steps} steps forth and back` };
 }
