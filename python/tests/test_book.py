@@ -98,6 +98,18 @@ class OfBooks(unittest.TestCase):
         fewer = ("receive 1 16 1 100 0 0 open 4849", "receive 0 0 1 100 0 0 open -")
         self.assertEqual(said(13, fewer)["sent"], "It counts no message.")
 
+    def test_what_alls_grant(self) -> None:
+        """An ALL on the life's link counts that its host took after its own request went out, and no other."""
+        most = "no more than the 1 message and 100 bits that the ALLs which its host took grant on link 5."
+        self.assertEqual(said(14)["granted"], f"It sent 1 message and 16 bits, {most}")
+        self.assertNotIn("granted", said(13))
+        none = "more than the 0 messages and 0 bits that the ALLs which its host took grant on link 5."
+        text = "00080008000405000100000064"
+        for change in ((text, text.replace("0405", "0406")), ("0/1 16 3 1 send", "0/1 16 9 1 send"), (f"in 0/1 0/2 0 104 {text}\n", "")):
+            self.assertIn(none, said(13 if not change[1] else 14, change)["granted"])
+        self.assertIn("more than the 1 message and 15 bits", said(14, (text, text.replace("00000064", "0000000F")))["granted"])
+        self.assertEqual(said(14, ("16 3 1 send", "16 3 0 send"))["granted"], "No RTS names its link, so nothing is asked of what it sent.")
+
     def test_contacts(self) -> None:
         self.assertRegex(said(10)["contacts"], "^It isn't just an RST, .* with 0/1 since 0/2 last sent there")
         reset = ("life 0/1 16", "out 0/1 0/2 0 48 00080001000C\nlife 0/1 16")

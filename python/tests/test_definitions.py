@@ -239,7 +239,7 @@ class OfLogs(unittest.TestCase):
         """Whether it has the bits of the one that was sent, or both have none, only message by message it shows."""
         for file in ("an-old-message", "an-old-message-without-bits"):
             found = self.broken(file=file)
-            self.assertEqual([*found], ["sent"])
+            self.assertEqual([*found], ["sent", "granted"])  # no ALL crosses there
             self.assertIn("receiver: line 28", found["sent"])
 
     def test_a_contact_that_nobody_sees(self) -> None:

@@ -3,7 +3,7 @@
  * What the definitions of the promise look up in it is worked out here, from the log alone (docs/headline.md).
  */
 
-import { COMMANDS, wide } from "./commands.js";
+import { COMMANDS, short, wide } from "./commands.js";
 import { octetValues } from "./texts.js";
 
 /** @typedef {{size: number, octets: string}} Text bits as a log has them: their number, and octets in hexadecimal digits */
@@ -181,6 +181,24 @@ export class Book {
         const { own, partner } = this.named(life);
         const [link, sender, receiver] = life.receives ? [own, life.peer, life.host] : [partner, life.host, life.peer];
         return link ? `${sender} ${receiver} ${link}` : "";
+    }
+
+    /**
+     * How many messages and bits the ALLs on a link grant that a sending life's host took from the peer, after its own request
+     * and in the message with the peer's or after it.
+     *
+     * @param {Life} life
+     * @param {number} link
+     * @returns {[bigint, bigint]}
+     */
+    grantedTo(life, link) {
+        const taken = this.log.slice(Math.max(life.own + 1, life.partner));
+        const commands = taken
+            .filter((it) => it.kind === "in" && it.flow === `${life.peer} ${life.host} 0`)
+            .flatMap((it) => commandsOf(it.text))
+            .filter((it) => COMMANDS[it[0]].name === "ALL" && it[1] === link);
+        const sum = (/** @type {(command: number[]) => number} */ of) => BigInt(commands.reduce((all, it) => all + of(it), 0));
+        return [sum((it) => short(it, 2)), sum((it) => wide(it, 4))];
     }
 
     /**

@@ -103,7 +103,7 @@ function ofLife(book, life, names) {
         ...(life.receives ? [life] : others).map((it) => grants(life, it)),
         over(book, life, names),
         within(book, life),
-        ...(life.receives ? [sent(book, life, others)] : []),
+        life.receives ? sent(book, life, others) : granted(book, life),
         whole(life, others),
         allCounted(book, life),
         allThere(book, life, others),
@@ -212,6 +212,26 @@ function grants(life, receiver) {
         bits_back: bitsBack,
         bits_granted: mostBits,
         other: receiver.line,
+    });
+}
+
+/**
+ * Whether what a sending life sent is within what the ALLs grant on its link that its host took.
+ *
+ * @param {Book} book
+ * @param {Life} life
+ */
+function granted(book, life) {
+    const link = Number(book.flowByRts(life).split(" ")[2] ?? 0);
+    if (!link) return said("granted", "unlinked");
+    const [messages, bits] = book.grantedTo(life, link);
+    const isKept = life.messages <= messages && BigInt(life.text.size) <= bits;
+    return said("granted", isKept ? "allowed" : "not allowed", {
+        messages: life.messages,
+        bits: life.text.size,
+        messages_granted: messages,
+        bits_granted: bits,
+        link,
     });
 }
 

@@ -104,8 +104,7 @@ def of_life(book: Book, at: int) -> Iterator[Said]:
     yield from grants(book, life, others)
     yield Said("over", over(book, life))
     yield Said("within", within(book, life))
-    if life.receives():
-        yield Said("sent", sent(book, life, others))
+    yield Said("sent", sent(book, life, others)) if life.receives() else Said("granted", granted(book, life))
     yield Said("whole", whole(book, life, others))
     yield Said("arrived.all", all_counted(book, life))
     yield Said("arrived.closed", all_there(book, life, others))
@@ -212,6 +211,17 @@ def grants(book: Book, life: Life, others: list[Life]) -> Iterator[Said]:
         bits = {"bits": counts[1], "bits_back": back[1], "bits_granted": most[1]}
         sentence = filled(SAID["granted" if is_kept else "ungranted"], messages | bits, other=line_of(book, receiver))
         yield Said(f"promise.safe.grants.{'taken' if life.receives() else 'sent'}", sentence)
+
+
+def granted(book: Book, life: Life) -> str:
+    """Whether what a sending life sent is within what the ALLs grant on its link that its host took."""
+    link = next(iter(firsts.RIGHT.requested(book.log, life)[0]), None)
+    if link is None:
+        return SAID["unlinked"]
+    messages, bits = firsts.RIGHT.granted(book.log, life, link)
+    is_kept = life.messages <= messages and len(life.bits) <= bits
+    counts = {"messages": life.messages, "bits": len(life.bits), "messages_granted": messages, "bits_granted": bits}
+    return filled(SAID["allowed" if is_kept else "not allowed"], counts, link=link)
 
 
 def over(book: Book, life: Life) -> str:

@@ -11,7 +11,7 @@ from typing import NamedTuple, Optional
 from dorydate.model.audit import CONTROL, is_passed
 from dorydate.model.bits import Bits, octets
 from dorydate.model.book import Life
-from dorydate.model.commands import CONTROL_TEXT, HEADER, LENGTHS, LINKS, RTS, STR, read_numbers, split
+from dorydate.model.commands import ALL, CONTROL_TEXT, HEADER, LENGTHS, LINKS, RTS, STR, read_numbers, split
 from dorydate.model.crossings import Crossing, Passed
 from dorydate.model.names import Flow
 
@@ -68,6 +68,18 @@ class Firsts:
     def link(self, log: Sequence[Crossing], life: Life) -> int | None:
         """The link of a life: the first request of its sockets in a message counts."""
         return next(iter(self.links(log, life)), None)
+
+    def granted(self, log: Sequence[Crossing], life: Life, link: int) -> tuple[int, int]:
+        """How many messages and bits the ALLs on a link grant that a sending life's host took from the peer, after its own request and in the
+        message with the peer's or after it."""
+        messages, bits = 0, 0
+        for crossing in log[max(life.own + 1, life.partner) :]:
+            if isinstance(crossing, Passed) and is_passed(crossing, "in", Flow(life.peer, life.host, CONTROL)):
+                for command in self.commands(crossing.text):
+                    if command[0] == ALL and command[1] == link:
+                        _, more, longer = read_numbers(command, 1, 2, 4)
+                        messages, bits = messages + more, bits + longer
+        return messages, bits
 
     def begun(self, life: Life) -> int:
         """The place after which a life's messages cross."""

@@ -9,15 +9,14 @@ from __future__ import annotations
 from collections.abc import Callable, Iterator
 from typing import NamedTuple, TypeVar
 
-from dorydate.model.audit import CONTROL, RIGHT, Log, is_granted, is_well_formed, own_request, partner_request
+from dorydate.model.audit import RIGHT, Log, is_granted, is_well_formed, own_request, partner_request
 from dorydate.model.bits import spell_bits
 from dorydate.model.book import Life
-from dorydate.model.commands import ALL, read_numbers
 from dorydate.model.crossings import Message, Passed
 from dorydate.model.firsts import RIGHT as FIRSTS
 from dorydate.model.firsts import data, on_link, placed
 from dorydate.model.host import Host
-from dorydate.model.names import Flow, HostName, spell_host
+from dorydate.model.names import HostName, spell_host
 from dorydate.model.strangers import MixedWorld, spelled
 
 T = TypeVar("T")
@@ -63,17 +62,8 @@ def is_carried(log: Log, life: Life) -> bool:
 def is_allowed(log: Log, life: Life) -> bool:
     """Whether what a sending life sent is within what the ALLs on its link name, after its own request, and in the
     message with its partner's or after it."""
-    for link in FIRSTS.links(log, life):
-        messages, bits = 0, 0
-        for crossing in log[max(life.own + 1, life.partner) :]:
-            if isinstance(crossing, Passed) and crossing[:2] == ("in", Flow(life.peer, life.host, CONTROL)):
-                for command in FIRSTS.commands(crossing.text):
-                    if command[0] == ALL and command[1] == link:
-                        _, more, longer = read_numbers(command, 1, 2, 4)
-                        messages, bits = messages + more, bits + longer
-        if life.messages <= messages and len(life.bits) <= bits:
-            return True
-    return False
+    grants = (FIRSTS.granted(log, life, link) for link in FIRSTS.links(log, life))
+    return any(life.messages <= messages and len(life.bits) <= bits for messages, bits in grants)
 
 
 def each(world: MixedWorld, keeps: Callable[[Log, Life], bool], receives: bool | None = None) -> bool:

@@ -20,7 +20,7 @@ from workshop.documents import believed_promises, believed_words
 from workshop.documents.rules import Place, read
 from workshop.parts import ROOT
 
-MOST_LINES = 577  # without comments, imports and empty lines: what the clauses of book_of need, counted
+MOST_LINES = 604  # without comments, imports and empty lines: what the clauses of book_of need, counted
 MOST_AMONG = 137  # and what those of book_among need beside them
 WORLD = ("net_sim", "World", "WorldState")  # of a world the clauses of book_among use only what is kept, which HEAD_AMONG says
 READING = ("host_pairs", "ncp_control", "bit_messages")  # crates whose definitions say how texts are read

@@ -32,7 +32,7 @@ PROMISES = (
     (README, "What a receiver got", ("promise.formed", *STREAM, "sent"), ""),
     (README, "and all of it,", CLOSED, "while the life continues, and where it ended, which `over` ties to both CLS; if it was reset or stopped, by `closes` of `lawful`"),
     (README, "An RFNM of data", ("arrived.answered", "whole.took_sent"), "for an open life, and for one that ended"),
-    (README, "Nobody receives", GRANTS, ""),
+    (README, "Nobody receives", (*GRANTS, "granted"), ""),
     (README, "No request", (*PARTNERS, "promise.joined"), ""),
     (README, "and after a reset", ("promise.formed", "over", "sent"), "of lives and data; of commands `lawful` says it"),
     (TOUR, "A message that was", ("promise.safe.messages.answered", "promise.safe.messages.once"), ""),

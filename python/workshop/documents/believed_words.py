@@ -52,6 +52,7 @@ WORKED = (
     ("`contacts`", "what a host sends to another next after a contact is an RST", "nothing here: there is no contact"),
     ("`within`", "a life that is over counts nothing that crossed later", "nothing here: no life is over"),
     ("`sent`", "the k-th message that a receiving life counts went out as the k-th of the life that it matches", "0/1 took its first message in line 11. The last one of that flow before this went out in line 10, and it is the first one of the life of line 14"),
+    ("`granted`", "what a sending life sent is within what the ALLs grant on its link that its host took", "0/2 took an ALL in line 8, after its own request went out in line 4: it names link 5, one message and 100 bits. The life of line 14 sent one message of 16 bits"),
 )
 
 

@@ -57,6 +57,13 @@ test("what a life counts is told before and after its end", () => {
     assert(/ended it crossed in line 10, and it counts what crossed later, in line 12/.test(within(after, 16) ?? ""));
 });
 
+test("what a life sent is told beside what ALLs grant", () => {
+    const granted = (/** @type {string} */ log) => printed(log, 14)?.find((it) => it.startsWith("  granted:"));
+    assert(/no more than the 1 message and 100 bits that .* grant on link 5/.test(granted(octets) ?? ""));
+    const other = octets.replaceAll("0008000405000100000064", "0008000406000100000064");
+    assert(/more than the 0 messages and 0 bits that .* grant on link 5/.test(granted(other) ?? ""));
+});
+
 test("a bit that was changed, and a message that was passed over, are said", () => {
     const other = octets.replace("open 4849\nlife", "open 4848\nlife");
     assert.deepEqual(printed(other, 13)?.filter((it) => /formed|streams/.test(it)), [
