@@ -25,7 +25,7 @@ from workshop.parts import ROOT, text_of
 TABLE = f"{ROOT}/python/dorydate/sentences/events.mjs"
 PAGE = f"{ROOT}/docs/program.md"
 SPELLINGS = ("script/specs/Spelling", "world_script/specs/WorldSpelling")
-MAILBOXES, SCOPES = "leader1822/specs/Boxes", "subnet_trace/specs/Parts"
+MAILBOXES, SCOPES = "leader1822/specs/Boxes", "subnet_trace/specs/*"
 SPELLED = re.compile(r'^(\w*spelling) .*?\((?:\w+\.)(\w+)[^=]* = codes "(\w+) " \+\+ (.*)$', re.MULTILINE)
 REFUSED = re.compile(r"^step_refusal b \(event\.(\w+)[^)]*\) = ", re.MULTILINE)
 SCOPE = re.compile(r"^scope_of n \(event\.(?:Net \(net\.)?(\w+)[^=]*\) = (.*)$", re.MULTILINE)
@@ -86,7 +86,8 @@ class Row:
 
 
 def definition(name: str) -> str:
-    return text_of(f"{ROOT}/crates/{name}.antt")
+    """The definitions of a file of specs/, or of all of a crate."""
+    return "\n".join(map(text_of, sorted(glob.glob(f"{ROOT}/crates/{name}.antt"))))
 
 
 def operands_of(word: str, spelled: str) -> str:
@@ -106,7 +107,7 @@ def places() -> dict[str, str]:
     for name, scope in SCOPE.findall(definition(SCOPES)):
         what = re.sub(r"^scope(?:\.\w+|_of_delivery n) ?", "", scope)
         if what and what not in PLACES:
-            raise Unlike(f"{SCOPES}.antt: `{scope}` is no place that is known")
+            raise Unlike(f"crates/{SCOPES}: `{scope}` is no place that is known")
         found[name] = PLACES.get(what, "")
     return found
 
