@@ -27,7 +27,7 @@ mixed = Network.joined("UCLA-MINE", foreign=["MINE"])  # MINE runs another progr
 HEAD = """<!-- made by python/workshop/documents/reference.py: ./check docs --write -->
 # The package in Python: reference
 
-[Experiments in Python](python.md) has a tutorial. Here are the public names, and what each can do; `help(Replay.cut)` has an example, and so has each other name.
+[Experiments in Python](python.md) has a tutorial. Here are the public names, and a sentence of each; `help(Replay.cut)` says more, with an example, and so of each other name.
 """
 NAMES = [  # in the page's order
     *("Network", "Host", "Imp", "Line", "Replay", "Stranger", "Deed", "Step", "State", "Script", "Event", "Flow", "Text"),
@@ -78,13 +78,18 @@ def said(doc: str) -> str:
     return " ".join(it for it in sections(doc) if not it.startswith("```"))
 
 
+def sentence(doc: str) -> str:
+    """The first sentence of what a docstring says. None of these has a full stop within a sentence before a space."""
+    return re.split(r"(?<=\.) ", said(doc), maxsplit=1)[0]
+
+
 def made() -> str:
     """The page."""
     parts = [HEAD]
     for name in NAMES:
         kind = getattr(dorydate, name)
         parts.append(f"## {name}\n\n{said(kind.__doc__ or '')}\n")
-        if rows := [f"- `{spelled(name, part, it)}`: {said(it.__doc__ or '')}" for part, it in members(kind).items()]:
+        if rows := [f"- `{spelled(name, part, it)}`: {sentence(it.__doc__ or '')}" for part, it in members(kind).items()]:
             parts.append("\n".join([*rows, ""]))
     return "\n".join(parts)
 
