@@ -28,7 +28,7 @@ GRANTS = ("promise.safe.grants.taken", "promise.safe.grants.sent")
 # say it; and what else is to be said
 PROMISES = (
     (README, "If a sender", ("promise.safe.messages.answered",), ""),
-    (README, "No message is ever", ("promise.safe.messages.once", "promise.safe.messages.none_before"), ""),
+    (README, "No message is taken", ("promise.safe.messages.once", "promise.safe.messages.none_before"), ""),
     (README, "What a receiver got", ("promise.formed", *STREAM, "sent"), ""),
     (README, "and all of it,", CLOSED, "while the life continues, and where it ended, which `over` ties to both CLS; if it was reset or stopped, by `closes` of `lawful`"),
     (README, "An RFNM of data", ("arrived.answered", "whole.took_sent"), "for an open life, and for one that ended"),
