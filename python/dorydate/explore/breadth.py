@@ -13,7 +13,6 @@ import sys
 import time
 from collections.abc import Callable, Iterator, Sequence
 from dataclasses import dataclass
-from typing import NamedTuple
 
 from dorydate.explore.confirm import confirm
 from dorydate.explore.many import CannotRun, Many
@@ -47,7 +46,8 @@ class Node:
         return not all(self.reached)
 
 
-class Count(NamedTuple):
+@dataclass(frozen=True)
+class Count:
     """What was looked at at a depth: steps, how many of them were refused, states that are new, all states, and seconds."""
 
     depth: int
