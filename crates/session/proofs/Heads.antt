@@ -1,37 +1,37 @@
 -- The head of an input is heard line by line.
-use Rattle.std.proofs.Common.{◌≡◌, ◌≢◌, ◌==◌, ◌+◌, ◌∙◌, ℕ, false, List, [], ◌∷◌, ◌++◌, Option, ap, ap₂, arith, codes, inl, length, refl, sym}
-use Rattle.std.proofs.KnownBytes.{Consumes-nil, Consumes-trans}
+use Rattle.std.proofs.Common.{◌≡◌, ◌≢◌, ◌<◌, ◌==◌, ◌+◌, ◌∙◌, ℕ, false, List, [], ◌∷◌, ◌++◌, Option, None, Some, IfSome, ap, ap₂, arith, codes, inl, length, refl, subst, sym}
+use Rattle.std.proofs.KnownBytes.{Consumes-whole}
 use Rattle.std.proofs.lemmas.Grind.{flat_map-append}
 use Rattle.std.proofs.lemmas.List.{append-nil, append_assoc, length-append}
-use Rattle.std.proofs.lemmas.List.Elements.{All-append, All-cons, All-head, All-nil, All-tail}
+use Rattle.std.proofs.lemmas.List.Elements.{All-append, All-cons, All-nil}
+use Rattle.std.specs.Io.KnownBytes.{Consumes, IsAtEnd}
 use Rattle.std.specs.List.{All, flat_map}
+use Rattle.command_line.specs.Steps.{IsReadFault}
+use Rattle.command_line.specs.declared.fault.ScriptFault.{ScriptFault}
+use Rattle.command_line.specs.declared.fault.ScriptFault.TheVariants as fault
 use Rattle.script.specs.Input.{ended_line}
 use Rattle.script.specs.Script.{lines_of}
-use Rattle.session.specs.Hearing.{Hears, IsEnded, IsLine}
-use Rattle.session.specs.Session.{IsHead}
-use Rattle.session.proofs.Turns.{first_line}
-
--- a line of a topology
-abbrev pub IsOfTopology : List ℕ → Type 0
-IsOfTopology line = IsLine line × (line ≢ codes "%")
+use Rattle.session.specs.Hearing.{Hearing, Hears, IsEnded, IsLine, IsTooLong, hearing}
+use Rattle.session.specs.Head.{HasNoHead, IsHead, WasNoHead}
+use Rattle.session.proofs.Lines.{hears_both}
+use Rattle.session.proofs.Turns.{first_line, first_lines}
 
 -- octets are the lines of a topology so far
 pub record AreLinesSoFar (octets : List ℕ) : Type 0 where
   pub lines : List (List ℕ)
-  pub each : All IsOfTopology lines
+  pub are : All IsLine lines
+  pub unmarked : All (λ line. line ≢ codes "%") lines
   pub parts : octets ≡ flat_map ended_line lines
 
-lines_front : (lines : List (List ℕ)) (rest : List ℕ) → All IsOfTopology lines → lines_of (flat_map ended_line lines ++ rest) ≡ lines ++ lines_of rest
-lines_front [] rest h = refl
-lines_front (l ∷ lines) rest h =
-    ap lines_of (append_assoc (ended_line l) (flat_map ended_line lines) rest) ∙ first_line l (flat_map ended_line lines ++ rest) (All-head IsOfTopology l lines h).0
-    ∙ ap (λ ls. l ∷ ls) (lines_front lines rest (All-tail IsOfTopology l lines h))
+pub no_lines : (octets : List ℕ) → octets ≡ [] → AreLinesSoFar octets
+no_lines octets none = record { lines = []; are = All-nil IsLine; unmarked = All-nil (λ line. line ≢ codes "%"); parts = none }
 
 pub one_more : (octets line : List ℕ) → AreLinesSoFar octets → IsEnded line → line ≢ codes "%\n" → AreLinesSoFar (octets ++ line)
 one_more octets line h (own, is_line, is) other = record {
   lines = h.lines ++ own ∷ [];
-  each = All-append IsOfTopology h.lines (own ∷ []) h.each
-      (All-cons IsOfTopology own [] (is_line, λ e. other (is ∙ ap ended_line e)) (All-nil IsOfTopology));
+  are = All-append IsLine h.lines (own ∷ []) h.are (All-cons IsLine own [] is_line (All-nil IsLine));
+  unmarked = All-append (λ l. l ≢ codes "%") h.lines (own ∷ []) h.unmarked
+      (All-cons (λ l. l ≢ codes "%") own [] (λ e. other (is ∙ ap ended_line e)) (All-nil (λ l. l ≢ codes "%")));
   parts = ap (λ xs. xs ++ line) h.parts ∙ ap (λ xs. flat_map ended_line h.lines ++ xs) (is ∙ sym (append-nil (ended_line own)))
       ∙ sym (flat_map-append ended_line h.lines (own ∷ []));
 }
@@ -40,29 +40,62 @@ pub marked : (octets line : List ℕ) → AreLinesSoFar octets → line ≡ code
 marked octets line h is = λ script. record {
   before = h.lines;
   front = h.parts;
-  unmarked = λ k d lt. (h.each k d lt).1;
+  unmarked = h.unmarked;
   lines = inl (ap lines_of (append_assoc octets line script ∙ ap (λ xs. octets ++ (xs ++ script)) is ∙ ap (λ xs. xs ++ (codes "%\n" ++ script)) h.parts)
-      ∙ lines_front h.lines (codes "%\n" ++ script) h.each
+      ∙ first_lines h.lines (codes "%\n" ++ script) h.are
       ∙ ap (λ ls. h.lines ++ ls) (first_line (codes "%") script (All-cons (λ x. (x == 10) ≡ false) 37 [] refl (All-nil (λ x. (x == 10) ≡ false)))));
 }
 
-pub hears_none : (octets pending : List ℕ) (a : Option (List ℕ)) → octets ≡ [] → pending ≡ [] → Hears [] octets pending a a 0 0
-hears_none octets pending a none empty =
-    record { more = []; parts = sym (ap₂ (λ (xs ys : List ℕ). xs ++ ys) none empty); consumed = Consumes-nil a; counted = refl }
+-- nothing was heard yet, and nothing was read ahead
+pub hears_first : (known : Option (List ℕ)) (head ahead : List ℕ) → head ≡ [] → ahead ≡ []
+    → Hears (record { heard = 0; left = known }) (hearing (length head) ahead known) head
+hears_first None head ahead none empty = record { consumed = tt; counted = omega arith }
+hears_first (Some xs) head ahead none empty =
+    record { consumed = ap₂ (λ (ys zs : List ℕ). ys ++ (zs ++ xs)) (sym none) (sym empty); counted = omega arith }
 
-pub no_lines : (octets : List ℕ) → octets ≡ [] → AreLinesSoFar octets
-no_lines octets none = record { lines = []; each = All-nil IsOfTopology; parts = none }
+pub hears_more : (known : Option (List ℕ)) (mid : Hearing) (heard : ℕ) (ahead : List ℕ) (rest : Option (List ℕ)) (head line all : List ℕ)
+    → Hears (record { heard = 0; left = known }) mid head → Hears mid (hearing heard ahead rest) line → all ≡ head ++ line
+    → (heard ≡ length all) × Hears (record { heard = 0; left = known }) (hearing (length all) ahead rest) all
+hears_more known mid heard ahead rest head line all h k is =
+    let both : Hears (record { heard = 0; left = known }) (hearing heard ahead rest) all =
+    subst (Hears (record { heard = 0; left = known }) (hearing heard ahead rest)) (sym is) (hears_both h k) in
+    let counted : heard ≡ 0 + length all = both.counted in
+    (omega (arith, counted), record { consumed = both.consumed; counted = omega arith })
 
-pub hears_after : {p octets pending line next : List ℕ} {a b c : Option (List ℕ)} {r all more : ℕ} → Hears p octets pending a b r all
-    → Hears pending line next b c all more → Hears p (octets ++ line) next a c r more
-hears_after {p} {octets} {pending} {line} {next} {a} {b} {c} {r} {all} {more} h k =
-    let both : length (h.more ++ k.more) ≡ length h.more + length k.more = length-append h.more k.more in
-    let first : all ≡ r + length h.more = h.counted in
-    let second : more ≡ all + length k.more = k.counted in
-    record {
-      more = h.more ++ k.more;
-      parts = sym (append_assoc p h.more k.more) ∙ ap (λ xs. xs ++ k.more) h.parts ∙ append_assoc octets pending k.more
-          ∙ ap (λ xs. octets ++ xs) k.parts ∙ sym (append_assoc octets line next);
-      consumed = Consumes-trans a b c h.more k.more h.consumed k.consumed;
-      counted = omega (arith, both, first, second);
-    }
+-- what is too long after some of it is too long
+longer_before : (known : Option (List ℕ)) (heard : ℕ) (left : Option (List ℕ)) (octets : List ℕ)
+    → Hears (record { heard = 0; left = known }) (record { heard = heard; left = left }) octets → IsTooLong (record { heard = heard; left = left })
+    → IfSome known (λ all. 268435456 < length all)
+longer_before None heard left octets h long = tt
+longer_before (Some xs) heard None octets h long = absurd h.consumed
+longer_before (Some xs) heard (Some ys) octets h long =
+    let both : length (octets ++ ys) ≡ length octets + length ys = length-append octets ys in
+    let same : length xs ≡ length (octets ++ ys) = ap length h.consumed in
+    let counted : heard ≡ 0 + length octets = h.counted in
+    omega (arith, both, same, counted, long)
+
+pub said : {P : Type 0} (known : Option (List ℕ)) → P → IfSome known (λ all. P)
+said None h = tt
+said (Some xs) h = h
+
+-- why hearing ended
+pub unheard : (known : Option (List ℕ)) (mid : Hearing) (octets : List ℕ) (f : ScriptFault) → Hears (record { heard = 0; left = known }) mid octets
+    → IsReadFault f → (f ≡ fault.TooLong → IsTooLong mid) → WasNoHead known f
+unheard known mid octets fault.TooLong h read long =
+    (λ e. cc, λ e. cc, longer_before known mid.heard mid.left octets h (long refl))
+unheard known mid octets fault.CannotRead h read long = (λ e. cc, λ e. cc, said known tt)
+unheard known mid octets fault.OutOfMemory h read long = (λ e. cc, λ e. cc, said known tt)
+unheard known mid octets fault.BadTopology h read long = absurd read
+unheard known mid octets fault.CannotWrite h read long = absurd read
+unheard known mid octets fault.BadOptions h read long = absurd read
+unheard known mid octets (fault.BadLine number) h read long = absurd read
+
+-- the input ended before its marker line
+pub unended : (known : Option (List ℕ)) (mid last : Hearing) (octets line : List ℕ) → Hears (record { heard = 0; left = known }) mid octets
+    → AreLinesSoFar octets → Hears mid last line → IsLine line → IsAtEnd last.left → WasNoHead known fault.BadTopology
+unended known mid last octets line h so_far k is_line end = (
+  λ e. cc,
+  λ e. cc,
+  Consumes-whole known last.left (octets ++ line) (λ all. HasNoHead all fault.BadTopology) (hears_both h k).consumed end
+      (record { lines = so_far.lines; last = line; are = (so_far.are, is_line); parts = ap (λ xs. xs ++ line) so_far.parts; unmarked = so_far.unmarked }),
+)

@@ -1,12 +1,12 @@
 -- The lines of what was read.
-use Rattle.std.proofs.Common.{◌≡◌, ◌≤◌, ◌+◌, ◌==◌, ◌∙◌, ℕ, Bool, true, false, List, [], ◌∷◌, ◌++◌, Option, length, take, ap, ap₂, refl, sym, arith}
-use Rattle.std.proofs.KnownBytes.{Consumes-trans}
-use Rattle.std.proofs.lemmas.List.{append-nil, append_assoc, length-append}
+use Rattle.std.proofs.Common.{◌≡◌, ◌⊎◌, ◌≤◌, ◌<◌, ◌+◌, ◌==◌, ◌∙◌, ℕ, Bool, true, false, List, [], ◌∷◌, ◌++◌, Option, Some, None, length, take, ap, ap₂, inl, inr, refl, sym, arith}
+use Rattle.std.proofs.KnownBytes.{Consumes-nil, Consumes-trans, prepend_known-read}
+use Rattle.std.proofs.lemmas.List.{append_assoc, length-append}
 use Rattle.std.proofs.lemmas.List.Elements.{All-append}
 use Rattle.std.proofs.Math.Seq.{take-append_seam}
-use Rattle.std.specs.Io.KnownBytes.{Consumes}
+use Rattle.std.specs.Io.KnownBytes.{Consumes, IsAtEnd, Keeps, prepend_known}
 use Rattle.script.specs.Input.{ended_line}
-use Rattle.session.specs.Hearing.{EndsAt, Hears, IsEnded, IsHeard, IsLine}
+use Rattle.session.specs.Hearing.{EndsAt, Hearing, Hears, IsEnded, IsHeard, IsLine, IsTooLong, hearing}
 
 -- what was read before has no end of a line, and the line's end has come
 pub end_came : (before came first left : List ℕ) (end : ℕ) → IsLine before → EndsAt came end → before ++ came ≡ first ++ left
@@ -22,28 +22,40 @@ end_came before came first left end none h parts long =
     (before ++ h.line, All-append (λ x. (x == 10) ≡ false) before h.line none h.is_line, whole ∙ sym (append_assoc before h.line (10 ∷ [])))
 
 -- more octets were read
-pub hears_more : {pending now grown : List ℕ} (came : List ℕ) {a b c : Option (List ℕ)} {read all count : ℕ} → Hears pending now [] a b read all
-    → grown ≡ now ++ came → Consumes b c came → length came ≡ count → Hears pending grown [] a c read (all + count)
-hears_more {pending} {now} {grown} came {a} {b} {c} {read} {all} {count} h is took long =
-    let both : length (h.more ++ came) ≡ length h.more + length came = length-append h.more came in
-    let counted : all ≡ read + length h.more = h.counted in
-    record {
-      more = h.more ++ came;
-      parts = sym (append_assoc pending h.more came) ∙ ap (λ (xs : List ℕ). xs ++ came) (h.parts ∙ append-nil now) ∙ sym is
-          ∙ sym (append-nil grown);
-      consumed = Consumes-trans a b c h.more came h.consumed took;
-      counted = omega (arith, both, counted, long);
-    }
+pub grown : (a b c : Option (List ℕ)) (old now came : List ℕ) → Keeps a (prepend_known old b) → Consumes b c came → now ≡ old ++ came
+    → Keeps a (prepend_known now c)
+grown None b c old now came h k is = tt
+grown (Some xs) None c old now came h k is = absurd h
+grown (Some xs) (Some ys) None old now came h k is = absurd k
+grown (Some xs) (Some ys) (Some zs) old now came h k is =
+    ap (λ l. l ++ zs) is ∙ append_assoc old came zs ∙ ap (λ l. old ++ l) (sym k) ∙ h
 
--- a line and what is left are as long as what was pending and what was read
-pub lengths : {pending line left : List ℕ} {a b : Option (List ℕ)} {read all : ℕ} → Hears pending line left a b read all
-    → length line + length left + read ≡ length pending + all
-lengths {pending} {line} {left} {a} {b} {read} {all} h =
-    let both : length (pending ++ h.more) ≡ length pending + length h.more = length-append pending h.more in
-    let parts : length (line ++ left) ≡ length line + length left = length-append line left in
-    let same : length (pending ++ h.more) ≡ length (line ++ left) = ap length h.parts in
-    let counted : all ≡ read + length h.more = h.counted in
-    omega (arith, both, parts, same, counted)
+-- a line is taken of what was read ahead
+pub takes : (a b : Option (List ℕ)) (ahead line left : List ℕ) (heard all : ℕ) → Keeps a (prepend_known ahead b) → ahead ≡ line ++ left
+    → all ≡ heard + length line → Hears (record { heard = heard; left = a }) (hearing all left b) line
+takes a b ahead line left heard all h parts counted =
+    record { consumed = (prepend_known-read a b ahead left line ⊥ h parts (λ bad. absurd bad)).0; counted = counted }
+
+-- more octets came than may come
+pub longer : (a c : Option (List ℕ)) (now : List ℕ) (heard : ℕ) → Keeps a (prepend_known now c) → 268435456 < heard + length now
+    → IsTooLong (record { heard = heard; left = a })
+longer None c now heard h long = tt
+longer (Some xs) None now heard h long = absurd h
+longer (Some xs) (Some zs) now heard h long =
+    let both : length (now ++ zs) ≡ length now + length zs = length-append now zs in
+    let same : length (now ++ zs) ≡ length xs = ap length h in
+    omega (arith, both, same, long)
+
+-- nothing, and two parts one after the other
+pub hears_none : (h : Hearing) → Hears h h []
+hears_none h = record { consumed = Consumes-nil h.left; counted = omega arith }
+
+pub hears_both : {a b c : Hearing} {xs ys : List ℕ} → Hears a b xs → Hears b c ys → Hears a c (xs ++ ys)
+hears_both {a} {b} {c} {xs} {ys} h k =
+    let both : length (xs ++ ys) ≡ length xs + length ys = length-append xs ys in
+    let first : b.heard ≡ a.heard + length xs = h.counted in
+    let second : c.heard ≡ b.heard + length ys = k.counted in
+    record { consumed = Consumes-trans a.left b.left c.left xs ys h.consumed k.consumed; counted = omega (arith, both, first, second) }
 
 pub some_long : (line : List ℕ) → IsEnded line → 1 ≤ length line
 some_long line h =
@@ -52,9 +64,12 @@ some_long line h =
     omega (arith, long, same)
 
 -- nothing is heard at the end of the input only
-pub nothing : (whole : Bool) (line left : List ℕ) (ended : Bool) → IsHeard whole line left ended → length line ≡ 0
-    → (line ≡ []) × (left ≡ []) × (whole ≡ false)
-nothing true line left ended (some, going) none =
-    absurd (let long : 1 ≤ length line = some_long line some in omega (arith, long, none))
-nothing false [] left ended (is_line, last, fin) none = (refl, last, refl)
-nothing false (x ∷ line) left ended heard none = absurd (omega (arith, none))
+pub nothing : (whole : Bool) (line : List ℕ) (left : Option (List ℕ)) → IsHeard whole line left → length line ≡ 0 → (line ≡ []) × IsAtEnd left
+nothing true line left some none = absurd (let long : 1 ≤ length line = some_long line some in omega (arith, long, none))
+nothing false [] left (is_line, end) none = (refl, end)
+nothing false (x ∷ line) left heard none = absurd (omega (arith, none))
+
+-- what was heard is a line with its end, or one without
+pub either_line : (whole : Bool) (line : List ℕ) (left : Option (List ℕ)) → IsHeard whole line left → IsEnded line ⊎ IsLine line
+either_line true line left h = inl h
+either_line false line left h = inr h.0

@@ -1,4 +1,4 @@
--- A session among strangers.
+-- What is printed of scripts on each kind of network.
 use Rattle.std.proofs.Common.{◌≡◌, ◌≤◌, ◌∙◌, ℕ, Bool, true, List, [], ◌++◌, Option, Result, Ok, Err, OnOk, Some, ap, codes, false, refl, reverse, subst, sym, take}
 use Rattle.std.proofs.lemmas.List.{append-nil}
 use Rattle.interface.specs.Calls.{Calls}
@@ -12,7 +12,7 @@ use Rattle.subnet.specs.Working.{subnet_calls}
 use Rattle.topology.specs.Mixed.{MixedFields}
 use Rattle.topology.specs.declared.network.CarrierKind.{CarrierKind}
 use Rattle.topology.specs.declared.network.CarrierKind.TheVariants as kind
-use Rattle.world_replay.proofs.lemmas.Gained.{mixed_refusal_gained, replays_show}
+use Rattle.world_replay.proofs.lemmas.Gained.{replays_show}
 use Rattle.world_replay.specs.Kinds.{HappensBy, ReplaysBy, mixed_kind}
 use Rattle.world_replay.specs.Output as lines
 use Rattle.world_script.specs.Mixed.{IsEventAmong, mixed_spelling}
@@ -28,41 +28,21 @@ use Rattle.replay.specs.Output as raw_lines
 use Rattle.replay.specs.Replay as raw
 use Rattle.script.specs.Spelling.{IsEvent, spelling}
 use Rattle.topology.specs.Topology.{TopologyFields}
-use Rattle.world_replay.proofs.lemmas.Gained.{refusal_gained}
 use Rattle.world_replay.specs.Replay.{world_kind}
 use Rattle.world_script.specs.WorldSpelling.{IsWorldEvent, world_spelling}
 use Rattle.session.specs.Networks.{KeepsAll, KeepsRun, ReplaysWith}
-use Rattle.session.specs.Session.{MixedPrints, MixedPrintsOn, PrintsFrom, PrintsOn}
-use Rattle.session.specs.Turns.{Leads, Prints, Serves, answers_of, script_of}
-
--- what answers print, read otherwise
-pub serves_as : {T F : Type 0} {P Q : List ℕ → List ℕ → Type 0} (pending left : List ℕ) (input rest before after : Option (List ℕ)) (read : ℕ)
-    (r : Result T F) → ((script said : List ℕ) → P script said → Q script said)
-    → OnOk r ((all : ℕ) × (all ≤ 268435456) × Serves P pending left input rest before after read all)
-    → OnOk r ((all : ℕ) × (all ≤ 268435456) × Serves Q pending left input rest before after read all)
-serves_as pending left input rest before after read (Err e) other h = tt
-serves_as pending left input rest before after read (Ok x) other (all, short, h) = (
-  all,
-  short,
-  record {
-    turns = h.turns;
-    more = h.more;
-    heard = h.heard;
-    read_on = h.read_on;
-    counted = h.counted;
-    answers = record { lines = h.answers.lines; in_turn = λ n. other (script_of (take n h.turns)) (answers_of (take n h.turns)) (h.answers.in_turn n) };
-    written = h.written;
-  },
-)
+use Rattle.session.specs.Session.{among, on, on_mixed, over}
+use Rattle.session.specs.Turns.{Leads, Prints}
+use Rattle.session.proofs.Sessions.{Translates}
 
 pub mixed_prints : {C : Type 0} (calls : Calls C) (strangers : List Host) (carrier : C) (opening : MixedState C)
     → opening ≡ opening_mixed (shown calls) carrier strangers → (script said : List ℕ)
     → Prints mixed_spelling IsEventAmong (ReplaysWith (HappensBy (mixed_kind (shown calls))) (lines.shown_text Texts) (KeepsAll calls)) opening script said
-    → MixedPrints calls strangers carrier script said
+    → (among calls strangers carrier).Prints script said
 mixed_prints {C} calls strangers carrier opening is script said (last, h) =
     let from : ReplaysBy (mixed_kind (shown calls)) (opening_mixed (shown calls) carrier strangers) h.events last h.replayed.0 =
     subst (λ (w : MixedState C). ReplaysBy (mixed_kind (shown calls)) w h.events last h.replayed.0) is h.replayed.1 in
-    let gains = replays_show (mixed_kind (shown calls)) mixed_refusal_gained (opening_mixed (shown calls) carrier strangers) h.events last h.replayed.0 from in (
+    let gains = replays_show (mixed_kind (shown calls)) (opening_mixed (shown calls) carrier strangers) h.events last h.replayed.0 from in (
       h.events,
       h.asked,
       record {
@@ -81,27 +61,33 @@ mixed_prints {C} calls strangers carrier opening is script said (last, h) =
     )
 
 -- over the carrier that a topology names
-pub plain_prints : (t : MixedFields) (b : Boxes) (named : List Host) → t.network.carrier ≡ kind.Plain → b ≡ plain_of t.network → named ≡ t.strangers
-    → (script said : List ℕ) → MixedPrints plain_calls named b script said → MixedPrintsOn t script said
-plain_prints t b named is at same script said h = (
-  h.0,
-  h.1,
-  subst (λ (k : CarrierKind). MixedReplaysOver k t false Texts h.0 (Some []) (Some (said ++ codes "end\n"))) (sym is) (rw (← at, ← same) h.2),
-)
+pub plain_among : (n : ℕ) (t : MixedFields) (b : Boxes) (named : List Host) → t.network.carrier ≡ kind.Plain → b ≡ plain_of t.network → named ≡ t.strangers
+    → Translates n (among plain_calls named b) (on_mixed t)
+plain_among n t b named is at same = record {
+  prints = λ script said short h. (
+    h.0,
+    h.1,
+    subst (λ (k : CarrierKind). MixedReplaysOver k t false Texts h.0 (Some []) (Some (said ++ codes "end\n"))) (sym is) (rw (← at, ← same) h.2),
+  );
+  refuses = λ script number short bad. bad;
+}
 
-pub subnet_prints : (t : MixedFields) (k : Kept) (named : List Host) → t.network.carrier ≡ kind.Subnet → k ≡ subnet_of t.network → named ≡ t.strangers
-    → (script said : List ℕ) → MixedPrints subnet_calls named k script said → MixedPrintsOn t script said
-subnet_prints t k named is at same script said h = (
-  h.0,
-  h.1,
-  subst (λ (c : CarrierKind). MixedReplaysOver c t false Texts h.0 (Some []) (Some (said ++ codes "end\n"))) (sym is) (rw (← at, ← same) h.2),
-)
+pub subnet_among : (n : ℕ) (t : MixedFields) (k : Kept) (named : List Host) → t.network.carrier ≡ kind.Subnet → k ≡ subnet_of t.network → named ≡ t.strangers
+    → Translates n (among subnet_calls named k) (on_mixed t)
+subnet_among n t k named is at same = record {
+  prints = λ script said short h. (
+    h.0,
+    h.1,
+    subst (λ (c : CarrierKind). MixedReplaysOver c t false Texts h.0 (Some []) (Some (said ++ codes "end\n"))) (sym is) (rw (← at, ← same) h.2),
+  );
+  refuses = λ script number short bad. bad;
+}
 
 -- ---- without strangers
 
 pub raw_prints : {C : Type 0} (calls : Calls C) (carrier : C) → (calls.seen carrier).log ≡ [] → (script said : List ℕ) (last : C)
     (h : Leads spelling IsEvent (ReplaysWith (raw.Happens calls) (raw_lines.shown_text Texts) (KeepsRun calls)) carrier last script said)
-    → PrintsFrom calls carrier true script said
+    → (over calls carrier true).Prints script said
 raw_prints calls carrier empty script said last h = (
   Raw h.events,
   h.asked,
@@ -121,11 +107,11 @@ raw_prints calls carrier empty script said last h = (
 
 pub world_prints : {C : Type 0} (calls : Calls C) (carrier : C) (opening : WorldState C) → opening ≡ opening_world (shown calls) carrier → (script said : List ℕ)
     → Prints world_spelling IsWorldEvent (ReplaysWith (HappensBy (world_kind (shown calls))) (lines.shown_text Texts) (KeepsPromise calls.seen)) opening script said
-    → PrintsFrom calls carrier false script said
+    → (over calls carrier false).Prints script said
 world_prints {C} calls carrier opening is script said (last, h) =
     let from : ReplaysBy (world_kind (shown calls)) (opening_world (shown calls) carrier) h.events last h.replayed.0 =
     subst (λ (w : WorldState C). ReplaysBy (world_kind (shown calls)) w h.events last h.replayed.0) is h.replayed.1 in
-    let gains = replays_show (world_kind (shown calls)) refusal_gained (opening_world (shown calls) carrier) h.events last h.replayed.0 from in (
+    let gains = replays_show (world_kind (shown calls)) (opening_world (shown calls) carrier) h.events last h.replayed.0 from in (
       World h.events,
       h.asked,
       record {
@@ -142,18 +128,24 @@ world_prints {C} calls carrier opening is script said (last, h) =
       },
     )
 
-pub plain_on : (t : TopologyFields) (b : Boxes) (named : Bool) → t.carrier ≡ kind.Plain → b ≡ plain_of t → named ≡ t.raw
-    → (script said : List ℕ) → PrintsFrom plain_calls b named script said → PrintsOn t script said
-plain_on t b named is at same script said h = (
-  h.0,
-  rw (← same) h.1,
-  subst (λ (k : CarrierKind). ReplaysOver k t false Texts h.0 (Some []) (Some (said ++ codes "end\n"))) (sym is) (rw (← at) h.2),
-)
+pub plain_over : (n : ℕ) (t : TopologyFields) (b : Boxes) (raw : Bool) → t.carrier ≡ kind.Plain → b ≡ plain_of t → raw ≡ t.raw
+    → Translates n (over plain_calls b raw) (on t)
+plain_over n t b raw is at same = record {
+  prints = λ script said short h. (
+    h.0,
+    rw (← same) h.1,
+    subst (λ (k : CarrierKind). ReplaysOver k t false Texts h.0 (Some []) (Some (said ++ codes "end\n"))) (sym is) (rw (← at) h.2),
+  );
+  refuses = λ script number short bad. rw (← same) bad;
+}
 
-pub subnet_on : (t : TopologyFields) (k : Kept) (named : Bool) → t.carrier ≡ kind.Subnet → k ≡ subnet_of t → named ≡ t.raw
-    → (script said : List ℕ) → PrintsFrom subnet_calls k named script said → PrintsOn t script said
-subnet_on t k named is at same script said h = (
-  h.0,
-  rw (← same) h.1,
-  subst (λ (c : CarrierKind). ReplaysOver c t false Texts h.0 (Some []) (Some (said ++ codes "end\n"))) (sym is) (rw (← at) h.2),
-)
+pub subnet_over : (n : ℕ) (t : TopologyFields) (k : Kept) (raw : Bool) → t.carrier ≡ kind.Subnet → k ≡ subnet_of t → raw ≡ t.raw
+    → Translates n (over subnet_calls k raw) (on t)
+subnet_over n t k raw is at same = record {
+  prints = λ script said short h. (
+    h.0,
+    rw (← same) h.1,
+    subst (λ (c : CarrierKind). ReplaysOver c t false Texts h.0 (Some []) (Some (said ++ codes "end\n"))) (sym is) (rw (← at) h.2),
+  );
+  refuses = λ script number short bad. rw (← same) bad;
+}

@@ -1,6 +1,6 @@
 -- Hearing a line.
-use Rattle.std.specs.Prelude.{◌≡◌, ◌+◌, ◌==◌, ◌++◌, ℕ, Bool, true, false, List, [], Option, length}
-use Rattle.std.specs.Io.KnownBytes.{Consumes}
+use Rattle.std.specs.Prelude.{◌≡◌, ◌+◌, ◌<◌, ◌==◌, ◌++◌, ℕ, Bool, true, false, List, [], Option, IfSome, length}
+use Rattle.std.specs.Io.KnownBytes.{Consumes, IsAtEnd, prepend_known}
 use Rattle.std.specs.List.{All}
 use Rattle.script.specs.Input.{ended_line}
 
@@ -20,14 +20,25 @@ pub record EndsAt (octets : List ℕ) (count : ℕ) : Type 0 where
   pub parts : octets ≡ ended_line line ++ rest
   pub counted : count ≡ length (ended_line line)
 
--- what was heard is a line with its end; or the input has ended, and it is all that was left, a line without an end or nothing
-abbrev pub IsHeard : Bool → List ℕ → List ℕ → Bool → Type 0
-IsHeard true line left ended = IsEnded line × (ended ≡ false)
-IsHeard false line left ended = IsLine line × (left ≡ []) × (ended ≡ true)
+-- an input as it is heard: how many of its octets were heard, and those that are left, where they are known
+pub record Hearing : Type 0 where
+  pub heard : ℕ
+  pub left : Option (List ℕ)
 
--- a line is what was read earlier and what is read now, up to what is left; and with the latter, this many octets were read
-pub record Hears (pending line left : List ℕ) (before after : Option (List ℕ)) (read all : ℕ) : Type 0 where
-  pub more : List ℕ
-  pub parts : pending ++ more ≡ line ++ left
-  pub consumed : Consumes before after more
-  pub counted : all ≡ read + length more
+-- what was read ahead is left to be heard, and then what is left to be read
+abbrev pub hearing : ℕ → List ℕ → Option (List ℕ) → Hearing
+hearing heard ahead rest = record { heard = heard; left = prepend_known ahead rest }
+
+-- these octets were heard
+pub record Hears (old new : Hearing) (octets : List ℕ) : Type 0 where
+  pub consumed : Consumes old.left new.left octets
+  pub counted : new.heard ≡ old.heard + length octets
+
+-- a line with its end was heard; or the input has ended, and all that was left, a line without an end or nothing
+abbrev pub IsHeard : Bool → List ℕ → Option (List ℕ) → Type 0
+IsHeard true line left = IsEnded line
+IsHeard false line left = IsLine line × IsAtEnd left
+
+-- there are more octets than an input may have
+abbrev pub IsTooLong : Hearing → Type 0
+IsTooLong h = IfSome h.left (λ octets. 268435456 < h.heard + length octets)

@@ -1,3 +1,4 @@
+pub mod Head
 pub mod Hearing
 pub mod Laws
 pub mod Networks

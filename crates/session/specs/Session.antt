@@ -1,24 +1,23 @@
 -- A session of an input.
-use Rattle.std.specs.Prelude.{◌≡◌, ◌++◌, Bool, List, Option, Some, [], codes, false, ℕ}
-use Rattle.std.specs.Io.KnownBytes.{Appends}
+use Rattle.std.specs.Prelude.{◌≡◌, ◌⊎◌, ◌<◌, ◌++◌, Bool, List, Option, Result, Ok, Err, Some, [], codes, false, length, ℕ}
+use Rattle.std.specs.Io.KnownBytes.{Appends, Keeps}
 use Rattle.interface.specs.Calls.{Calls}
 use Rattle.interface.specs.Host.{Host}
 use Rattle.replay.specs.declared.print.Detail.TheVariants.{Texts}
-use Rattle.script.specs.Input.{IsParted}
-use Rattle.script.specs.Script.{lines_of}
+use Rattle.script.specs.Script.{IsFirstBadAs, lines_of}
 use Rattle.topology.specs.Mixed.{MixedFields}
 use Rattle.topology.specs.Topology.{TopologyFields}
-use Rattle.world_script.specs.Mixed.{AskForMixed}
+use Rattle.world_script.specs.Mixed.{AskForMixed, IsEventAmong, mixed_spelling}
 use Rattle.world_script.specs.declared.event.MixedWorldEvent.{MixedWorldEvent}
-use Rattle.command_line.specs.Either.{ReplaysEither}
+use Rattle.command_line.specs.Either.{IsEitherFault, ReplaysEither}
+use Rattle.command_line.specs.Events.{Asked, AsksFor, IsFirstBadIn}
 use Rattle.command_line.specs.Mixed.{MixedReplaysOn, MixedShowsFrom}
-use Rattle.command_line.specs.Events.{Asked, AsksFor}
 use Rattle.command_line.specs.Replayed.{ReplaysFrom, ReplaysOn, WritesWorld}
-use Rattle.session.specs.Turns.{AnswersInTurn, Turn, script_of, session_of}
-
--- whatever follows these octets is the script of an input with this topology
-abbrev pub IsHead : List ℕ → List ℕ → Type 0
-IsHead head document = (script : List ℕ) → IsParted (head ++ script) document script
+use Rattle.command_line.specs.declared.fault.ScriptFault.{ScriptFault}
+use Rattle.command_line.specs.declared.fault.ScriptFault.TheVariants as fault
+use Rattle.session.specs.Head.{HasNoHead, IsHead}
+use Rattle.session.specs.Hearing.{Hearing}
+use Rattle.session.specs.Turns.{AnswersInTurn, Breaks, Ends, Reading, Turn, script_of, session_of}
 
 -- what `--texts` prints of an input with this head, but for the last line `end`
 abbrev pub PrintsAfter : List ℕ → List ℕ → List ℕ → Type 0
@@ -35,20 +34,57 @@ pub record IsSession (octets : List ℕ) (before after : Option (List ℕ)) : Ty
   pub answers : AnswersInTurn (PrintsAfter head) turns
   pub written : Appends before after (session_of turns ++ codes "end\n")
 
--- ---- what the contracts of private functions say: what is printed of a script, without strangers and with them
+-- what is said of the scripts that follow this head: what is printed of them, and which of their lines is the first that is no event
+abbrev pub after_head : List ℕ → Reading
+after_head head = record { Prints = PrintsAfter head; Refuses = λ script number. IsEitherFault (head ++ script) (fault.BadLine number) }
 
-abbrev pub PrintsFrom : {C : Type 0} → Calls C → C → Bool → List ℕ → List ℕ → Type 0
-PrintsFrom calls carrier raw script said = (events : Asked) × AsksFor raw events (lines_of script)
-    × ReplaysFrom calls carrier false Texts events (Some []) (Some (said ++ codes "end\n"))
+-- ---- how a session ends early
 
-abbrev pub PrintsOn : TopologyFields → List ℕ → List ℕ → Type 0
-PrintsOn t script said = (events : Asked) × AsksFor t.raw events (lines_of script)
-    × ReplaysOn t false Texts events (Some []) (Some (said ++ codes "end\n"))
+-- octets begin with this head
+pub record Opens (octets head rest : List ℕ) : Type 0 where
+  pub document : List ℕ
+  pub opens : IsHead head document
+  pub whole : octets ≡ head ++ rest
 
-abbrev pub MixedPrints : {C : Type 0} → Calls C → List Host → C → List ℕ → List ℕ → Type 0
-MixedPrints calls strangers carrier script said = (events : List MixedWorldEvent) × AskForMixed events (lines_of script)
-    × WritesWorld false Texts (MixedShowsFrom calls strangers carrier events) (Some []) (Some (said ++ codes "end\n"))
+-- a session ended with this fault: nothing is written, as there is no head, or one that is no input by itself; or the lines before the fault are
+-- answered in turn
+abbrev pub EndsEarly : List ℕ → ScriptFault → Option (List ℕ) → Option (List ℕ) → Type 0
+EndsEarly octets f before after = (HasNoHead octets f × Keeps before after)
+    ⊎ ((head : List ℕ) × (rest : List ℕ) × Opens octets head rest
+    × ((IsEitherFault head f × Keeps before after) ⊎ Breaks (after_head head) (record { heard = length head; left = Some rest }) f before after))
 
-abbrev pub MixedPrintsOn : MixedFields → List ℕ → List ℕ → Type 0
-MixedPrintsOn t script said = (events : List MixedWorldEvent) × AskForMixed events (lines_of script)
-    × MixedReplaysOn t false Texts events (Some []) (Some (said ++ codes "end\n"))
+-- ---- what the contracts of private functions say
+
+-- all lines are answered in turn, or those before the fault; or the head is no input by itself
+abbrev pub Serving : List ℕ → Hearing → Option (List ℕ) → Option (List ℕ) → Result (Unit {0}) ScriptFault → Type 0
+Serving head old before after (Ok done) = Ends (after_head head) old before after (Ok done)
+Serving head old before after (Err f) = (IsEitherFault head f × Keeps before after) ⊎ Ends (after_head head) old before after (Err f)
+
+-- of a script, without strangers and with them
+abbrev pub over : {C : Type 0} → Calls C → C → Bool → Reading
+over calls carrier raw = record {
+  Prints = λ script said. (events : Asked) × AsksFor raw events (lines_of script)
+      × ReplaysFrom calls carrier false Texts events (Some []) (Some (said ++ codes "end\n"));
+  Refuses = IsFirstBadIn raw;
+}
+
+abbrev pub on : TopologyFields → Reading
+on t = record {
+  Prints = λ script said. (events : Asked) × AsksFor t.raw events (lines_of script)
+      × ReplaysOn t false Texts events (Some []) (Some (said ++ codes "end\n"));
+  Refuses = IsFirstBadIn t.raw;
+}
+
+abbrev pub among : {C : Type 0} → Calls C → List Host → C → Reading
+among calls strangers carrier = record {
+  Prints = λ script said. (events : List MixedWorldEvent) × AskForMixed events (lines_of script)
+      × WritesWorld false Texts (MixedShowsFrom calls strangers carrier events) (Some []) (Some (said ++ codes "end\n"));
+  Refuses = IsFirstBadAs mixed_spelling IsEventAmong;
+}
+
+abbrev pub on_mixed : MixedFields → Reading
+on_mixed t = record {
+  Prints = λ script said. (events : List MixedWorldEvent) × AskForMixed events (lines_of script)
+      × MixedReplaysOn t false Texts events (Some []) (Some (said ++ codes "end\n"));
+  Refuses = IsFirstBadAs mixed_spelling IsEventAmong;
+}

@@ -1,9 +1,8 @@
 //! Answering the lines of a reader, one after the other.
 
-ghost use Rattle.std.specs.Prelude.{◌≡◌, ◌≢◌, ◌≤◌, ◌↔◌, [], Err, IfErr, OnOk, false, length, true, ℕ};
-ghost use Rattle.std.specs.Io.KnownBytes.{IsAtEnd};
-ghost use Rattle.command_line.specs.Steps.{IsFollowFault};
-ghost use Rattle.session.specs.Turns.{IsAnswered, Prints, Serves};
+ghost use Rattle.std.specs.Prelude.{◌≡◌, ◌≢◌, ◌+◌, ◌≤◌, ◌↔◌, Err, IfErr, OnOk, false, length, true};
+ghost use Rattle.session.specs.Hearing.{hearing};
+ghost use Rattle.session.specs.Turns.{Ends, IsAnswered, IsBadLine, IsCause, reading};
 
 use crate::hearing::hear;
 use crate::stage::Stage;
@@ -14,48 +13,46 @@ use script::{LineFault, MAX_INPUT};
 use std::alloc::Global;
 
 /// Hears the lines of a script to the end of the input, and answers each before it hears the next: what its event
-/// shows, and an empty line. Octets of the script that were read already are pending; this is how many octets of the input were read.
+/// shows, and an empty line. Octets of the script that were read already are in `ahead`; so many octets of the input
+/// were heard before.
 ///
-/// Errors: `CannotRead`, `TooLong` and `OutOfMemory` as in [`hear`]; `BadLine` for the first line that is no event, after
-/// the answers to those before it; `CannotWrite`.
+/// Errors: `CannotRead`, `TooLong` and `OutOfMemory` as in [`hear`]; `BadLine` for the first line that is no event;
+/// `OutOfMemory` within an answer, of which a part may be written then; `CannotWrite`. The lines before it were answered.
 pub fn answer_lines<E: ScriptEvent, S: Stage<E, W>, R: Source, W: Output>(
     alloc: Global,
     stage: &mut S,
     reader: &mut R,
-    pending: &mut Vec<u8>,
-    read: usize,
+    ahead: &mut Vec<u8>,
+    heard: usize,
     writer: &mut W,
 ) -> Result<(), ScriptFault>
     requires reads { R.failed reader.old ≡ false }
     requires more { R.ended reader.old ≡ false }
     requires writes { W.failed writer.old ≡ false }
     requires handed { W.flushed writer.old ≡ true }
-    requires pending { length pending.old.items ≤ read }
-    requires short { read ≤ MAX_INPUT }
+    requires short { heard + length ahead.old.items ≤ MAX_INPUT }
 
-    // all lines are answered in turn, to the end of the input
-    ensures served { OnOk result ((all : ℕ) × (all ≤ MAX_INPUT) × Serves (Prints E.spelled E.is_meant S.replays stage.old) pending.old.items [] (R.remaining reader.old) (R.remaining reader.new) (W.contents writer.old) (W.contents writer.new) read all) }
-    ensures end { OnOk result (IsAtEnd (R.remaining reader.new)) }
+    // all lines are answered in turn, to the end of the input, or those before the fault
+    ensures ends { Ends (reading E.spelled E.is_meant S.replays stage.old) (hearing heard ahead.old.items (R.remaining reader.old)) (W.contents writer.old) (W.contents writer.new) result }
     ensures handed { OnOk result (W.flushed writer.new ≡ true) }
     ensures kept { IfErr result (λ f. f ≢ ScriptFault.CannotWrite → f ≢ ScriptFault.OutOfMemory → W.flushed writer.new ≡ true) }
-    ensures options { IfErr result (λ f. f ≢ ScriptFault.BadOptions) }
     ensures cannot_read { (result ≡ Err ScriptFault.CannotRead) ↔ (R.failed reader.new ≡ true) }
     ensures cannot_write { (result ≡ Err ScriptFault.CannotWrite) ↔ (W.failed writer.new ≡ true) }
 {
     S::goes_on();
     stage.opens();
-    let mut read = read;
+    let mut so_far = heard;
     let mut passed = 0;
     'lines: loop {
-        let heard = hear(alloc, reader, &*writer, pending, read)?;
-        if heard.line.is_empty() {
+        let next = hear(alloc, reader, &*writer, ahead, so_far)?;
+        if next.line.is_empty() {
             return Ok(());
         }
-        answer(alloc, stage, &heard.line, passed, writer)?;
-        if !heard.ended {
+        answer(alloc, stage, &next.line, passed, writer)?;
+        if !next.ended {
             return Ok(());
         }
-        read = heard.read;
+        so_far = next.heard;
         passed += 1;
     }
 }
@@ -75,9 +72,10 @@ fn answer<E: ScriptEvent, S: Stage<E, W>, W: Output>(
     requires few { passed ≤ MAX_INPUT }
     requires writes { W.failed writer.old ≡ false }
     ensures answered { OnOk result (IsAnswered E.spelled E.is_meant S.replays stage.old stage.new line.now (W.contents writer.old) (W.contents writer.new)) }
-    ensures handed { OnOk result (W.flushed writer.new ≡ true) }
-    ensures fault { IfErr result IsFollowFault }
+    ensures cause { IfErr result (λ f. IsCause (IsBadLine E.spelled E.is_meant line.now passed) ⊥ f (W.contents writer.old) (W.contents writer.new)) }
+    ensures fault { IfErr result (λ f. f ≢ ScriptFault.CannotRead) }
     ensures kept { IfErr result (λ f. f ≢ ScriptFault.CannotWrite → f ≢ ScriptFault.OutOfMemory → writer.new ≡ writer.old) }
+    ensures handed { OnOk result (W.flushed writer.new ≡ true) }
     ensures failed { (result ≡ Err ScriptFault.CannotWrite) ↔ (W.failed writer.new ≡ true) }
 {
     match read_events::<E>(alloc, line) {

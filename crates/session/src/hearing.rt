@@ -1,9 +1,9 @@
 //! Hearing the lines of a reader.
 
-ghost use Rattle.std.specs.Prelude.{◌≡◌, ◌≤◌, ◌↔◌, ◌++◌, Err, IfErr, IfOk, MatchOption, false, length, true};
-ghost use Rattle.std.specs.Io.KnownBytes.{IsAtEnd};
+ghost use Rattle.std.specs.Prelude.{◌≡◌, ◌+◌, ◌≤◌, ◌↔◌, ◌++◌, Err, IfErr, IfOk, MatchOption, false, length, not, true};
+ghost use Rattle.std.specs.Io.KnownBytes.{prepend_known};
 ghost use Rattle.command_line.specs.Steps.{IsReadFault};
-ghost use Rattle.session.specs.Hearing.{EndsAt, Hears, IsHeard, IsLine};
+ghost use Rattle.session.specs.Hearing.{EndsAt, Hears, IsHeard, IsLine, IsTooLong, hearing};
 
 use command_line::{ScriptFault, Source};
 use replay::Output;
@@ -22,12 +22,12 @@ pub struct Heard {
     pub line: Vec<u8>,
     /// Whether it has its end.
     pub ended: bool,
-    /// How many octets of the input were read so far.
-    pub read: usize,
+    /// How many octets of the input were heard so far.
+    pub heard: usize,
 }
 
 /// Hears the next line: it reads until the line's end has come, or to the end of the input. What was read and not heard
-/// yet is pending, before and after. So many octets of the input were read before.
+/// yet is kept in `ahead`, before and after. So many octets of the input were heard before.
 ///
 /// Nothing may be held back while it waits: the writer to which answers go has handed on all.
 ///
@@ -37,55 +37,54 @@ pub fn hear<R: Source, W: Output>(
     alloc: Global,
     reader: &mut R,
     _writer: &W,
-    pending: &mut Vec<u8>,
-    read: usize,
+    ahead: &mut Vec<u8>,
+    heard: usize,
 ) -> Result<Heard, ScriptFault>
     requires reads { R.failed reader.old ≡ false }
     requires more { R.ended reader.old ≡ false }
-    requires short { read ≤ MAX_INPUT }
+    requires short { heard + length ahead.old.items ≤ MAX_INPUT }
     // nothing that was written is held back
     requires handed { W.flushed _writer.now ≡ true }
-    ensures hears { IfOk result (λ h. Hears pending.old.items h.line.items pending.new.items (R.remaining reader.old) (R.remaining reader.new) read h.read) }
-    ensures heard { IfOk result (λ h. IsHeard h.ended h.line.items pending.new.items (R.ended reader.new)) }
-    ensures end { IfOk result (λ h. h.ended ≡ false → IsAtEnd (R.remaining reader.new)) }
-    ensures short { IfOk result (λ h. h.read ≤ MAX_INPUT) }
+    ensures hears { IfOk result (λ h. Hears (hearing heard ahead.old.items (R.remaining reader.old)) (hearing h.heard ahead.new.items (R.remaining reader.new)) h.line.items) }
+    ensures heard { IfOk result (λ h. IsHeard h.ended h.line.items (prepend_known ahead.new.items (R.remaining reader.new))) }
+    ensures ended { IfOk result (λ h. R.ended reader.new ≡ not h.ended) }
+    ensures short { IfOk result (λ h. h.heard + length ahead.new.items ≤ MAX_INPUT) }
     ensures fault { IfErr result IsReadFault }
+    ensures too_long { result ≡ Err ScriptFault.TooLong → IsTooLong (hearing heard ahead.old.items (R.remaining reader.old)) }
     ensures failed { (result ≡ Err ScriptFault.CannotRead) ↔ (R.failed reader.new ≡ true) }
 {
-    if let Some(count) = line_end(pending) {
-        let line = first_part(pending, count)?;
+    if let Some(count) = line_end(ahead) {
+        let line = first_part(ahead, count)?;
         return Ok(Heard {
             line,
             ended: true,
-            read,
+            heard: heard + count,
         });
     }
-    let mut read = read;
     let mut buffer = [0; CHUNK];
     'chunks: loop {
-        let room = CHUNK.min(MAX_INPUT + 1 - read);
+        let seen = ahead.len();
+        let room = CHUNK.min(MAX_INPUT + 1 - heard - seen);
         let chunk = &mut buffer[..room];
         let count = reader.read(chunk)?;
         if count == 0 {
-            let line = mem::replace(pending, Vec::new(alloc));
+            let line = mem::replace(ahead, Vec::new(alloc));
             return Ok(Heard {
                 line,
                 ended: false,
-                read,
+                heard: heard + seen,
             });
         }
-        read += count;
-        if read > MAX_INPUT {
+        if heard + seen + count > MAX_INPUT {
             return Err(ScriptFault::TooLong);
         }
-        let seen = pending.len();
-        pending.extend_from_slice(&chunk[..count])?;
+        ahead.extend_from_slice(&chunk[..count])?;
         if let Some(end) = line_end(&chunk[..count]) {
-            let line = first_part(pending, seen + end)?;
+            let line = first_part(ahead, seen + end)?;
             return Ok(Heard {
                 line,
                 ended: true,
-                read,
+                heard: heard + seen + end,
             });
         }
     }
@@ -99,13 +98,13 @@ fn line_end(octets: &[u8]) -> Option<usize>
     Some(line.len() + 1)
 }
 
-/// Takes the first octets of what is pending, this many.
+/// Takes the first octets of what was read ahead, this many.
 ///
 /// Errors: `AllocError`.
-fn first_part(pending: &mut Vec<u8>, count: usize) -> Result<Vec<u8>, AllocError>
-    requires { count ≤ length pending.old.items }
-    ensures { IfOk result (λ first. (pending.old.items ≡ first.items ++ pending.new.items) × (length first.items ≡ count)) }
+fn first_part(ahead: &mut Vec<u8>, count: usize) -> Result<Vec<u8>, AllocError>
+    requires { count ≤ length ahead.old.items }
+    ensures { IfOk result (λ first. (ahead.old.items ≡ first.items ++ ahead.new.items) × (length first.items ≡ count)) }
 {
-    let rest = pending.split_off(count)?;
-    Ok(mem::replace(pending, rest))
+    let rest = ahead.split_off(count)?;
+    Ok(mem::replace(ahead, rest))
 }

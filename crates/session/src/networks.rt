@@ -1,7 +1,7 @@
 //! Networks on which the events of a session happen: one whose hosts have programs, with strangers or without, and one
 //! without host programs.
 
-ghost use Rattle.std.specs.Prelude.{◌≡◌, List, OnOk, false, ℕ};
+ghost use Rattle.std.specs.Prelude.{◌≡◌, Err, List, OnOk, false, ℕ};
 ghost use Rattle.std.specs.Io.KnownBytes.{Appends};
 ghost use Rattle.headline.specs.Promise.{KeepsPromise};
 ghost use Rattle.net_sim.specs.Carriers.{shown};
@@ -36,6 +36,7 @@ impl<C: Carrier, W: Output> Stage<RawEvent, W> for Bare<C> {
 
     fn replay(&mut self, events: Vec<RawEvent>, writer: &mut W) -> Result<(), ReplayFault>
         requires { W.failed writer.old ≡ false }
+        ensures part { result ≡ Err ReplayFault.OutOfMemory → (said : List ℕ) × Appends (W.contents writer.old) (W.contents writer.new) said }
         ensures replayed { OnOk result ((said : List ℕ) × ReplaysWith (raw_events.Happens C.calls) (raw.shown_text Texts) (KeepsRun C.calls) self.old.carrier events.items self.new.carrier said × Appends (W.contents writer.old) (W.contents writer.new) said) }
         ensures failed { TellsCannotWrite result (W.failed writer.new) }
     {
@@ -54,6 +55,7 @@ impl<C: Carrier, W: Output> Stage<WorldEvent, W> for World<C> {
 
     fn replay(&mut self, events: Vec<WorldEvent>, writer: &mut W) -> Result<(), ReplayFault>
         requires { W.failed writer.old ≡ false }
+        ensures part { result ≡ Err ReplayFault.OutOfMemory → (said : List ℕ) × Appends (W.contents writer.old) (W.contents writer.new) said }
         ensures replayed { OnOk result ((said : List ℕ) × ReplaysWith (HappensBy (world_kind (shown C.calls))) (shown_text Texts) (KeepsPromise C.calls.seen) self.old events.items self.new said × Appends (W.contents writer.old) (W.contents writer.new) said) }
         ensures failed { TellsCannotWrite result (W.failed writer.new) }
     {
@@ -74,6 +76,7 @@ impl<C: Carrier, W: Output> Stage<MixedWorldEvent, W> for MixedWorld<C> {
 
     fn replay(&mut self, events: Vec<MixedWorldEvent>, writer: &mut W) -> Result<(), ReplayFault>
         requires { W.failed writer.old ≡ false }
+        ensures part { result ≡ Err ReplayFault.OutOfMemory → (said : List ℕ) × Appends (W.contents writer.old) (W.contents writer.new) said }
         ensures replayed { OnOk result ((said : List ℕ) × ReplaysWith (HappensBy (mixed_kind (shown C.calls))) (shown_text Texts) (KeepsAll C.calls) self.old events.items self.new said × Appends (W.contents writer.old) (W.contents writer.new) said) }
         ensures failed { TellsCannotWrite result (W.failed writer.new) }
     {

@@ -1,10 +1,12 @@
 //! A whole session: the head of an input, and then its lines.
 
-ghost use Rattle.std.specs.Prelude.{◌≡◌, ◌≢◌, ◌≤◌, ◌↔◌, [], codes, Err, IfErr, IfSome, None, OnOk, false, length, true, ℕ};
-ghost use Rattle.std.specs.Io.KnownBytes.{Appends, IsAtEnd};
+ghost use Rattle.std.specs.Prelude.{◌≡◌, ◌≢◌, ◌+◌, ◌≤◌, ◌↔◌, [], codes, Err, IfErr, IfSome, List, None, OnOk, false, length, true, ℕ};
+ghost use Rattle.std.specs.Io.KnownBytes.{Appends};
 ghost use Rattle.net_sim.specs.MixedWorlds.{absent_in};
-ghost use Rattle.session.specs.Session.{IsSession, MixedPrints, MixedPrintsOn, PrintsFrom, PrintsOn};
-ghost use Rattle.session.specs.Turns.{Serves};
+ghost use Rattle.session.specs.Hearing.{hearing};
+ghost use Rattle.session.specs.Head.{IsHead};
+ghost use Rattle.session.specs.Session.{EndsEarly, IsSession, Serving, among, on, on_mixed, over};
+ghost use Rattle.session.specs.Turns.{Ends};
 
 use crate::answering::answer_lines;
 use crate::head::read_head;
@@ -27,20 +29,17 @@ fn serve_strangers<R: Source, W: Output>(
     alloc: Global,
     topology: &MixedTopology,
     reader: &mut R,
-    pending: &mut Vec<u8>,
-    read: usize,
+    ahead: &mut Vec<u8>,
+    heard: usize,
     writer: &mut W,
 ) -> Result<(), ScriptFault>
     requires reads { R.failed reader.old ≡ false }
     requires more { R.ended reader.old ≡ false }
     requires writes { W.failed writer.old ≡ false }
     requires handed { W.flushed writer.old ≡ true }
-    requires pending { length pending.old.items ≤ read }
-    requires short { read ≤ MAX_INPUT }
-    ensures served { OnOk result ((all : ℕ) × (all ≤ MAX_INPUT) × Serves (MixedPrintsOn topology.now) pending.old.items [] (R.remaining reader.old) (R.remaining reader.new) (W.contents writer.old) (W.contents writer.new) read all) }
-    ensures end { OnOk result (IsAtEnd (R.remaining reader.new)) }
+    requires short { heard + length ahead.old.items ≤ MAX_INPUT }
+    ensures ends { Ends (on_mixed topology.now) (hearing heard ahead.old.items (R.remaining reader.old)) (W.contents writer.old) (W.contents writer.new) result }
     ensures kept { IfErr result (λ f. f ≢ ScriptFault.CannotWrite → f ≢ ScriptFault.OutOfMemory → W.flushed writer.new ≡ true) }
-    ensures options { IfErr result (λ f. f ≢ ScriptFault.BadOptions) }
     ensures cannot_read { (result ≡ Err ScriptFault.CannotRead) ↔ (R.failed reader.new ≡ true) }
     ensures cannot_write { (result ≡ Err ScriptFault.CannotWrite) ↔ (W.failed writer.new ≡ true) }
 {
@@ -50,11 +49,11 @@ fn serve_strangers<R: Source, W: Output>(
         CarrierKind::Plain => {
             let hosts = network.hosts(alloc)?;
             let carrier = PlainBoxes::new(alloc, hosts);
-            serve_mixed(alloc, carrier, strangers, reader, pending, read, writer)
+            serve_mixed(alloc, carrier, strangers, reader, ahead, heard, writer)
         }
         CarrierKind::Subnet => {
             let carrier = subnet_of(alloc, network)?;
-            serve_mixed(alloc, carrier, strangers, reader, pending, read, writer)
+            serve_mixed(alloc, carrier, strangers, reader, ahead, heard, writer)
         }
     }
 }
@@ -67,8 +66,8 @@ fn serve_mixed<C: Carrier, R: Source, W: Output>(
     carrier: C,
     strangers: &[HostAddr],
     reader: &mut R,
-    pending: &mut Vec<u8>,
-    read: usize,
+    ahead: &mut Vec<u8>,
+    heard: usize,
     writer: &mut W,
 ) -> Result<(), ScriptFault>
     requires unused { (C.calls.seen carrier).log ≡ [] }
@@ -78,12 +77,9 @@ fn serve_mixed<C: Carrier, R: Source, W: Output>(
     requires more { R.ended reader.old ≡ false }
     requires writes { W.failed writer.old ≡ false }
     requires handed { W.flushed writer.old ≡ true }
-    requires pending { length pending.old.items ≤ read }
-    requires short { read ≤ MAX_INPUT }
-    ensures served { OnOk result ((all : ℕ) × (all ≤ MAX_INPUT) × Serves (MixedPrints C.calls strangers.now carrier) pending.old.items [] (R.remaining reader.old) (R.remaining reader.new) (W.contents writer.old) (W.contents writer.new) read all) }
-    ensures end { OnOk result (IsAtEnd (R.remaining reader.new)) }
+    requires short { heard + length ahead.old.items ≤ MAX_INPUT }
+    ensures ends { Ends (among C.calls strangers.now carrier) (hearing heard ahead.old.items (R.remaining reader.old)) (W.contents writer.old) (W.contents writer.new) result }
     ensures kept { IfErr result (λ f. f ≢ ScriptFault.CannotWrite → f ≢ ScriptFault.OutOfMemory → W.flushed writer.new ≡ true) }
-    ensures options { IfErr result (λ f. f ≢ ScriptFault.BadOptions) }
     ensures cannot_read { (result ≡ Err ScriptFault.CannotRead) ↔ (R.failed reader.new ≡ true) }
     ensures cannot_write { (result ≡ Err ScriptFault.CannotWrite) ↔ (W.failed writer.new ≡ true) }
 {
@@ -92,7 +88,7 @@ fn serve_mixed<C: Carrier, R: Source, W: Output>(
         Err(StrangersFault::OutOfMemory) => return Err(ScriptFault::OutOfMemory),
         Err(StrangersFault::NoSuch(_)) => return Err(ScriptFault::BadTopology),
     };
-    answer_lines(alloc, &mut world, reader, pending, read, writer)
+    answer_lines(alloc, &mut world, reader, ahead, heard, writer)
 }
 
 /// Answers the lines of a script over the carrier that a topology without strangers names.
@@ -102,20 +98,17 @@ fn serve_network<R: Source, W: Output>(
     alloc: Global,
     network: &Topology,
     reader: &mut R,
-    pending: &mut Vec<u8>,
-    read: usize,
+    ahead: &mut Vec<u8>,
+    heard: usize,
     writer: &mut W,
 ) -> Result<(), ScriptFault>
     requires reads { R.failed reader.old ≡ false }
     requires more { R.ended reader.old ≡ false }
     requires writes { W.failed writer.old ≡ false }
     requires handed { W.flushed writer.old ≡ true }
-    requires pending { length pending.old.items ≤ read }
-    requires short { read ≤ MAX_INPUT }
-    ensures served { OnOk result ((all : ℕ) × (all ≤ MAX_INPUT) × Serves (PrintsOn network.now) pending.old.items [] (R.remaining reader.old) (R.remaining reader.new) (W.contents writer.old) (W.contents writer.new) read all) }
-    ensures end { OnOk result (IsAtEnd (R.remaining reader.new)) }
+    requires short { heard + length ahead.old.items ≤ MAX_INPUT }
+    ensures ends { Ends (on network.now) (hearing heard ahead.old.items (R.remaining reader.old)) (W.contents writer.old) (W.contents writer.new) result }
     ensures kept { IfErr result (λ f. f ≢ ScriptFault.CannotWrite → f ≢ ScriptFault.OutOfMemory → W.flushed writer.new ≡ true) }
-    ensures options { IfErr result (λ f. f ≢ ScriptFault.BadOptions) }
     ensures cannot_read { (result ≡ Err ScriptFault.CannotRead) ↔ (R.failed reader.new ≡ true) }
     ensures cannot_write { (result ≡ Err ScriptFault.CannotWrite) ↔ (W.failed writer.new ≡ true) }
 {
@@ -124,11 +117,11 @@ fn serve_network<R: Source, W: Output>(
         CarrierKind::Plain => {
             let hosts = network.hosts(alloc)?;
             let carrier = PlainBoxes::new(alloc, hosts);
-            serve_over(alloc, carrier, raw, reader, pending, read, writer)
+            serve_over(alloc, carrier, raw, reader, ahead, heard, writer)
         }
         CarrierKind::Subnet => {
             let carrier = subnet_of(alloc, network)?;
-            serve_over(alloc, carrier, raw, reader, pending, read, writer)
+            serve_over(alloc, carrier, raw, reader, ahead, heard, writer)
         }
     }
 }
@@ -141,8 +134,8 @@ fn serve_over<C: Carrier, R: Source, W: Output>(
     carrier: C,
     raw: bool,
     reader: &mut R,
-    pending: &mut Vec<u8>,
-    read: usize,
+    ahead: &mut Vec<u8>,
+    heard: usize,
     writer: &mut W,
 ) -> Result<(), ScriptFault>
     requires unused { (C.calls.seen carrier).log ≡ [] }
@@ -151,21 +144,51 @@ fn serve_over<C: Carrier, R: Source, W: Output>(
     requires more { R.ended reader.old ≡ false }
     requires writes { W.failed writer.old ≡ false }
     requires handed { W.flushed writer.old ≡ true }
-    requires pending { length pending.old.items ≤ read }
-    requires short { read ≤ MAX_INPUT }
-    ensures served { OnOk result ((all : ℕ) × (all ≤ MAX_INPUT) × Serves (PrintsFrom C.calls carrier raw) pending.old.items [] (R.remaining reader.old) (R.remaining reader.new) (W.contents writer.old) (W.contents writer.new) read all) }
-    ensures end { OnOk result (IsAtEnd (R.remaining reader.new)) }
+    requires short { heard + length ahead.old.items ≤ MAX_INPUT }
+    ensures ends { Ends (over C.calls carrier raw) (hearing heard ahead.old.items (R.remaining reader.old)) (W.contents writer.old) (W.contents writer.new) result }
     ensures kept { IfErr result (λ f. f ≢ ScriptFault.CannotWrite → f ≢ ScriptFault.OutOfMemory → W.flushed writer.new ≡ true) }
-    ensures options { IfErr result (λ f. f ≢ ScriptFault.BadOptions) }
     ensures cannot_read { (result ≡ Err ScriptFault.CannotRead) ↔ (R.failed reader.new ≡ true) }
     ensures cannot_write { (result ≡ Err ScriptFault.CannotWrite) ↔ (W.failed writer.new ≡ true) }
 {
     if raw {
         let mut bare = Bare { carrier };
-        answer_lines(alloc, &mut bare, reader, pending, read, writer)
+        answer_lines(alloc, &mut bare, reader, ahead, heard, writer)
     } else {
         let mut world = World::new(alloc, carrier)?;
-        answer_lines(alloc, &mut world, reader, pending, read, writer)
+        answer_lines(alloc, &mut world, reader, ahead, heard, writer)
+    }
+}
+
+/// Answers the lines of the script that follows this head of an input.
+///
+/// Errors: `BadTopology` where the head describes no topology; as in [`answer_lines`].
+fn serve<R: Source, W: Output>(
+    alloc: Global,
+    head: &[u8],
+    reader: &mut R,
+    ahead: &mut Vec<u8>,
+    writer: &mut W,
+) -> Result<(), ScriptFault>
+    requires opens { (document : List ℕ) × IsHead head.now document }
+    requires reads { R.failed reader.old ≡ false }
+    requires more { R.ended reader.old ≡ false }
+    requires writes { W.failed writer.old ≡ false }
+    requires handed { W.flushed writer.old ≡ true }
+    requires short { length head.now + length ahead.old.items ≤ MAX_INPUT }
+    ensures ends { Serving head.now (hearing (length head.now) ahead.old.items (R.remaining reader.old)) (W.contents writer.old) (W.contents writer.new) result }
+    ensures kept { IfErr result (λ f. f ≢ ScriptFault.CannotWrite → f ≢ ScriptFault.OutOfMemory → W.flushed writer.new ≡ true) }
+    ensures cannot_read { (result ≡ Err ScriptFault.CannotRead) ↔ (R.failed reader.new ≡ true) }
+    ensures cannot_write { (result ≡ Err ScriptFault.CannotWrite) ↔ (W.failed writer.new ≡ true) }
+{
+    match read_input(alloc, head) {
+        Ok(Input { network, .. }) => {
+            serve_network(alloc, &network, reader, ahead, head.len(), writer)
+        }
+        Err(ScriptFault::BadTopology) => {
+            let MixedInput { network, .. } = read_mixed_input(alloc, head)?;
+            serve_strangers(alloc, &network, reader, ahead, head.len(), writer)
+        }
+        Err(fault) => Err(fault),
     }
 }
 
@@ -173,7 +196,7 @@ fn serve_over<C: Carrier, R: Source, W: Output>(
 /// answers each before it hears the next, and writes a last line `end`.
 ///
 /// Errors: as in [`answer_lines`]; `BadTopology` where no marker line with its end comes, or what precedes it describes
-/// no topology.
+/// no topology, with nothing written.
 pub fn run_session<R: Source, W: Output>(
     alloc: Global,
     reader: &mut R,
@@ -183,29 +206,22 @@ pub fn run_session<R: Source, W: Output>(
     requires more { R.ended reader.old ≡ false }
     requires writes { W.failed writer.old ≡ false }
 
-    // the lines of the script are answered in turn, and that is written
+    // the lines of the script are answered in turn, and that is written; or those before the fault, and how it came
     ensures session { OnOk result (IfSome (R.remaining reader.old) (λ octets. IsSession octets (W.contents writer.old) (W.contents writer.new))) }
+    ensures early { IfErr result (λ f. IfSome (R.remaining reader.old) (λ octets. EndsEarly octets f (W.contents writer.old) (W.contents writer.new))) }
+    ensures options { IfErr result (λ f. f ≢ ScriptFault.BadOptions) }
+
+    // what was written is handed on, unless a write failed or memory ran out
     ensures flushed { OnOk result (W.flushed writer.new ≡ true) }
     ensures kept { IfErr result (λ f. f ≢ ScriptFault.CannotWrite → f ≢ ScriptFault.OutOfMemory → W.flushed writer.new ≡ true) }
-    ensures options { IfErr result (λ f. f ≢ ScriptFault.BadOptions) }
     ensures cannot_read { (result ≡ Err ScriptFault.CannotRead) ↔ (R.failed reader.new ≡ true) }
     ensures cannot_write { (result ≡ Err ScriptFault.CannotWrite) ↔ (W.failed writer.new ≡ true) }
 {
     writer.flush()?;
-    let mut pending = Vec::new(alloc);
-    let head = read_head(alloc, reader, &*writer, &mut pending)?;
-    match read_input(alloc, &head.octets) {
-        Ok(Input { network, .. }) => {
-            serve_network(alloc, &network, reader, &mut pending, head.read, writer)?;
-            write_end(writer)
-        }
-        Err(ScriptFault::BadTopology) => {
-            let MixedInput { network, .. } = read_mixed_input(alloc, &head.octets)?;
-            serve_strangers(alloc, &network, reader, &mut pending, head.read, writer)?;
-            write_end(writer)
-        }
-        Err(fault) => Err(fault),
-    }
+    let mut ahead = Vec::new(alloc);
+    let head = read_head(alloc, reader, &*writer, &mut ahead)?;
+    serve(alloc, &head, reader, &mut ahead, writer)?;
+    write_end(writer)
 }
 
 /// Writes the last line, and hands on all.

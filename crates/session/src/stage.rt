@@ -1,6 +1,6 @@
 //! What a session asks of a network.
 
-ghost use Rattle.std.specs.Prelude.{◌≡◌, [], List, OnOk, false, ℕ};
+ghost use Rattle.std.specs.Prelude.{◌≡◌, [], Err, List, OnOk, false, ℕ};
 ghost use Rattle.std.specs.Io.KnownBytes.{Appends};
 ghost use Rattle.replay.specs.Failing.{TellsCannotWrite};
 ghost use Rattle.session.specs.Turns.{GoesOn};
@@ -15,9 +15,10 @@ pub trait Stage<E: ScriptEvent, W: Output> {
 
     /// Replays events, and prints what they show.
     ///
-    /// Errors: as in `replay::replay_events`.
+    /// Errors: `CannotWrite`; `OutOfMemory`, after which a part of that is written.
     fn replay(&mut self, events: Vec<E>, writer: &mut W) -> Result<(), ReplayFault>
         requires { W.failed writer.old ≡ false }
+        ensures part { result ≡ Err ReplayFault.OutOfMemory → (said : List ℕ) × Appends (W.contents writer.old) (W.contents writer.new) said }
         ensures replayed { OnOk result ((said : List ℕ) × replays self.old events.items self.new said × Appends (W.contents writer.old) (W.contents writer.new) said) }
         ensures failed { TellsCannotWrite result (W.failed writer.new) };
 

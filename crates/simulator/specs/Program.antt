@@ -18,7 +18,7 @@ use Rattle.command_line.specs.declared.fault.ScriptFault.TheVariants as script
 use Rattle.command_line.specs.declared.options.Options.{Options}
 use Rattle.command_line.specs.declared.options.Task.{Task}
 use Rattle.command_line.specs.declared.options.Task.TheVariants as task
-use Rattle.session.specs.Session.{IsSession}
+use Rattle.session.specs.Session.{EndsEarly, IsSession}
 use Rattle.simulator.specs.declared.program.Done.{Done}
 use Rattle.simulator.specs.declared.program.Done.TheVariants as did
 use Rattle.simulator.specs.declared.program.ProgramFault.{ProgramFault}
@@ -96,9 +96,10 @@ pub record EndsTrace (s : Sides) (r : Result (Unit {0}) ScriptFault) : Type 0 wh
   pub ran_in_part : r ≡ Err script.OutOfMemory → Keeps s.before s.after ⊎ TracedEitherInPart s.before s.after
   pub first_part : r ≡ Err script.OutOfMemory → IfSome s.input (λ octets. Keeps s.before s.after ⊎ TraceStopsEither octets s.before s.after)
 
--- the lines of an input are answered in turn, to its end
+-- the lines of an input are answered in turn, to its end; or those before a fault
 pub record EndsLive (s : Sides) (r : Result (Unit {0}) ScriptFault) : Type 0 where
   pub session : OnOk r (IfSome s.input (λ octets. IsSession octets s.before s.after))
+  pub early : IfErr r (λ f. IfSome s.input (λ octets. EndsEarly octets f s.before s.after))
   pub options_read : IfErr r (λ f. f ≢ script.BadOptions)
 
 -- a log is audited and what the audit says is written, or the first fault is given. Unless a read fails or memory runs out, all of it is read; where

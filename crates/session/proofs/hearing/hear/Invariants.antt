@@ -1,12 +1,13 @@
-use Rattle.std.proofs.Common.{◌≡◌, ◌≤◌, ◌-◌, [], false}
-use Rattle.session.specs.Hearing.{Hears, IsLine}
+use Rattle.std.proofs.Common.{◌≡◌, ◌≤◌, ◌+◌, ◌-◌, false, length}
+use Rattle.std.specs.Io.KnownBytes.{Keeps, prepend_known}
+use Rattle.session.specs.Hearing.{IsLine}
 use Rattle.session.proofs.hearing.hear.Given as goal
 
--- what was read, in which no line has its end
+-- what was read ahead, in which no line has its end, and what is left to be read are what was left
 abbrev pub invariant-chunks : goal.invariant-chunks
 invariant-chunks g l =
-    (g.R.Source.failed l.reader ≡ false) × (g.R.Source.ended l.reader ≡ false) × (l.read ≤ 268435456) × IsLine l.pending.items
-    × Hears l.fn.pending.items l.pending.items [] (g.R.Source.remaining l.fn.reader) (g.R.Source.remaining l.reader) l.fn.read l.read
+    (g.R.Source.failed l.reader ≡ false) × (g.R.Source.ended l.reader ≡ false) × (l.fn.heard + length l.ahead.items ≤ 268435456) × IsLine l.ahead.items
+    × Keeps (prepend_known l.fn.ahead.items (g.R.Source.remaining l.fn.reader)) (prepend_known l.ahead.items (g.R.Source.remaining l.reader))
 
 abbrev pub decreases-chunks : goal.decreases-chunks
-decreases-chunks g l = 268435457 - l.read
+decreases-chunks g l = 268435457 - length l.ahead.items

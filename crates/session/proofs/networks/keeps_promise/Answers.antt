@@ -11,6 +11,7 @@ returns g c =
       over = rw e.value at e.over;
       contacts = rw e.value at e.contacts;
       within = rw e.value at e.within;
+      granted = rw e.value at e.granted;
       sent = rw e.value at e.sent;
       exact = e.lawful;
     }

@@ -1,41 +1,36 @@
-use Rattle.std.proofs.Common.{codes, arith}
-use Rattle.std.specs.Io.KnownBytes.{Appends}
+use Rattle.std.proofs.Common.{rules, ◌≡◌, Err, Ok, length}
 use Rattle.replay.proofs.lemmas.{on_ok}
-use Rattle.command_line.specs.Events.{asked_of}
-use Rattle.command_line.specs.Input.{IsInput}
-use Rattle.command_line.specs.Mixed.{IsMixedInput}
-use Rattle.session.proofs.Lines.{lengths}
-use Rattle.session.proofs.Sessions.{mixed_reads, plain_reads, whole_session}
+use Rattle.command_line.specs.declared.fault.ScriptFault.TheVariants as fault
+use Rattle.session.proofs.Heads.{said}
+use Rattle.session.proofs.Sessions.{early_session, no_end, no_head, whole_session}
 use Rattle.session.proofs.running.run_session.Goals as goal
 
-pub serve_network-requires-clause-pending : goal.serve_network-requires-clause-pending
-serve_network-requires-clause-pending g c = (let parts = lengths c.in_ok-head.ensures.hears in omega (arith, parts))
+pub returns-in_err-flush-clause-early : goal.returns-in_err-flush-clause-early
+returns-in_err-flush-clause-early g c =
+    let known = g.R.Source.remaining c.args.reader.now in
+    let is : c.from_residual.result ≡ Err fault.CannotWrite = search rules in
+    rw is (no_head known fault.CannotWrite _ _ (said known tt) c.flush.ensures.kept)
 
-pub serve_strangers-requires-clause-pending : goal.serve_strangers-requires-clause-pending
-serve_strangers-requires-clause-pending g c = (let parts = lengths c.in_ok-head.ensures.hears in omega (arith, parts))
+pub returns-in_err-head-clause-early : goal.returns-in_err-head-clause-early
+returns-in_err-head-clause-early g c =
+    let is : c.from_residual-in_err-head.result ≡ Err c.in_err-head.field-0.0 = search rules in
+    rw is (no_head (g.R.Source.remaining c.args.reader.now) _ _ _ c.in_err-head.ensures.fault.2 c.flush.ensures.kept)
 
-pub returns-in-Ok-clause-session : goal.returns-in-Ok-clause-session
-returns-in-Ok-clause-session g c =
-    let input : IsInput c.in_ok-head.head.octets.items c.in-Ok.field-0.network (asked_of c.in-Ok.field-0.events) = rw c.deref.ensures.value at c.in-Ok.ensures.read in
-    let served = c.in_ok-serve_network-in-Ok.ensures.served in
+pub returns-in_err-serve-clause-early : goal.returns-in_err-serve-clause-early
+returns-in_err-serve-clause-early g c =
+    let is : c.from_residual-in_err-serve.result ≡ Err c.in_err-serve.field-0.0 = search rules in
     let head = c.in_ok-head.ensures.head in
-    on_ok c.write_end.result (λ (end : Appends (g.W.Output.contents c.serve_network.new.writer) (g.W.Output.contents c.write_end.new.writer) (codes "end\n")).
-    whole_session c.in_ok-head.head.octets.items head.0 c.read_head.new.pending.items (g.R.Source.remaining c.args.reader.now) (g.R.Source.remaining c.read_head.new.reader)
-    (g.R.Source.remaining c.serve_network.new.reader) (g.W.Output.contents c.args.writer.now) (g.W.Output.contents c.flush.new.self) (g.W.Output.contents c.serve_network.new.writer)
-    (g.W.Output.contents c.write_end.new.writer) c.in_ok-head.head.read served.0 head.1
-    (plain_reads c.in_ok-head.head.octets.items head.0 head.1 c.in-Ok.field-0.network (asked_of c.in-Ok.field-0.events) input)
-    c.in_ok-head.ensures.hears served.1 served.2 c.in_ok-serve_network-in-Ok.ensures.end c.flush.ensures.kept end) c.write_end.ensures.written
+    rw is (early_session (g.R.Source.remaining c.args.reader.now) _ c.in_ok-head.head.items head.0 _ head.1 c.in_ok-head.ensures.hears _ _ c.flush.ensures.kept
+    c.in_err-serve.field-0.0 _ (rw c.deref.ensures.value at c.in_err-serve.ensures.ends))
 
-pub returns-in-Err-BadTopology-clause-session : goal.returns-in-Err-BadTopology-clause-session
-returns-in-Err-BadTopology-clause-session g c =
-    let input : IsMixedInput c.in_ok-head.head.octets.items c.in_ok-network-in-Err-BadTopology.field-0.network c.in_ok-network-in-Err-BadTopology.field-0.events.items =
-    rw c.deref-in-Err-BadTopology.ensures.value at c.in_ok-network-in-Err-BadTopology.ensures.read in
-    let served = c.in_ok-serve_strangers-in-Err-BadTopology.ensures.served in
+pub returns-clause-session : goal.returns-clause-session
+returns-clause-session g c =
     let head = c.in_ok-head.ensures.head in
-    on_ok c.write_end-in-Err-BadTopology.result
-    (λ (end : Appends (g.W.Output.contents c.serve_strangers.new.writer) (g.W.Output.contents c.write_end-in-Err-BadTopology.new.writer) (codes "end\n")).
-    whole_session c.in_ok-head.head.octets.items head.0 c.read_head.new.pending.items (g.R.Source.remaining c.args.reader.now) (g.R.Source.remaining c.read_head.new.reader)
-    (g.R.Source.remaining c.serve_strangers.new.reader) (g.W.Output.contents c.args.writer.now) (g.W.Output.contents c.flush.new.self) (g.W.Output.contents c.serve_strangers.new.writer)
-    (g.W.Output.contents c.write_end-in-Err-BadTopology.new.writer) c.in_ok-head.head.read served.0 head.1
-    (mixed_reads c.in_ok-head.head.octets.items head.0 head.1 c.in_ok-network-in-Err-BadTopology.field-0.network c.in_ok-network-in-Err-BadTopology.field-0.events.items input)
-    c.in_ok-head.ensures.hears served.1 served.2 c.in_ok-serve_strangers-in-Err-BadTopology.ensures.end c.flush.ensures.kept end) c.write_end-in-Err-BadTopology.ensures.written
+    on_ok c.write_end.result (λ end. whole_session (g.R.Source.remaining c.args.reader.now) c.in_ok-head.head.items head.0 _ _ _ _ _ head.1
+    c.in_ok-head.ensures.hears c.flush.ensures.kept (rw c.deref.ensures.value at c.in_ok-serve.ensures.ends) end) c.write_end.ensures.written
+
+pub returns-clause-early : goal.returns-clause-early
+returns-clause-early g c =
+    let head = c.in_ok-head.ensures.head in
+    no_end (g.R.Source.remaining c.args.reader.now) _ c.in_ok-head.head.items head.0 _ head.1 c.in_ok-head.ensures.hears _ _ c.flush.ensures.kept _ _
+    c.write_end.result (rw c.deref.ensures.value at c.in_ok-serve.ensures.ends) c.write_end.ensures.fault

@@ -5,7 +5,8 @@ use Rattle.topology.specs.Topology.{hosts_of}
 use Rattle.topology.specs.declared.network.CarrierKind.TheVariants as kind
 use Rattle.command_line.proofs.lemmas.{strangers_there}
 use Rattle.command_line.specs.Carriers.{subnet_of}
-use Rattle.session.proofs.Strangers.{plain_prints, serves_as, subnet_prints}
+use Rattle.session.proofs.Sessions.{ends_as}
+use Rattle.session.proofs.Strangers.{plain_among, subnet_among}
 use Rattle.session.proofs.running.serve_strangers.Goals as goal
 
 pub serve_mixed-requires-clause-there : goal.serve_mixed-requires-clause-there
@@ -20,15 +21,16 @@ serve_mixed-requires-in-Subnet-clause-there g c =
     (ap (λ (k : Kept). k.net.hosts) (c.in_ok-carrier-in-Subnet.ensures ∙ ap subnet_of c.network-network.ensures))
     c.strangers-strangers.ensures.all c.strangers-strangers.ensures.there
 
-pub returns-in_ok-hosts-in-Plain-clause-served : goal.returns-in_ok-hosts-in-Plain-clause-served
-returns-in_ok-hosts-in-Plain-clause-served g c =
+pub returns-in_ok-hosts-in-Plain-clause-ends : goal.returns-in_ok-hosts-in-Plain-clause-ends
+returns-in_ok-hosts-in-Plain-clause-ends g c =
     let is : c.args.topology.now.network.carrier ≡ kind.Plain = search rules in
-    serves_as _ _ _ _ _ _ _ c.serve_mixed.result (plain_prints c.args.topology.now c.new-carrier.result c.strangers-strangers.result.now is
+    ends_as _ (plain_among _ c.args.topology.now c.new-carrier.result c.strangers-strangers.result.now is
     (c.new-carrier.ensures ∙ ap opening_boxes (c.in_ok-hosts-in-Plain.ensures.all ∙ ap hosts_of c.network-network.ensures)) c.strangers-strangers.ensures.all)
-    c.serve_mixed.ensures.served
+    _ _ c.serve_mixed.result c.serve_mixed.ensures.ends
 
-pub returns-in_ok-carrier-in-Subnet-clause-served : goal.returns-in_ok-carrier-in-Subnet-clause-served
-returns-in_ok-carrier-in-Subnet-clause-served g c =
+pub returns-in_ok-carrier-in-Subnet-clause-ends : goal.returns-in_ok-carrier-in-Subnet-clause-ends
+returns-in_ok-carrier-in-Subnet-clause-ends g c =
     let is : c.args.topology.now.network.carrier ≡ kind.Subnet = search rules in
-    serves_as _ _ _ _ _ _ _ c.serve_mixed-in-Subnet.result (subnet_prints c.args.topology.now c.in_ok-carrier-in-Subnet.carrier c.strangers-strangers.result.now is
-    (c.in_ok-carrier-in-Subnet.ensures ∙ ap subnet_of c.network-network.ensures) c.strangers-strangers.ensures.all) c.serve_mixed-in-Subnet.ensures.served
+    ends_as _ (subnet_among _ c.args.topology.now c.in_ok-carrier-in-Subnet.carrier c.strangers-strangers.result.now is
+    (c.in_ok-carrier-in-Subnet.ensures ∙ ap subnet_of c.network-network.ensures) c.strangers-strangers.ensures.all)
+    _ _ c.serve_mixed-in-Subnet.result c.serve_mixed-in-Subnet.ensures.ends
