@@ -442,6 +442,23 @@ export function paper({ all, want }) {
 }
 
 /**
+ * On the map of a handout the sites of which the lesson tells have their names.
+ *
+ * @param {Page} page
+ * @param {string} name
+ */
+export async function namedOnPaper({ all, load, want }, name) {
+    await load(name);
+    window.dispatchEvent(new Event("beforeprint"));
+    const shown = all("#handout .network .imp:not(.folded) .title").map((it) => it.textContent);
+    const told = all("#sheet .head:not(.script) b").map((it) => it.textContent);
+    for (const site of told.filter((it) => /^[A-Z][A-Z0-9]+$/.test(it))) {
+        want(shown.includes(site), `on paper ${site} has no name on the map`);
+    }
+    window.dispatchEvent(new Event("afterprint"));
+}
+
+/**
  * What is to come is hidden, and questions are asked in place of the next step.
  *
  * @param {Page} page

@@ -140,6 +140,7 @@ function messageOnEachLink() {
 const GIVEN = /** @type {{[name: string]: () => string}} */ ({
     large: largeNetwork,
     legible: () => "arpanet-of-july-1977",
+    namedOnPaper: () => "arpanet-of-july-1977",
     uncovered: () => PACKETS,
     linked: messageOnEachLink,
 });
@@ -284,6 +285,13 @@ const PLANTED = /** @type {Planted[]} */ ([
         to: "this.named.has(number) ? -16 : 0",
         by: "legible",
         size: [390, 844],
+        words: "has no name on the map",
+    },
+    {
+        what: "sites of the lesson that have no weight on paper",
+        from: "map.name(impsNamed(history.replay.input.events",
+        to: "void (impsNamed(history.replay.input.events",
+        by: "namedOnPaper",
         words: "has no name on the map",
     },
     {
@@ -459,7 +467,7 @@ function opened(page) {
  * @returns {Promise<string[]>}
  */
 async function darkAndPaper(browser) {
-    const { contrast, paper } = trials;
+    const { contrast, namedOnPaper, paper } = trials;
     if (!(await browser.look({ dark: true }))) return [];
     /** @type {string[]} */
     const wrong = [];
@@ -473,6 +481,7 @@ async function darkAndPaper(browser) {
         const found = await trial(browser, [open, name], [paper]);
         wrong.push(...found.map((it) => `${name}: ${it}`));
     }
+    for (const name of MAPS) wrong.push(...(await trial(browser, [namedOnPaper, name])));
     wrong.push(...(await trial(browser, [index, true], [paper], [index, false])));
     await browser.look({});
     return wrong;

@@ -3,6 +3,7 @@
 import { beside, differingParts, partWords, placeBeside, printedBy } from "../compare.js";
 import { History } from "../fold.js";
 import { isReplay, replay } from "../runs.js";
+import { impsNamed } from "../script.js";
 import { Talk } from "../talk.js";
 import { byId, h, say, set } from "./dom.js";
 import { MapView } from "./map.js";
@@ -108,6 +109,7 @@ export class Compare {
             this.was = new History(outcome);
             this.talk = new Talk(outcome);
             this.map = new MapView(svg, this.was.network, null);
+            this.map.name(impsNamed(outcome.input.events.map((it) => it.words)));
         }
         this.redraw();
     }

@@ -52,7 +52,8 @@ export function drawFrame(map, state, element, { line, way, place, frame, count,
         ? [side, 0, -side].flatMap((it) => SHIFTS.map((share) => at(share, it)))
         : [at(0, side)];
     const seen = places.map((it) => map.onScreen(it));
-    const free = firstFree(seen, map.layout.unit * SIGN, map.layout.unit * SIGN, map.names);
+    const sign = map.layout.unit * SIGN;
+    const free = firstFree(seen, sign, sign, [...map.names, ...map.counts]) ?? firstFree(seen, sign, sign, map.names);
     const { x, y } = places[free ? seen.indexOf(free) : 0];
     const angle = (Math.atan2(to.y - from.y, to.x - from.x) * 180) / Math.PI;
     const kind = frame.packet ? frame.packet.kind : frame.routes ? "routes" : "ack";

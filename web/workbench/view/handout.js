@@ -1,6 +1,6 @@
 /** What is printed: the lesson step by step, with its questions and room for their answers. */
 
-import { notesOf } from "../script.js";
+import { impsNamed, notesOf } from "../script.js";
 import { sentenceOf } from "../sentences.js";
 import { shortened, stopWords } from "../sheet.js";
 import { stopsOf } from "../stops.js";
@@ -97,6 +97,7 @@ export function fillHandout(element, history, { title, intro, kind, until }) {
 export function mapAt(history, position, room) {
     const svg = s("svg", { class: "network", role: "img" });
     const map = new MapView(svg, history.network, null, room);
+    map.name(impsNamed(history.replay.input.events.map((it) => it.words)));
     map.draw({ state: history.at(position), talk: new Talk(history.replay).goTo(position), to: 0 });
     return svg;
 }

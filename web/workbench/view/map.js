@@ -61,6 +61,8 @@ export class MapView {
         this.put = "";
         /** @type {import("../labels.js").Rect[]} where the names of a map of dots are, in pixels of the frame */
         this.names = [];
+        /** @type {import("../labels.js").Rect[]} and where its numbers of packets are */
+        this.counts = [];
         /** @type {Map<number, {w: number, h: number}> | undefined} */
         this.tags = undefined;
         this.land = s("path", { class: "land" });
@@ -197,6 +199,9 @@ export class MapView {
         this.network.sites.forEach(({ number }, place) => this.putTag(this.imps.children[place], number, labels[place].at, put[place]));
         const rects = put.flatMap((it, place) => (it ? [around(it, labels[place].width, labels[place].height)] : []));
         this.names = rects;
+        this.counts = labels.filter((_, place) => this.imps.children[place].querySelector(".badge.shown")).map(
+            (it) => around(it.at, 2 * it.radius, 2 * it.radius),
+        );
         this.foldLines([...taken, ...rects, ...labels.map((it) => around(it.at, 2 * it.radius, 2 * it.radius))]);
     }
 
