@@ -12,7 +12,7 @@ from typing import Dict
 from dorydate.explain.page import opened
 from workshop.parts import ROOT
 from workshop.tools import absence
-from workshop.wasm.pack import Refused, bare_style, hash_of, joined, page, read_octets, spell_octets, title_of
+from workshop.wasm.pack import Refused, bare, bare_style, hash_of, joined, page, read_octets, spell_octets, title_of
 
 NODE = shutil.which("node") or shutil.which("nodejs")
 
@@ -95,6 +95,11 @@ class Octets(unittest.TestCase):
 
 
 class Page(unittest.TestCase):
+    def test_a_module_has_no_comments_but_those_after_texts(self) -> None:
+        kept = ['const c = "// d"; // e', "const f = /\\// // g", "const h = `// i`"]
+        text = "\n".join(["const a = 1; // b", "// j", "    k(); // l", *kept, ""])
+        self.assertEqual(bare(text, "m"), "\n".join(["const a = 1;", "k();", *kept, ""]))
+
     def test_a_style_has_no_comments_and_only_the_spaces_that_part_words(self) -> None:
         self.assertEqual(bare_style("/* one\n * two */\na {\n    b: c d; /* e */\n}\n\nf g { h: i; }\n"), "a{b:c d;}f g{h:i;}")
 

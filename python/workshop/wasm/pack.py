@@ -9,7 +9,7 @@ inputs like these, with which the page opens.
 
 Modules are joined to one script, each in a function of its own, so names of two never meet. They may import names, or all names as one
 (`import * as it`), from other files, and export declarations and lists of names; anything else is refused. The policy of the page forbids
-every request, and runs only this style and this script, by their hashes. Documentation, indents and spaces at signs are left out. The
+every request, and runs only this style and this script, by their hashes. Comments, indents and spaces at signs are left out. The
 same files give the same octets.
 """
 
@@ -33,6 +33,7 @@ EXPORT_LIST = re.compile(r"^export\s+\{([^}]*)\};[ ]*$", re.MULTILINE)
 COMMENT = re.compile(r"/\*\*.*?\*/", re.DOTALL)  # where types are
 TEXT_OR_COMMENT = re.compile(r"""("(?:[^"\\\n]|\\.)*"|'(?:[^'\\\n]|\\.)*'|`[^`\n]*`)|/\*\*.*?\*/""", re.DOTALL)
 DOCUMENTATION = re.compile(r"^[ ]*/\*\*(?:[^*]|\*(?!/))*\*/[ ]*\n", re.MULTILINE)
+REMARK = re.compile(r"^([^\"'`/\n]*)// .*$", re.MULTILINE)  # after code in which no text and no regular expression begins
 IMPORTED = re.compile(r'^@import "([^"]*)";$', re.MULTILINE)
 OF_STYLE = re.compile(r"/\*(?:[^*]|\*(?!/))*\*/")
 BLANK = re.compile(r"^\s+", re.MULTILINE)  # indents, and lines with nothing
@@ -76,11 +77,11 @@ def names(text: str) -> list[tuple[str, str]]:
 
 
 def bare(text: str, path: str) -> str:
-    """A module without its comments of documentation and of types, indents and empty lines."""
+    """A module without its comments, indents and empty lines; comments after texts stay."""
     text = TEXT_OR_COMMENT.sub(lambda it: it[1] or "", DOCUMENTATION.sub("", text))
     if any(line.count("`") % 2 or line.endswith("\\") for line in text.splitlines()):
         raise Refused(f"{os.path.relpath(path, ROOT)} has a text over several lines, which isn't packed")
-    return BLANK.sub("", text)
+    return BLANK.sub("", REMARK.sub(lambda it: it[1].rstrip(" "), text))
 
 
 def tight(text: str) -> str:
