@@ -9,8 +9,8 @@ inputs like these, with which the page opens.
 
 Modules are joined to one script, each in a function of its own, so names of two never meet. They may import names, or all names as one
 (`import * as it`), from other files, and export declarations and lists of names; anything else is refused. The policy of the page forbids
-every request, and runs only this style and this script, by their hashes. Comments, indents and spaces at signs are left out. The
-same files give the same octets.
+every request, and runs only this style and this script, by their hashes. Comments, indents and spaces at signs are left
+out. The same files give the same octets.
 """
 
 from __future__ import annotations
@@ -33,7 +33,7 @@ EXPORT_LIST = re.compile(r"^export\s+\{([^}]*)\};[ ]*$", re.MULTILINE)
 COMMENT = re.compile(r"/\*\*.*?\*/", re.DOTALL)  # where types are
 TEXT_OR_COMMENT = re.compile(r"""("(?:[^"\\\n]|\\.)*"|'(?:[^'\\\n]|\\.)*'|`[^`\n]*`)|/\*\*.*?\*/""", re.DOTALL)
 DOCUMENTATION = re.compile(r"^[ ]*/\*\*(?:[^*]|\*(?!/))*\*/[ ]*\n", re.MULTILINE)
-REMARK = re.compile(r"^([^\"'`/\n]*)// .*$", re.MULTILINE)  # after code in which no text and no regular expression begins
+REMARK = re.compile(r"^([^\"'`/\n]*)// .*$", re.MULTILINE)  # after code without a text or a regular expression
 IMPORTED = re.compile(r'^@import "([^"]*)";$', re.MULTILINE)
 OF_STYLE = re.compile(r"/\*(?:[^*]|\*(?!/))*\*/")
 BLANK = re.compile(r"^\s+", re.MULTILINE)  # indents, and lines with nothing
