@@ -27,6 +27,6 @@ test("an event with too few words is refused with its operands", () => {
     for (const [word, { operands }] of Object.entries(EVENTS).filter(([word]) => OF_RAW.includes(word))) {
         const input = readInput([...RAW, word, ""].join("\n"));
         const { text } = faultOf({ input, said: "arpasim: bad script line 1", status: 2 });
-        assert.ok(text.includes([word, ...operands].join(" ")), `${word}: ${text}`);
+        assert(text.includes([word, ...operands].join(" ")), `${word}: ${text}`);
     }
 });
