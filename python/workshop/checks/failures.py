@@ -16,8 +16,8 @@ and writes move 500 octets.
 
 So no refused allocation may end with status 0.
 
-Then it runs the program on an input that never ends, and on one of two million octets, of which it may read 1,048,577; and
-with an output that takes nothing.
+Then it runs the program on an input that never ends, and on one of a million octets more than an input may have, of which
+it may read one more than these; and with an output that takes nothing.
 
 It takes the proved program, or where ./build has not made that the one that was built without proofs. It wants a C compiler for tools/failing.c, which is loaded before the C
 library. Without a compiler it says that nothing was tried, and where the variable CI is set it fails.
