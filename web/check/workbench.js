@@ -507,7 +507,8 @@ async function lessons(browser) {
     let steps = 0;
     for (const [place, name] of names.entries()) {
         if (/a-bad-line|an-unknown-event/.test(name)) continue;
-        wrong.push(...(await trial(browser, [open, name], [trials.stepped, name])));
+        const found = await trial(browser, [open, name], [trials.stepped, name]);
+        wrong.push(...found.map((it) => (it.includes(name) ? it : `${name}: ${it}`)));
         steps += await browser.evaluate('return Number(document.getElementById("slider").max);');
         if (place % 20 === 19) console.log(`${browser.name}: lessons: ${place + 1} of ${names.length}`);
     }
