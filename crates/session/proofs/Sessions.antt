@@ -31,7 +31,7 @@ shorter turns n =
     ap length parts ∙ length-append (script_of (take n turns)) (script_of (drop n turns)) in
     omega (arith, long)
 
--- ---- what is said of scripts, read otherwise: of those that are short enough after so many octets
+-- ---- what is said of scripts, read otherwise: of those that are short enough after `n` octets
 
 pub record Translates (n : ℕ) (r q : Reading) : Type 0 where
   pub prints : (script said : List ℕ) → n + length script ≤ 268435456 → r.Prints script said → q.Prints script said

@@ -1,5 +1,5 @@
 -- One more line is answered.
-use Rattle.std.proofs.Common.{◌≡◌, ◌≢◌, ◌≤◌, ◌⊎◌, ◌==◌, ◌∙◌, ◌+◌, ◌-◌, inl, inr, ℕ, zero, suc, Bool, true, false, not, List, [], ◌∷◌, ◌++◌, drop, filter, length, slice_get, take, Option, Some, refl, ap, ap₂, sym, subst}
+use Rattle.std.proofs.Common.{◌≡◌, ◌≢◌, ◌≤◌, ◌⊎◌, ◌==◌, ◌∙◌, ◌+◌, ◌-◌, inl, inr, ℕ, zero, suc, true, List, [], ◌∷◌, ◌++◌, drop, filter, length, slice_get, take, Option, Some, refl, ap, ap₂, sym, subst}
 use Rattle.std.proofs.KnownBytes.{Appends-nil, Appends-trans, Keeps-refl}
 use Rattle.std.proofs.Math.Seq.{drop-append_seam, take-append_seam}
 use Rattle.std.proofs.lemmas.Grind.{flat_map-append}
@@ -8,6 +8,7 @@ use Rattle.std.proofs.lemmas.List.Elements.{All-append, All-cons, All-head, All-
 use Rattle.std.proofs.lemmas.List.Splits.{slice_split_at, slice_split_none}
 use Rattle.std.specs.Io.KnownBytes.{Appends}
 use Rattle.std.specs.List.{All, flat_map}
+use Rattle.interface.proofs.lemmas.{not_true}
 use Rattle.script.proofs.lemmas.{first_bad}
 use Rattle.script.specs.Input.{ended_line}
 use Rattle.script.specs.Script.{AskForAs, IsFirstBadAs, asks, is_passed_over, lines_of}
@@ -91,10 +92,6 @@ asked_after turns more h =
 
 -- ---- the line that is no event
 
-was_false : (b : Bool) → not b ≡ true → b ≡ false
-was_false true h = cc
-was_false false h = refl
-
 one_asks : (own line : List ℕ) (n : ℕ) → slice_get (own ∷ []) n ≡ Some line → asks line ≡ true → line ≡ own
 one_asks own line zero h a = cc
 one_asks own line (suc n) h a = cc
@@ -116,7 +113,7 @@ module _ {E : Type 0} (spelled : E → List ℕ) (IsMeant : E → Type 0) where
       let same : h.line ≡ own = only h.line (n - 1) (ap (λ ls. slice_get ls (n - 1)) (sym is) ∙ h.reached.there) h.reached.asks in
       let front : take (length turns) (lines_of text) ≡ m.lines = ap₂ (λ (k : ℕ) (ls : List (List ℕ)). take k ls) (sym m.counted) all ∙ take-append_seam m.lines (own ∷ rest) in
       let back : drop (length turns) (lines_of text) ≡ own ∷ rest = ap₂ (λ (k : ℕ) (ls : List (List ℕ)). drop k ls) (sym m.counted) all ∙ drop-append_seam m.lines (own ∷ rest) in
-      first_bad spelled IsMeant text (length turns) own rest events back (was_false (is_passed_over own) (ap asks (sym same) ∙ h.reached.asks))
+      first_bad spelled IsMeant text (length turns) own rest events back (not_true (is_passed_over own) (ap asks (sym same) ∙ h.reached.asks))
       (subst (λ xs. (e : E) → IsMeant e → xs ≢ spelled e) same h.bad)
       (record { spelled = asked.spelled ∙ asked_front m ∙ ap (filter asks) (sym front); meant = asked.meant })
 

@@ -13,7 +13,7 @@ use script::{LineFault, MAX_INPUT};
 use std::alloc::Global;
 
 /// Hears the lines of a script to the end of the input, and answers each before it hears the next: what its event
-/// shows, and an empty line. Octets of the script that were read already are in `ahead`; so many octets of the input
+/// shows, and an empty line. Octets of the script that were read already are in `ahead`; `heard` octets of the input
 /// were heard before.
 ///
 /// Errors: `CannotRead`, `TooLong` and `OutOfMemory` as in [`hear`]; `BadLine` for the first line that is no event;

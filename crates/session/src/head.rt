@@ -11,7 +11,7 @@ use script::MAX_INPUT;
 use script::reading::is_word;
 use std::alloc::Global;
 
-/// Hears the lines of an input up to its marker line `%`, and returns them. What was read behind it is in `ahead` then.
+/// Hears the lines of an input up to its marker line `%`, and returns them. What was read after it is in `ahead` then.
 ///
 /// Errors: `CannotRead`, `TooLong` and `OutOfMemory` as in [`hear`]; `BadTopology` where no marker line with its end
 /// comes.

@@ -13,7 +13,7 @@ all_others (word ∷ words) none = by_case (names_input word) none (all_others w
   by_case true none rest = absurd (cc)
   by_case false none rest = ap (λ l. word ∷ l) (rest none)
 
--- a word at a place, and what is before and behind it
+-- a word at a place, and what is before and after it
 pub parted : {A : Type 0} (words : List A) (i : ℕ) (word : A) → i < length words → word ≡ slice_index_or words i word → words ≡ take i words ++ word ∷ drop (i + 1) words
 parted words i word within is = sym (ap (λ w. take i words ++ w ∷ drop (i + 1) words) is ∙ ap (λ l. take i words ++ l) (sym (drop_more words i word within)) ∙ take-append-drop i words)
 

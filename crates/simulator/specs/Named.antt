@@ -17,7 +17,7 @@ only_name [] = Some (codes "-")
 only_name (name ∷ []) = Some name
 only_name (name ∷ other ∷ more) = None
 
--- the name of the input: `-` is standard input, and any other that of a file. It stands at any place among the words; two are refused
+-- the name of the input: `-` is standard input, and any other that of a file. It may be any of the words; two are refused
 abbrev pub input_of : List (List ℕ) → Option (List ℕ)
 input_of words = only_name (filter names_input words)
 

@@ -81,7 +81,7 @@ pub fn worked_names()
     ensures standard { input_of (codes "--book" ∷ []) ≡ Some (codes "-") }
     ensures hyphen { Names (codes "--trace" ∷ codes "-" ∷ []) (codes "-") (codes "--trace" ∷ []) }
 
-    // a file before the options, between them and behind them
+    // a file before the options, between them and after them
     ensures before { Names (codes "net" ∷ codes "--book" ∷ []) (codes "net") (codes "--book" ∷ []) }
     ensures between { Names (codes "--book" ∷ codes "a-b" ∷ codes "--texts" ∷ []) (codes "a-b") (codes "--book" ∷ codes "--texts" ∷ []) }
     ensures behind { Names (codes "--audit" ∷ codes "x" ∷ []) (codes "x") (codes "--audit" ∷ []) }
