@@ -17,6 +17,13 @@ class Refused(Exception):
         super().__init__(name)
 
 
+class NoRun(Refused):
+    """What no run of the mailboxes has next. No program is asked for it, so the table has no name for it."""
+
+    def __init__(self) -> None:
+        Exception.__init__(self, "no run has that next")
+
+
 class HostName(NamedTuple):
     """A host: its number at its IMP, and that IMP's number."""
 

@@ -8,7 +8,7 @@ from dorydate.model.crossings import Answered as Reply
 from dorydate.model.crossings import Crossing, Passed, Turned
 from dorydate.model.log import ANSWERS
 from dorydate.model.mailboxes import NEEDS, Holds
-from dorydate.model.names import Flow, HostName, Refused, read_host
+from dorydate.model.names import Flow, HostName, NoRun, read_host
 
 
 class Network:
@@ -21,7 +21,7 @@ class Network:
 
     def need(self, holds: bool) -> None:
         if not holds:
-            raise Refused("NoBox")
+            raise NoRun
 
     def cross(self, host: HostName, act: Crosses) -> Crosses:
         """Something crosses at a host, if the boxes allow it; what is taken has the text of its box."""

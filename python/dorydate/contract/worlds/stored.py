@@ -17,7 +17,7 @@ from dorydate.contract.rules import RULES
 from dorydate.contract.state import Broken
 from dorydate.contract.worlds.mailboxes import Network
 from dorydate.contract.worlds.promise import Life, broken
-from dorydate.model.names import HostName, Refused, read_host
+from dorydate.model.names import HostName, NoRun, Refused, read_host
 
 HEADING = "# lacks: ", "# host: ", "# breaks: "
 
@@ -82,7 +82,7 @@ class Run:
         if line.words[0] in CROSSES and line.crosses is not None:
             act = self.net.cross(read_host(host), line.crosses)
             if isinstance(act, Comes) and isinstance(line.crosses, Comes) and act.text != line.crosses.text:
-                raise Refused("OtherText")
+                raise NoRun
             hearing.crosses(len(self.net.log) - 1, act)
         elif line.words[0] in DEEDS:
             hearing.does(len(self.net.log) - 1, line.words)
