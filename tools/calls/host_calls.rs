@@ -3,7 +3,7 @@
 //! A block begins with `hosts` and the hosts, as `HOST/IMP`. Every row has the place of a host in it and a call with its arguments,
 //! as `0 listen 33 8`. Each call of a user is made by its name, and as a request on a second program of that host: where that answers something else,
 //! it is printed too. What comes in is written `accept STAMP message FLOW BITS OCTETS` or
-//! `accept STAMP rfnm FLOW`. Answers are `ok` or `refused FAULT`, each notice, and what `next_out` gives then.
+//! `accept STAMP rfnm FLOW`. `own` gives the host's address, and `spent` whether memory has run out. Other answers are `ok` or `refused FAULT`, each notice, and what `next_out` gives then.
 //! `check hosts` compares all this with an independent model of the rules.
 
 use crate::Layer;
@@ -36,6 +36,11 @@ impl Layer for Hosts {
     fn call(&mut self, alloc: Global, mut words: Words<'_>, answer: &mut String) -> Option<()> {
         let place = words.place()?;
         let Words { rest } = words;
+        match rest {
+            "own" => return write!(answer, "{}", self.programs.get(place)?.own()).ok(),
+            "spent" => return write!(answer, "{}", self.programs.get(place)?.is_spent()).ok(),
+            _ => {}
+        }
         let by_name = answered(alloc, self.programs.get_mut(place)?, Words { rest }, false)?;
         let as_request = answered(alloc, self.asked.get_mut(place)?, Words { rest }, true)?;
         answer.push_str(&by_name).ok()?;

@@ -2,7 +2,7 @@
 //!
 //! A block's first row has the machine: `server LISTEN BASE`, `user PEER LISTEN OWN`, `echo RECEIVE SEND` or `terminal RECEIVE SEND`;
 //! it is answered by the first requests. Every other row is a notice of its host's program, as `opened 7 0/1 16 3 4`, or `refused`, which tells it that a request of
-//! it was refused; and of a terminal `type OCTETS` gives the line of a text. Answers are the requests, then the outcome or the lines that have ended, or `nothing`. `check services` compares all this with an independent model of the rules.
+//! it was refused; and of a terminal `type OCTETS` gives the line of a text. `spent` says whether memory has run out. Answers are the requests, then the outcome or the lines that have ended, or `nothing`. `check services` compares all this with an independent model of the rules.
 
 use crate::Layer;
 use crate::words::{Words, spell_bits, spell_octets};
@@ -23,9 +23,25 @@ pub enum Machine {
     None,
 }
 
+impl Machine {
+    /// Whether memory has run out in it.
+    fn is_spent(&self) -> bool {
+        match self {
+            Machine::Server(server) => server.is_spent(),
+            Machine::User(user) => user.is_spent(),
+            Machine::Echo(service) => service.is_spent(),
+            Machine::Terminal(terminal) => terminal.is_spent(),
+            Machine::None => false,
+        }
+    }
+}
+
 impl Layer for Machine {
     fn call(&mut self, alloc: Global, words: Words<'_>, answer: &mut String) -> Option<()> {
         let Words { rest } = words;
+        if rest == "spent" {
+            return write!(answer, "{}", self.is_spent()).ok();
+        }
         match (self, rest.split_once(' ')) {
             (Machine::Terminal(terminal), Some(("type", octets))) => return typed(alloc, terminal, Words { rest: octets }, answer),
             (machine, _) => tell(alloc, machine, words, answer)?,

@@ -7,7 +7,7 @@ from typing import Any, cast
 from dorydate.model.bits import read_bits
 from dorydate.model.crossings import Answer, Message, Reply
 from dorydate.model.host import Host
-from dorydate.model.names import Flow, read_host
+from dorydate.model.names import Flow, read_host, spell_host
 from workshop.checks.host_calls import answered
 from workshop.checks.imp_rows import read_flow
 from workshop.checks.readings import Reading
@@ -43,7 +43,13 @@ class HostRows:
 
     def answers(self, call: str, wanted: list[str]) -> list[str]:
         place, name, *words = call.split(" ")
-        return answered(self.hosts[int(place)], name, *parts_of(name, words))
+        host = self.hosts[int(place)]
+        match name:
+            case "own":
+                return [spell_host(host.own)]
+            case "spent":
+                return ["false"]  # memory runs out in no model
+        return answered(host, name, *parts_of(name, words))
 
 
 def open_hosts(call: str) -> tuple[Reading, list[str]]:

@@ -50,6 +50,8 @@ class ServiceRows:
     def answers(self, call: str, wanted: list[str]) -> list[str]:
         if call.startswith("type "):
             raise Unread("type")
+        if call == "spent":
+            return ["false"]  # memory runs out in no model
         if call == "refused":
             self.machine.refused("InUse")
             return answers_of(self.machine, [])
