@@ -6,7 +6,7 @@
  */
 export const TABLE = {
 "events": {
-"out": ["S D N BITS OCTETS", "every", "H"],
+"out": ["S D N BITS OCTETS", "raw", "S"],
 "take": ["H", "every", "H"],
 "giveup": ["S D N", "carrier", "S"],
 "hostdown": ["H", "carrier", "H"],

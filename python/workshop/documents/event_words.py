@@ -24,10 +24,12 @@ from workshop.parts import ROOT, text_of
 
 TABLE = f"{ROOT}/python/dorydate/sentences/events.mjs"
 PAGE = f"{ROOT}/docs/program.md"
-SPELLINGS = ("script/specs/Spelling", "world_script/specs/WorldSpelling")
+WORLDS = "world_script/specs/WorldSpelling"
+SPELLINGS = ("script/specs/Spelling", WORLDS)
 MAILBOXES, SCOPES = "leader1822/specs/Boxes", "subnet_trace/specs/*"
 SPELLED = re.compile(r'^(\w*spelling) .*?\((?:\w+\.)(\w+)[^=]* = codes "(\w+) " \+\+ (.*)$', re.MULTILINE)
 REFUSED = re.compile(r"^step_refusal b \(event\.(\w+)[^)]*\) = ", re.MULTILINE)
+BARRED = re.compile(r"^IsWorldEvent \(world\.Happen \(event\.(\w+)[^=]*= ⊥$", re.MULTILINE)
 SCOPE = re.compile(r"^scope_of n \(event\.(?:Net \(net\.)?(\w+)[^=]*\) = (.*)$", re.MULTILINE)
 ROW = re.compile(r"^\| ((?:`[a-z]+ [A-Z][^`]*`(?:, )?)+) \| .* \|$", re.MULTILINE)
 NAMES = ("replay/specs/Output", "world_replay/specs/Printed")
@@ -119,11 +121,22 @@ def of_what(spelling: str, name: str, both: bool) -> str:
     return "every" if both else "raw" if spelling == "spelling" else "programs"
 
 
+def barred_words() -> set[str]:
+    """The words of what only strangers do, which no script has where all hosts run the program."""
+    text = definition(WORLDS)
+    names = BARRED.findall(text)
+    spelled = re.findall(r'^world_spelling \(world\.Happen \(event\.(\w+)[^=]* = codes "(\w+) ', text, re.MULTILINE)
+    return {word for name, word in spelled if name in names}
+
+
 def spelled_rows() -> Mapping[str, Row]:
     """The events of the definitions, by their words."""
     found: dict[str, Row] = {}
     at = places()
+    barred = barred_words()
     for spelling, name, word, rest in (it for path in SPELLINGS for it in SPELLED.findall(definition(path))):
+        if word in found and word in barred:
+            continue
         of = of_what(spelling, name, word in found)
         row = Row(word, operands_of(word, rest), of, at.get(name, "H") if of != "programs" else "H")
         if word in found and found[word].operands != row.operands:
