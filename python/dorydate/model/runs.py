@@ -89,10 +89,13 @@ def asked(words: Sequence[str]) -> tuple[str, list[str]] | None:
 
 
 def expected(options: Sequence[str], network: Topology, lines: Iterable[str], runs: Collection[str] = EVERYTHING) -> End:
-    """How the program ends on a network and the lines of a script."""
-    if [*options] == ["--live"]:
+    """How the program ends on a network and the lines of a script, whichever input the options name."""
+    if (named := asked(options)) is None:
+        return BAD_ARGUMENTS
+    words = named[1]
+    if words == ["--live"]:
         return session(network, [*lines], runs)
-    if any(word not in ("--book", "--check", "--texts") or options.count(word) > 1 for word in options):
+    if any(word not in ("--book", "--check", "--texts") or words.count(word) > 1 for word in words):
         return BAD_ARGUMENTS
     if not network_is_good(network, runs):
         return 1, "", "arpasim: bad topology\n"
@@ -102,13 +105,13 @@ def expected(options: Sequence[str], network: Topology, lines: Iterable[str], ru
             events.append(read_line(line, network.raw, runs, strangers=bool(network.foreign)))
         except BadLine:
             return 2, "", f"arpasim: bad script line {number}\n"
-    if "--check" in options:
+    if "--check" in words:
         return 0, "ok\n", ""
     place = opened(network)
     for event in filter(None, events):
         place.happen(*event)
-    printed = with_texts(place.printed, log_of(place)) if "--texts" in options else place.printed
-    lives = place.end_of_book() if "--book" in options and isinstance(place, World) else []
+    printed = with_texts(place.printed, log_of(place)) if "--texts" in words else place.printed
+    lives = place.end_of_book() if "--book" in words and isinstance(place, World) else []
     return 0, "\n".join([*printed, *lives, "end\n"]), ""
 
 
