@@ -14,7 +14,7 @@ use Rattle.flow_law.proofs.Asking.{asks, reply}
 
 -- a move that makes no packet
 none_made : {Piece : List Bool → Packet → Type 0} (v : View) (t made : Packet → Type 0) → ((x : Packet) → made x → ⊥) → Invariant Piece v t → Invariant Piece v (Either t made)
-none_made v t made none h = invariant_less v t (Either t made) (λ x there. elim there [
+none_made v t made none h = invariant_less v t _ (λ x there. elim there [
   | inl tx ↦ tx
   | inr m ↦ absurd (none x m)
 ]) h
@@ -78,20 +78,20 @@ shows_run : {Piece : List Bool → Packet → Type 0} (m : Move) (v : View) (t :
     → mail_of start seen ≡ mail_now v → IsFlowRun start seen → IsFlowRun start (shows m v ++ seen)
 shows_run Move.Quiet v t needs h start seen at run = run
 shows_run (Move.DeadNow place text) v t needs h start seen at run = one_seen (Passing.Put place text) start (mail_now v) seen at (needs.source, offered_empty v t needs h) run
-shows_run (Move.Begin place text) v t needs h start seen at run = one_seen (Passing.Put place text) start (mail_now v) seen at (needs.offer.source, offered_empty v t needs.offer h) run
-shows_run (Move.BeginLocal place text) v t needs h start seen at run = one_seen (Passing.Put place text) start (mail_now v) seen at (needs.offer.source, offered_empty v t needs.offer h) run
+shows_run (Move.Begin place text) v t needs h start seen at run = one_seen (Passing.Put place text) start _ seen at (needs.offer.source, offered_empty v t needs.offer h) run
+shows_run (Move.BeginLocal place text) v t needs h start seen at run = one_seen (Passing.Put place text) start _ seen at (needs.offer.source, offered_empty v t needs.offer h) run
 shows_run (Move.NoteGone x new) v t needs h start seen at run = run
 shows_run (Move.Whole x text) v t needs h start seen at run = run
 shows_run (Move.Freed x kind) v t needs h start seen at run = run
-shows_run (Move.TakeMessage oldest others) v t needs h start seen at run = one_seen (Passing.Fetched oldest.text) start (mail_now v) seen at (needs.destination, taken_holds v t oldest others needs h) run
-shows_run (Move.TakeAnswer oldest others) v t needs h start seen at run = one_seen (Passing.Told oldest) start (mail_now v) seen at ((told v t oldest others needs h).source, (told v t oldest others needs h).fits) run
-shows_run Move.StopSource v t needs h start seen at run = one_seen Passing.SourceDown start (mail_now v) seen at needs run
-shows_run Move.StartSource v t needs h start seen at run = one_seen Passing.SourceUp start (mail_now v) seen at needs.down run
-shows_run Move.StopDestination v t needs h start seen at run = one_seen Passing.DestinationDown start (mail_now v) seen at needs run
-shows_run Move.StartDestination v t needs h start seen at run = one_seen Passing.DestinationUp start (mail_now v) seen at needs run
-shows_run Move.StopFrom v t needs h start seen at run = stopped Passing.SourceDown v.source start (mail_now v) seen at (λ up. up) run
+shows_run (Move.TakeMessage oldest others) v t needs h start seen at run = one_seen (Passing.Fetched oldest.text) start _ seen at (needs.destination, taken_holds v t oldest others needs h) run
+shows_run (Move.TakeAnswer oldest others) v t needs h start seen at run = one_seen (Passing.Told oldest) start _ seen at ((told v t oldest others needs h).source, (told v t oldest others needs h).fits) run
+shows_run Move.StopSource v t needs h start seen at run = one_seen Passing.SourceDown start _ seen at needs run
+shows_run Move.StartSource v t needs h start seen at run = one_seen Passing.SourceUp start _ seen at needs.down run
+shows_run Move.StopDestination v t needs h start seen at run = one_seen Passing.DestinationDown start _ seen at needs run
+shows_run Move.StartDestination v t needs h start seen at run = one_seen Passing.DestinationUp start _ seen at needs run
+shows_run Move.StopFrom v t needs h start seen at run = stopped Passing.SourceDown v.source start _ seen at (λ up. up) run
 shows_run Move.StartFrom v t needs h start seen at run = run
-shows_run Move.StopTo v t needs h start seen at run = stopped Passing.DestinationDown v.destination start (mail_now v) seen at (λ up. up) run
+shows_run Move.StopTo v t needs h start seen at run = stopped Passing.DestinationDown v.destination start _ seen at (λ up. up) run
 shows_run Move.StartTo v t needs h start seen at run = run
 shows_run (Move.GiveUp number) v t needs h start seen at run = run
 shows_run Move.Forget v t needs h start seen at run = run
@@ -118,10 +118,10 @@ shows_mail Move.StopSource v start seen at = ap (mail_after Passing.SourceDown) 
 shows_mail Move.StartSource v start seen at = ap (mail_after Passing.SourceUp) at
 shows_mail Move.StopDestination v start seen at = ap (mail_after Passing.DestinationDown) at
 shows_mail Move.StartDestination v start seen at = ap (mail_after Passing.DestinationUp) at
-shows_mail Move.StopFrom v start seen at = stop_mail Passing.SourceDown v.source start (mail_now v) (mail_now (view_moved Move.StopFrom v)) seen at (λ up. refl)
+shows_mail Move.StopFrom v start seen at = stop_mail Passing.SourceDown v.source start _ _ seen at (λ up. refl)
     (λ down. ap (λ (s : Bool). let m : Mail = record { source = s; destination = v.destination; box = v.box } in m) down)
 shows_mail Move.StartFrom v start seen at = at
-shows_mail Move.StopTo v start seen at = stop_mail Passing.DestinationDown v.destination start (mail_now v) (mail_now (view_moved Move.StopTo v)) seen at (λ up. refl)
+shows_mail Move.StopTo v start seen at = stop_mail Passing.DestinationDown v.destination start _ _ seen at (λ up. refl)
     (λ down. ap (λ (d : Bool). let m : Mail = record { source = v.source; destination = d; box = v.box } in m) down)
 shows_mail Move.StartTo v start seen at = at
 shows_mail (Move.GiveUp number) v start seen at = at
@@ -148,5 +148,5 @@ pub sound_after_all : {Piece : List Bool → Packet → Type 0} (ms : List Move)
 sound_after_all [] start seen v t needs h = h
 sound_after_all {Piece} (m ∷ ms) start seen v t needs h =
     let S : List Passing → Type 0 = λ ps. Sound Piece start ps (after_all (m ∷ ms) v) (Grown Piece (m ∷ ms) v t) in
-    subst S (sym (append_assoc (shows m (after_all ms v)) (shown_by ms v) seen))
-    (sound_after m start (shown_by ms v ++ seen) (after_all ms v) (Grown Piece ms v t) needs.0 (sound_after_all ms start seen v t needs.1 h))
+    subst S (sym (append_assoc (shows m _) (shown_by ms v) seen))
+    (sound_after m start _ _ _ needs.0 (sound_after_all ms start seen v t needs.1 h))

@@ -199,7 +199,7 @@ given_up v t number can h =
         | inl unread ↦ unread
         | inr held ↦ (let same : v.outstanding ≡ Some held.number = held.awaited up in
             let number : held.number ≡ number = cc in
-            absurd (can.unread (queued_text held.number held.text) (one_there v.queue (queued_text held.number held.text) held.one) number))
+            absurd (can.unread (queued_text held.number held.text) (one_there v.queue _ held.one) number))
       ];
       none = λ x tx new. (let same : v.outstanding ≡ Some x.number = h.expected up x tx new in can.no_request x tx new.request (cc));
     }) h

@@ -85,8 +85,8 @@ shut_queue v t h fits = elim h.waiting [
 -- nothing is new against a number that it is near to
 pub near_not_new : (up : Bool) (kept number : ℕ) (y : Packet) → kept ≡ number → Near number y.number → New up (Some kept) y → ⊥
 near_not_new up kept number y same near new =
-    let old : is_new (Some number) y.number ≡ false = near_old number y.number near in
-    let fresh : is_new (Some kept) y.number ≡ true = new.new in
+    let old : is_new _ y.number ≡ false = near_old number y.number near in
+    let fresh : is_new _ y.number ≡ true = new.new in
     absurd (cc)
 
 -- where new data was noted, nothing is new any more
@@ -159,4 +159,4 @@ none_in {X} xs x none there =
 pub number_of : (queue : List Queued) (number : ℕ) (text : List Bool) (q : Queued) → queue ≡ queued_text number text ∷ [] → Contains queue q → q.number ≡ number
 number_of queue number text q one there =
     let C : List Queued → Type 0 = λ l. Contains l q in
-    ap (λ (m : Queued). m.number) (sym (only_one (queued_text number text) q (subst C one there)))
+    ap (λ (m : Queued). m.number) (sym (only_one _ q (subst C one there)))

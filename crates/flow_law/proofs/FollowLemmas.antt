@@ -18,7 +18,7 @@ follow_sound : {Piece : List Bool → Packet → Type 0} (ms : List Move) (start
 follow_sound {Piece} ms start seen old new before later f h =
     let V : View → Type 0 = λ v. Sound Piece start (shown_by ms old ++ seen) v later in
     subst V (sym f.view)
-    (sound_less start (shown_by ms old ++ seen) (after_all ms old) (Grown Piece ms old before) later f.packets (sound_after_all ms start seen old before f.needs h))
+    (sound_less start _ _ _ later f.packets (sound_after_all ms start seen old before f.needs h))
 
 -- a flow that nothing happens to, packets aside
 pub stays : {Piece : List Bool → Packet → Type 0} (old new : View) (before later : Packet → Type 0) → new ≡ old → ((x : Packet) → later x → before x) → Follows Piece [] old new before later
@@ -57,9 +57,9 @@ pub all_follow : {Piece : List Bool → Packet → Type 0} (hosts : List Host) (
 all_follow {Piece} hosts entries log moves old new before later a h = record {
   flows = λ f.
       (let S : List Passing → Type 0 = λ ps. Sound Piece (opening_mail hosts f) ps (new f) (later f) in
-      let same : shown_by (moves f) (old f) ++ passed f log ≡ passed f (entries ++ log) =
+      let same : shown_by (moves f) (old f) ++ passed f log ≡ passed f _ =
       ap (λ (ps : List Passing). ps ++ passed f log) (sym (a.shown f)) ∙ sym (passed-append f entries log) in
-      subst S same (follow_sound (moves f) (opening_mail hosts f) (passed f log) (old f) (new f) (before f) (later f) (a.follows f) (h.flows f)));
+      subst S same (follow_sound _ _ _ (old f) (new f) _ _ (a.follows f) (h.flows f)));
   ups = ups-append hosts entries log a.ups h.ups;
 }
 
@@ -67,7 +67,7 @@ all_follow {Piece} hosts entries log moves old new before later a h = record {
 pub all_open : {Piece : List Bool → Packet → Type 0} (hosts : List Host) (view : Flow → View) (alive : Flow → Packet → Type 0) → AllOpen hosts view
     → ((f : Flow) (x : Packet) → alive f x → ⊥) → AllSound Piece hosts [] view alive
 all_open {Piece} hosts view alive o nothing = record {
-  flows = λ f. (let S : Mail → Type 0 = λ m. Sound Piece m [] (view f) (alive f) in subst S (o.mail f) (opening_sound (view f) (alive f) (o.opening f) (nothing f)));
+  flows = λ f. (let S : Mail → Type 0 = λ m. Sound Piece m [] (view f) (alive f) in subst S (o.mail f) (opening_sound _ _ (o.opening f) (nothing f)));
   ups = tt;
 }
 

@@ -13,11 +13,11 @@ returns_awaited_breaks = record {
   history = (
     record { needs = refl; left = left_none _ _ },
     (
-      record { needs = record { there = contains_head (never_of 0) []; brings = tt; awaited = refl }; left = left_none _ _ },
+      record { needs = record { there = contains_head _ []; brings = tt; awaited = refl }; left = left_none _ _ },
       (
-        record { needs = (record { there = contains_head (ask_of 0) []; new = new_at_first (ask_of 0) refl }, tt); left = left_made _ _ (never_of 0) (record { refusal = refl; number = refl }) },
+        record { needs = (record { there = contains_head _ []; new = new_at_first _ refl }, tt); left = left_made _ _ _ (record { refusal = refl; number = refl }) },
         (
-          record { needs = refl; left = left_made _ _ (ask_of 0) (record { kind = refl; number = refl }) },
+          record { needs = refl; left = left_made _ _ _ (record { kind = refl; number = refl }) },
           (
             record { needs = λ x there request. contains_none x there; left = λ x there. inl there },
             (
@@ -43,11 +43,11 @@ forgets_awaited_breaks = record {
   history = (
     record { needs = refl; left = left_none _ _ },
     (
-      record { needs = record { there = contains_head (never_of 0) []; brings = tt; awaited = refl }; left = left_none _ _ },
+      record { needs = record { there = contains_head _ []; brings = tt; awaited = refl }; left = left_none _ _ },
       (
-        record { needs = (record { there = contains_head (ask_of 0) []; new = new_at_first (ask_of 0) refl }, tt); left = left_made _ _ (never_of 0) (record { refusal = refl; number = refl }) },
+        record { needs = (record { there = contains_head _ []; new = new_at_first _ refl }, tt); left = left_made _ _ _ (record { refusal = refl; number = refl }) },
         (
-          record { needs = refl; left = left_made _ _ (ask_of 0) (record { kind = refl; number = refl }) },
+          record { needs = refl; left = left_made _ _ _ (record { kind = refl; number = refl }) },
           (
             record { needs = λ x there request. contains_none x there; left = λ x there. inl there },
             (
@@ -72,15 +72,15 @@ asks_anything_breaks = record {
     (
       record { needs = record { destination = refl; waits = refl }; left = left_none _ _ },
       (
-        record { needs = record { there = contains_head (never_of 0) []; brings = tt; awaited = refl }; left = left_none _ _ },
+        record { needs = record { there = contains_head _ []; brings = tt; awaited = refl }; left = left_none _ _ },
         (
           record { needs = record { offer = record { source = refl; idle = refl; answered = refl }; free = λ last is. absurd (cc); unkept = λ is. absurd (cc) }; left = λ x there. inl there },
           (
             record { needs = record { no_request = answer_only Kind.Never refl; idle = refl }; left = λ x there. inl there },
             (
-              record { needs = (record { there = contains_head (ask_of 0) []; new = new_at_first (ask_of 0) refl }, tt); left = left_made _ _ (never_of 0) (record { refusal = refl; number = refl }) },
+              record { needs = (record { there = contains_head _ []; new = new_at_first _ refl }, tt); left = left_made _ _ _ (record { refusal = refl; number = refl }) },
               (
-                record { needs = tt; left = left_made _ _ (ask_of 0) (record { kind = refl; number = refl }) },
+                record { needs = tt; left = left_made _ _ _ (record { kind = refl; number = refl }) },
                 tt,
               ),
             ),
@@ -97,13 +97,13 @@ replies_to_nothing_breaks = record {
   history = (
     record { needs = refl; left = left_none _ _ },
     (
-      record { needs = record { there = contains_head (rfnm_of 0) []; brings = tt; awaited = refl }; left = left_none _ _ },
+      record { needs = record { there = contains_head _ []; brings = tt; awaited = refl }; left = left_none _ _ },
       (
-        record { needs = record { offer = record { source = refl; idle = refl; answered = refl }; free = λ last is. absurd (cc); unkept = λ is. absurd (cc) }; left = left_old _ _ (rfnm_of 0) (contains_head (rfnm_of 0) []) },
+        record { needs = record { offer = record { source = refl; idle = refl; answered = refl }; free = λ last is. absurd (cc); unkept = λ is. absurd (cc) }; left = left_old _ _ _ (contains_head _ []) },
         (
           record { needs = record { no_request = answer_only Kind.Rfnm refl; idle = refl }; left = λ x there. inl there },
           (
-            record { needs = (refl, refl); left = left_made _ _ (rfnm_of 0) (record { kind = refl; number = refl }) },
+            record { needs = (refl, refl); left = left_made _ _ _ (record { kind = refl; number = refl }) },
             (
               record { needs = record { from_up = refl; down = refl; idle = refl }; left = λ x there. inl there },
               (
@@ -133,19 +133,19 @@ replies_to_any_breaks = record {
   history = (
     record { needs = refl; left = left_none _ _ },
     (
-      record { needs = record { there = contains_head (rfnm_of second) []; brings = tt; awaited = refl }; left = left_none _ _ },
+      record { needs = record { there = contains_head _ []; brings = tt; awaited = refl }; left = left_none _ _ },
       (
-        record { needs = (contains_head (ask_of second) [], refl); left = left_made _ _ (rfnm_of second) (record { kind = refl; number = refl }) },
+        record { needs = (contains_head _ [], refl); left = left_made _ _ _ (record { kind = refl; number = refl }) },
         (
-          record { needs = refl; left = left_made _ _ (ask_of second) (record { kind = refl; number = refl }) },
+          record { needs = refl; left = left_made _ _ _ (record { kind = refl; number = refl }) },
           (
             record { needs = record { offer = record { source = refl; idle = refl; answered = refl }; free = λ last is x there. absurd (contains_none x there); unkept = second_is_other }; left = left_none _ _ },
             (
               record { needs = refl; left = left_none _ _ },
               (
-                record { needs = record { there = contains_head (rfnm_of 0) []; brings = tt; awaited = refl }; left = left_none _ _ },
+                record { needs = record { there = contains_head _ []; brings = tt; awaited = refl }; left = left_none _ _ },
                 (
-                  record { needs = record { destination = refl; waits = refl }; left = left_made _ _ (rfnm_of 0) (record { kind = refl; number = refl }) },
+                  record { needs = record { destination = refl; waits = refl }; left = left_made _ _ _ (record { kind = refl; number = refl }) },
                   (
                     record { needs = record { offer = record { source = refl; idle = refl; answered = refl }; free = λ last is. absurd (cc); unkept = λ is. absurd (cc) }; left = λ x there. inl there },
                     tt,
@@ -166,13 +166,13 @@ replies_falsely_breaks = record {
   history = (
     record { needs = refl; left = left_none _ _ },
     (
-      record { needs = record { there = contains_head (dead_of 0) []; brings = tt; awaited = refl }; left = left_none _ _ },
+      record { needs = record { there = contains_head _ []; brings = tt; awaited = refl }; left = left_none _ _ },
       (
         record { needs = record { destination = refl; waits = refl }; left = λ x there. inl there },
         (
-          record { needs = (contains_head (ask_of 0) [], refl); left = left_made _ _ (dead_of 0) (record { kind = refl; number = refl }) },
+          record { needs = (contains_head _ [], refl); left = left_made _ _ _ (record { kind = refl; number = refl }) },
           (
-            record { needs = refl; left = left_made _ _ (ask_of 0) (record { kind = refl; number = refl }) },
+            record { needs = refl; left = left_made _ _ _ (record { kind = refl; number = refl }) },
             (
               record { needs = record { offer = record { source = refl; idle = refl; answered = refl }; free = λ last is. absurd (cc); unkept = λ is. absurd (cc) }; left = λ x there. inl there },
               tt,
@@ -190,13 +190,13 @@ never_of_waiting_breaks = record {
   history = (
     record { needs = refl; left = left_none _ _ },
     (
-      record { needs = record { there = contains_head (never_of 0) []; brings = tt; awaited = refl }; left = left_none _ _ },
+      record { needs = record { there = contains_head _ []; brings = tt; awaited = refl }; left = left_none _ _ },
       (
         record { needs = record { destination = refl; waits = refl }; left = λ x there. inl there },
         (
-          record { needs = (contains_head (ask_of 0) [], refl, refl, refl); left = left_made _ _ (never_of 0) (record { kind = refl; number = refl }) },
+          record { needs = (contains_head _ [], refl, refl, refl); left = left_made _ _ _ (record { kind = refl; number = refl }) },
           (
-            record { needs = refl; left = left_made _ _ (ask_of 0) (record { kind = refl; number = refl }) },
+            record { needs = refl; left = left_made _ _ _ (record { kind = refl; number = refl }) },
             (
               record { needs = record { offer = record { source = refl; idle = refl; answered = refl }; free = λ last is. absurd (cc); unkept = λ is. absurd (cc) }; left = λ x there. inl there },
               tt,
@@ -214,11 +214,11 @@ never_of_taken_breaks = record {
   history = (
     record { needs = refl; left = left_none _ _ },
     (
-      record { needs = record { there = contains_head (never_of 0) []; brings = tt; awaited = refl }; left = left_none _ _ },
+      record { needs = record { there = contains_head _ []; brings = tt; awaited = refl }; left = left_none _ _ },
       (
-        record { needs = (contains_head (ask_of 0) [], refl, refl, refl); left = left_made _ _ (never_of 0) (record { kind = refl; number = refl }) },
+        record { needs = (contains_head _ [], refl, refl, refl); left = left_made _ _ _ (record { kind = refl; number = refl }) },
         (
-          record { needs = refl; left = left_made _ _ (ask_of 0) (record { kind = refl; number = refl }) },
+          record { needs = refl; left = left_made _ _ _ (record { kind = refl; number = refl }) },
           (
             record { needs = record { destination = refl; waits = refl }; left = left_none _ _ },
             (
@@ -238,28 +238,28 @@ never_unnoted_breaks = record {
   history = (
     record { needs = refl; left = left_none _ _ },
     (
-      record { needs = record { there = contains_head (never_of 0) []; brings = tt; awaited = refl }; left = left_none _ _ },
+      record { needs = record { there = contains_head _ []; brings = tt; awaited = refl }; left = left_none _ _ },
       (
         record { needs = record { destination = refl; waits = refl }; left = λ x there. inl there },
         (
           record {
             needs = record {
-              note = record { there = second_there (never_of 0) (data_of 0 first_text) []; new = new_at_first (data_of 0 first_text) refl };
-              joined = λ whole all. all (data_of 0 first_text) (second_there (never_of 0) (data_of 0 first_text) []) refl refl;
+              note = record { there = second_there _ _ []; new = new_at_first _ refl };
+              joined = λ whole all. all _ (second_there _ _ []) refl refl;
             };
-            left = left_old _ _ (never_of 0) (contains_head (never_of 0) (data_of 0 first_text ∷ []));
+            left = left_old _ _ _ (contains_head _ (data_of 0 first_text ∷ []));
           },
           (
             record {
-              needs = (record { there = contains_head (ask_of 0) (data_of 0 first_text ∷ []); new = new_at_first (ask_of 0) refl }, refl);
-              left = left_both _ _ (never_of 0) (data_of 0 first_text) (record { kind = refl; number = refl }) (second_there (ask_of 0) (data_of 0 first_text) []);
+              needs = (record { there = contains_head _ (data_of 0 first_text ∷ []); new = new_at_first _ refl }, refl);
+              left = left_both _ _ _ _ (record { kind = refl; number = refl }) (second_there _ _ []);
             },
             (
-              record { needs = refl; left = left_both _ _ (ask_of 0) (data_of 0 first_text) (record { kind = refl; number = refl }) (contains_head (data_of 0 first_text) []) },
+              record { needs = refl; left = left_both _ _ _ _ (record { kind = refl; number = refl }) (contains_head _ []) },
               (
                 record {
                   needs = record { offer = record { source = refl; idle = refl; answered = refl }; free = λ last is. absurd (cc); unkept = λ is. absurd (cc) };
-                  left = left_made _ _ (data_of 0 first_text) (record { data_packet = refl; number = refl; piece = refl });
+                  left = left_made _ _ _ (record { data_packet = refl; number = refl; piece = refl });
                 },
                 tt,
               ),

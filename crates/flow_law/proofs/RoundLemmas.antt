@@ -56,7 +56,7 @@ begins n small v alive at left =
     let L : List Packet → Type 0 = λ l. IsTurn AnyNumber InOnePacket (settled_at n) l (turn begin_next (data_of (suc n) second_text ∷ copy ∷ [])) in
     subst V (sym at) (subst L (sym left) (record {
       needs = (record { source = refl; idle = refl; answered = refl }, λ same. (let at : n ≡ next n = cc in absurd (omega (arith, at, next_is n small))));
-      left = left_both _ _ (data_of (suc n) second_text) copy (record { data_packet = refl; number = sym (next_is n small); piece = refl }) (contains_head copy []);
+      left = left_both _ _ _ copy (record { data_packet = refl; number = sym (next_is n small); piece = refl }) (contains_head copy []);
     }))
 
 notes : (n : ℕ) → suc n < modulus → (v : View) → v ≡ settled_at n → (left : List Packet)
@@ -81,7 +81,7 @@ frees n small v at =
     let V : View → Type 0 = λ w. IsTurn AnyNumber InOnePacket (view_moved (note_next n) (view_moved begin_next w)) (dead_of (suc n) ∷ copy ∷ []) (turn (Move.Freed (dead_of (suc n)) answer.Dead) (copy ∷ [])) in
     subst V (sym at) (record {
       needs = record { there = contains_head (dead_of (suc n)) (copy ∷ []); brings = tt; awaited = ap (λ (k : ℕ). Some k) (next_is n small) };
-      left = left_old _ _ copy (second_there (dead_of (suc n)) copy []);
+      left = left_old _ _ copy (second_there _ copy []);
     })
 
 answers : (n : ℕ) → (v : View) → v ≡ settled_at n
@@ -96,13 +96,13 @@ history_rounds zero small = (
   record { needs = refl; left = λ x there. inl there },
   (
     record {
-      needs = record { there = contains_head (dead_of 0) (copy ∷ []); brings = tt; awaited = refl };
-      left = left_old _ _ copy (second_there (dead_of 0) copy []);
+      needs = record { there = contains_head _ (copy ∷ []); brings = tt; awaited = refl };
+      left = left_old _ _ copy (second_there _ copy []);
     },
     (
       record {
         needs = (record { there = contains_head copy []; new = new_at_first copy refl }, tt);
-        left = left_both _ _ (dead_of 0) copy (record { refusal = refl; number = refl }) (contains_head copy []);
+        left = left_both _ _ _ copy (record { refusal = refl; number = refl }) (contains_head copy []);
       },
       (
         record {
@@ -122,9 +122,9 @@ history_rounds (suc n) small =
       (
         frees n below v at,
         (
-          notes n below v at (dead_of (suc n) ∷ copy ∷ []) (left_both _ _ (dead_of (suc n)) copy (record { refusal = refl; number = refl }) (second_there (data_of (suc n) second_text) copy [])),
+          notes n below v at _ (left_both _ _ _ copy (record { refusal = refl; number = refl }) (second_there _ copy [])),
           (
-            begins n below v (left_by (rounds n)) at (left_rounds n),
+            begins n below v _ at (left_rounds n),
             history_rounds n below,
           ),
         ),
@@ -161,9 +161,9 @@ outlived_breaks n small again =
         (
           queues n again v at,
           (
-            notes n small v at (copy ∷ []) (left_old _ _ copy (second_there (data_of (suc n) second_text) copy [])),
+            notes n small v at _ (left_old _ _ copy (second_there _ copy [])),
             (
-              begins n small v (left_by (rounds n)) at (left_rounds n),
+              begins n small v _ at (left_rounds n),
               history_rounds n small,
             ),
           ),
@@ -175,7 +175,7 @@ outlived_breaks n small again =
 pub any_number_breaks : Breaks AnyNumber any_number
 any_number_breaks =
     let at : suc (modulus - window - 1) ≡ modulus - window = omega (arith, wide) in
-    outlived_breaks (modulus - window - 1) (omega (arith, wide, some_ahead)) (ap (λ (k : ℕ). is_new (Some k) 0) at ∙ new_again)
+    outlived_breaks _ (omega (arith, wide, some_ahead)) (ap (λ (k : ℕ). is_new (Some k) 0) at ∙ new_again)
 
 -- ---- a number is begun that is kept
 
@@ -225,9 +225,9 @@ unfolding given_up_to
 history_given_up zero small = (
   record { needs = refl; left = left_none _ _ },
   (
-    record { needs = record { there = contains_head (rfnm_of 0) []; brings = tt; awaited = refl }; left = left_none _ _ },
+    record { needs = record { there = contains_head _ []; brings = tt; awaited = refl }; left = left_none _ _ },
     (
-      record { needs = record { destination = refl; waits = refl }; left = left_made _ _ (rfnm_of 0) (record { kind = refl; number = refl }) },
+      record { needs = record { destination = refl; waits = refl }; left = left_made _ _ _ (record { kind = refl; number = refl }) },
       (
         record { needs = record { offer = record { source = refl; idle = refl; answered = refl }; free = λ last is. absurd (cc); unkept = λ is. absurd (cc) }; left = left_none _ _ },
         tt,
@@ -243,7 +243,7 @@ history_given_up (suc n) small =
       (
         gives_up n small v at,
         (
-          begins_unasked n v (left_by (given_up_to n)) at (left_given_up n),
+          begins_unasked n v _ at (left_given_up n),
           history_given_up n below,
         ),
       ),
@@ -289,7 +289,7 @@ asked_after_breaks n small wraps =
             (
               asks_first n wraps v at,
               (
-                begins_unasked n v (left_by (given_up_to n)) at (left_given_up n),
+                begins_unasked n v _ at (left_given_up n),
                 history_given_up n small,
               ),
             ),
@@ -300,4 +300,4 @@ asked_after_breaks n small wraps =
     }
 
 pub begins_kept_breaks : Breaks BeginsKept begins_kept
-begins_kept_breaks = asked_after_breaks (modulus - 1) (omega (arith, two)) next_last
+begins_kept_breaks = asked_after_breaks _ (omega (arith, two)) next_last

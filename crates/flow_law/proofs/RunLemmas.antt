@@ -37,8 +37,8 @@ opening_sound v t o nothing = record { clauses = opening_invariant v t o nothing
 
 pub history_sound : {Piece : List Bool → Packet → Type 0} (v : View) (turns : List FlowTurn) → IsOpening v → IsHistory Piece v turns
     → Sound Piece (mail_now v) (seen_in turns v) (view_after turns v) (Contains (left_by turns))
-history_sound v [] o h = opening_sound v (Contains []) o (λ x there. contains_none x there)
+history_sound v [] o h = opening_sound v _ o (λ x there. contains_none x there)
 history_sound {Piece} v (turn ∷ turns) o h =
-    sound_less (mail_now v) (seen_in (turn ∷ turns) v) (view_after (turn ∷ turns) v) (Either (Contains (left_by turns)) (Makes Piece turn.move (view_after turns v))) (Contains turn.left)
+    sound_less _ _ _ _ _
     h.0.left
-    (sound_after turn.move (mail_now v) (seen_in turns v) (view_after turns v) (Contains (left_by turns)) h.0.needs (history_sound v turns o h.1))
+    (sound_after turn.move _ _ _ _ h.0.needs (history_sound v turns o h.1))

@@ -41,13 +41,13 @@ one_all {Piece} hosts entries log g moves old new before later ups o = record {
 pub one_follows : {Piece : List Bool → Packet → Type 0} (hosts : List Host) (entries log : List Crossing) (g : Flow) (moves : List Move) (old new : Flow → View) (before later : Flow → Packet → Type 0)
     → UpsAreHosts hosts entries → OneFollows Piece entries log g moves old new before later → AllSound Piece hosts log old before → AllSound Piece hosts (entries ++ log) new later
 one_follows hosts entries log g moves old new before later ups o h =
-    all_follow hosts entries log (moves_of g moves) old new before later (one_all hosts entries log g moves old new before later ups o) h
+    all_follow hosts entries log _ old new before later (one_all hosts entries log g moves old new before later ups o) h
 
 -- a step that is silent for every flow: nothing of any flow changes, and nothing new is alive
 pub silent_follows : {Piece : List Bool → Packet → Type 0} (hosts : List Host) (log : List Crossing) (old new : Flow → View) (before later : Flow → Packet → Type 0)
     → ((f : Flow) → new f ≡ old f) → ((f : Flow) (x : Packet) → later f x → before f x) → AllSound Piece hosts log old before → AllSound Piece hosts log new later
 silent_follows hosts log old new before later same less h =
-    all_follow hosts [] log (λ f. []) old new before later (record {
+    all_follow hosts [] log _ old new before later (record {
       follows = λ f. stays (old f) (new f) (before f) (later f) (same f) (less f);
       shown = λ f. refl;
       ups = tt;
@@ -64,22 +64,22 @@ not_if true p is = absurd (cc)
 not_if false p is = refl
 
 pub out_here : (m : HostMessage) (log : List Crossing) → passed_over m.flow (crossing.Out m ∷ []) log ≡ Passing.Put (length log) m.text ∷ []
-out_here m log = only_if (same_flow m.flow m.flow) (Passing.Put (length log) m.text) (same_flow-refl m.flow)
+out_here m log = only_if _ _ (same_flow-refl m.flow)
 
 pub out_elsewhere : (f : Flow) (m : HostMessage) (log : List Crossing) → same_flow f m.flow ≡ false → passed_over f (crossing.Out m ∷ []) log ≡ []
-out_elsewhere f m log other = not_if (same_flow f m.flow) (Passing.Put (length log) m.text) other
+out_elsewhere f m log other = not_if _ _ other
 
 pub in_here : (m : HostMessage) (log : List Crossing) → passed_over m.flow (crossing.In m ∷ []) log ≡ Passing.Fetched m.text ∷ []
-in_here m log = only_if (same_flow m.flow m.flow) (Passing.Fetched m.text) (same_flow-refl m.flow)
+in_here m log = only_if _ _ (same_flow-refl m.flow)
 
 pub in_elsewhere : (f : Flow) (m : HostMessage) (log : List Crossing) → same_flow f m.flow ≡ false → passed_over f (crossing.In m ∷ []) log ≡ []
-in_elsewhere f m log other = not_if (same_flow f m.flow) (Passing.Fetched m.text) other
+in_elsewhere f m log other = not_if _ _ other
 
 pub answer_here : (kind : Answer) (g : Flow) (log : List Crossing) → passed_over g (crossing.Answer kind g ∷ []) log ≡ Passing.Told kind ∷ []
-answer_here kind g log = only_if (same_flow g g) (Passing.Told kind) (same_flow-refl g)
+answer_here kind g log = only_if _ _ (same_flow-refl g)
 
 pub answer_elsewhere : (kind : Answer) (f g : Flow) (log : List Crossing) → same_flow f g ≡ false → passed_over f (crossing.Answer kind g ∷ []) log ≡ []
-answer_elsewhere kind f g log other = not_if (same_flow f g) (Passing.Told kind) other
+answer_elsewhere kind f g log other = not_if _ _ other
 
 -- ---- what flows see of a host that goes down or comes up
 
@@ -92,7 +92,7 @@ down_by false false v = refl
 
 pub down_shown : (f : Flow) (h : Host) (log : List Crossing) (v : View)
     → passed_over f (crossing.Down h ∷ []) log ≡ shown_by (stopped_host (same_host f.source h) (same_host f.destination h)) v
-down_shown f h log v = down_by (same_host f.source h) (same_host f.destination h) v
+down_shown f h log v = down_by _ _ v
 
 up_by : (source destination : Bool) (v : View)
     → first_if destination Passing.DestinationUp (first_if source Passing.SourceUp []) ++ [] ≡ shown_by (started_host source destination) v
@@ -103,4 +103,4 @@ up_by false false v = refl
 
 pub up_shown : (f : Flow) (h : Host) (log : List Crossing) (v : View)
     → passed_over f (crossing.Up h ∷ []) log ≡ shown_by (started_host (same_host f.source h) (same_host f.destination h)) v
-up_shown f h log v = up_by (same_host f.source h) (same_host f.destination h) v
+up_shown f h log v = up_by _ _ v

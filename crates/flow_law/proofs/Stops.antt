@@ -128,7 +128,7 @@ stop_held {Piece} v t held h =
           let lost : Lost [] v.box = record { waiting = dead_fits v.box held.place held.text held.waits; unread = refl } in
           record {
             other = λ to another. (let unread : v.queue ≡ [] = (k.other to another).lost.unread in absurd (cc));
-            same = λ kept. subst (λ (new : Fate). FateSays new [] v.box) (sym (dead_fate v.kept v.queue (queued_text held.number held.text) n v.fate one kept at)) lost;
+            same = λ kept. subst (λ (new : Fate). FateSays new [] v.box) (sym (dead_fate v.kept v.queue _ n v.fate one kept at)) lost;
           });
       busy = h.busy;
       settled = h.settled;
@@ -137,7 +137,7 @@ stop_held {Piece} v t held h =
 pub stop_destination : {Piece : List Bool → Packet → Type 0} (v : View) (t : Packet → Type 0) → Invariant Piece v t
     → Invariant Piece (view_moved Move.StopDestination v) (Either t (IsDeadOf v.queue))
 stop_destination {Piece} v t h = elim h.waiting [
-  | inl none ↦ invariant_less (view_moved Move.StopDestination v) t (Either t (IsDeadOf v.queue)) (λ y there. elim there [
+  | inl none ↦ invariant_less _ t _ (λ y there. elim there [
     | inl ty ↦ ty
     | inr made ↦ absurd (none_in v.queue made.message none made.waited)
   ]) (stop_unread v t none h)

@@ -1,7 +1,9 @@
 -- The input that the words of a command line name.
-use Rattle.std.specs.Prelude.{◌≡◌, ℕ, ◌<◌, Bool, true, false, not, List, [], ◌∷◌, Option, Some, None, Result, String, IfSome, codes, length, map, nat_eq, slice_index_or, string_bytes, take}
+use Rattle.std.specs.Prelude.{◌≡◌, ◌≢◌, ℕ, ◌<◌, Bool, true, false, not, List, [], ◌∷◌, Option, Some, None, Result, String, IfSome, codes, length, map, nat_eq, slice_index_or, string_bytes, take}
 use Rattle.std.specs.List.{filter}
-use Rattle.simulator.specs.Program.{Closes, EndsProgram, sides}
+use Rattle.command_line.specs.Options.{options_of, task_of}
+use Rattle.command_line.specs.declared.options.Task.TheVariants as task
+use Rattle.simulator.specs.Program.{Closes, EndsProgram, LeavesUntouched, is_answered, sides}
 use Rattle.simulator.specs.declared.program.Done.{Done}
 use Rattle.simulator.specs.declared.program.ProgramFault.{ProgramFault}
 
@@ -38,6 +40,11 @@ pub record RunsOn (input : Option (List ℕ)) (words : List (List ℕ)) (before 
   pub unread : Bool
   pub ends : EndsProgram words (sides input left unread before after) r
   pub closes : Closes r unread unwritten flushed Untouched
+  -- words that are refused, and those that the program answers of itself, leave the input unread
+  pub refused : task_of words ≡ None → options_of words ≡ None → (left ≡ input) × Untouched
+  pub answered : is_answered (task_of words) ≡ true → left ≡ input
+  -- a fault with another status than 3 leaves nothing written, but for a live session
+  pub untouched : task_of words ≢ Some task.Live → LeavesUntouched r Untouched
 
 -- so it ends on the input that the words name, where these are the octets of inputs by their names
 abbrev pub EndsNamed : {Z : Type 0} → List (String Z) → (List ℕ → Option (List ℕ)) → Option (List ℕ) → Option (List ℕ) → Bool → Bool → Type 0 → Result Done ProgramFault → Type 0

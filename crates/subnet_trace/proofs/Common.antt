@@ -10,13 +10,11 @@ pub use Rattle.imp_channel.specs.declared.frame.Content.{Content}
 pub use Rattle.imp_channel.specs.declared.frame.Frame.{Frame}
 pub use Rattle.imp_channel.specs.declared.line.Received.{Received}
 pub use Rattle.imp_node.specs.Arrival.{arrival, arrival_has_room, arrived, frame_taken, from_line, ignored, taken_frame}
-pub use Rattle.imp_node.specs.Asking.{ask}
-pub use Rattle.imp_node.specs.Lines.{end_down, end_up, resend, resent_from, route, told_from}
+pub use Rattle.imp_node.specs.Lines.{resend, resent_from, route, told_from}
 pub use Rattle.imp_node.specs.Offering.{from_host}
 pub use Rattle.imp_node.specs.Pump.{Pumped, packet_sent, pump, pumped, sent_on, target}
 pub use Rattle.imp_node.specs.Queries.{holds_packet}
 pub use Rattle.imp_node.specs.State.{HostState, ImpTurn, State, down_port, host_at, port_at}
-pub use Rattle.imp_node.specs.Stopping.{abandon, forget, give_up, host_down, host_up}
 pub use Rattle.imp_node.specs.Taking.{taken_by, to_host}
 pub use Rattle.imp_node.specs.declared.outgoing.Outgoing.{Outgoing}
 pub use Rattle.imp_node.specs.declared.port.Port.{Port}
@@ -62,7 +60,7 @@ pub use Rattle.std.specs.Io.KnownBytes.{Appends}
 pub use Rattle.std.specs.List.{All, flat_map, range_with_len}
 pub use Rattle.subnet.proofs.lemmas.{round_log}
 pub use Rattle.subnet.specs.Calls.{Decided, Fails, Kept, refusal_of, running, step_grows, take_grows}
-pub use Rattle.subnet.specs.Events.{accepted, all_refreshed, all_turns, at_imp, at_up, carried, crossings_of, deliver, delivered, drop_frame, frame_refusal, gives, imp_refusal, imp_started, imp_stopped, is_imp, logging, offer_out, offer_refusal, quiet_round, refreshed, site_at, step_refusal, stepped, take_in, take_refusal, taken_by_host, turn_of}
+pub use Rattle.subnet.specs.Events.{accepted, all_refreshed, all_turns, at_imp, at_up, carried, crossings_of, deliver, delivered, drop_frame, frame_refusal, gives, imp_refusal, imp_started, imp_stopped, is_imp, offer_out, offer_refusal, quiet_round, refreshed, site_at, step_refusal, stepped, take_in, take_refusal, taken_by_host, turn_of}
 pub use Rattle.subnet.specs.Flows.{imp_is_up}
 pub use Rattle.subnet.specs.Net.{Net, Wire, ends_at, far_end, followed_by, frames_on, imp_at, line_from, no_wire, port_of, put_all, put_on, put_one, wire_at, with_frame, with_turn}
 pub use Rattle.subnet.specs.Opening.{hosts_from, opened_from, opened_imp, opening_subnet}

@@ -1,5 +1,5 @@
 -- What an IMP keeps of flows and channels can be printed, after each of its calls.
-use Rattle.subnet_trace.proofs.Common.{◌≡◌, ℕ, zero, suc, ◌+◌, ◌<◌, Bool, true, false, List, [], ◌∷◌, ◌++◌, if◌then◌else◌, length, map, Option, Some, None, Result, Ok, Err, refl, sym, ap, subst, arith, length-set, All-append, All-cons, All-head, All-nil, All-set, All-tail, All, HostMessage, Flow, Sources, handed, Fate, PacketFields, flow_of, PacketKind, carried_by, End, answer_to, is_free, submitted_on, Channel, ChannelFault, Content, Frame, Received, Table, next_of, vector_of, arrival, arrival_has_room, arrived, frame_taken, from_line, ignored, taken_frame, ask, end_down, end_up, resend, resent_from, route, told_from, from_host, Pumped, packet_sent, pump, pumped, sent_on, target, HostState, ImpTurn, State, down_port, host_at, port_at, abandon, forget, give_up, host_down, host_up, taken_by, to_host, Outgoing, Port, Message, Told, IsAnswerTold, IsFlowNamed, IsHostTold, IsKeptTold, IsMessageTold, IsPacketTold, IsSourceTold}
+use Rattle.subnet_trace.proofs.Common.{◌≡◌, ℕ, zero, suc, ◌+◌, ◌<◌, Bool, true, false, List, [], ◌∷◌, ◌++◌, if◌then◌else◌, length, map, Option, Some, None, Result, Ok, Err, refl, sym, ap, subst, arith, length-set, All-append, All-cons, All-head, All-nil, All-set, All-tail, All, HostMessage, Flow, Sources, handed, Fate, PacketFields, flow_of, PacketKind, carried_by, End, answer_to, is_free, submitted_on, Channel, ChannelFault, Content, Frame, Received, Table, next_of, vector_of, arrival, arrival_has_room, arrived, frame_taken, from_line, ignored, taken_frame, resend, resent_from, route, told_from, from_host, Pumped, packet_sent, pump, pumped, sent_on, target, HostState, ImpTurn, State, down_port, host_at, port_at, taken_by, to_host, Outgoing, Port, Message, Told, IsAnswerTold, IsFlowNamed, IsHostTold, IsKeptTold, IsMessageTold, IsPacketTold, IsSourceTold}
 use Rattle.std.proofs.Common.{replicate}
 use Rattle.std.proofs.lemmas.List.Quantifiers.{position-Some}
 use Rattle.std.proofs.lemmas.List.Elements.{All-map, All-push, All-replicate}
@@ -18,13 +18,14 @@ use Rattle.imp_channel.specs.declared.line.Received.TheVariants as received
 use Rattle.imp_channel.proofs.lemmas.{fresh_carried}
 use Rattle.imp_node.specs.Arrival.{Answering, Arrival, NoSlot, Old, Passing, Piece, Replying, Undeliverable, Unmarked}
 use Rattle.imp_node.specs.Arrival as arrivals
-use Rattle.imp_node.specs.Asking.{asked_by}
+use Rattle.imp_node.specs.Asking.{ask, asked_by}
 use Rattle.imp_node.specs.Flows.{answer_packet, answer_queued, answered_by, fated, freed, given, message_queued, next_number, noted, with_begun}
-use Rattle.imp_node.specs.Lines.{on_port, resent_by, told_by}
+use Rattle.imp_node.specs.Lines.{end_down, end_up, on_port, resent_by, told_by}
 use Rattle.imp_node.specs.Offering.{Away, Here, Nowhere, Way, offered, way_of}
 use Rattle.imp_node.specs.Pump.{stored}
 use Rattle.imp_node.specs.Queries.{outstanding}
 use Rattle.imp_node.specs.State.{is_up, no_host, opening_node, up_host, up_port, with_host}
+use Rattle.imp_node.specs.Stopping.{abandon, forget, give_up, host_down, host_up}
 use Rattle.imp_node.specs.Stopping.{all_handed, all_returned, message_returned, stopped}
 use Rattle.imp_node.specs.Taking.{is_from_here, replied, reply_has_room}
 use Rattle.subnet_trace.specs.Told.{IsShort}

@@ -57,7 +57,7 @@ MOST_REACHING = 0  # imports into another crate's proofs/ beside lemmas
 MOST_DEAD = 58  # declarations of proofs/ that nothing leads to that is proved; `python3 python dead` names them
 MOST_ENTRIES = 40  # of a folder of proofs/
 MOST_CROWDED = 0
-MOST_FEW = 9  # names that a crate's Common passes on to one file: those of subnet_trace
+MOST_FEW = 0  # names that a crate's Common passes on to one file
 MOST_NAMED = 0
 DECLARED = re.compile(
     r"\bimpl(?:<[^>]*>)? +(?:\w+::)*(\w+)"

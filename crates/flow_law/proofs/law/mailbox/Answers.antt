@@ -21,4 +21,4 @@ pub returns-clause-opening : goal.returns-clause-opening
 returns-clause-opening c = λ test start o. opening_invariant start (Contains []) o contains_none
 
 pub returns-clause-kept : goal.returns-clause-kept
-returns-clause-kept c = λ test v alive turn h is. invariant_less (view_moved turn.move v) (Either (Contains alive) (Makes (ByTest test) turn.move v)) (Contains turn.left) is.left (invariant_after turn.move v (Contains alive) is.needs h)
+returns-clause-kept c = λ test v alive turn h is. invariant_less (view_moved turn.move v) (Either (Contains alive) (Makes (ByTest test) turn.move v)) (Contains turn.left) is.left (invariant_after turn.move v _ is.needs h)
