@@ -95,13 +95,6 @@ asked_own (Some n) f s = refl
 pub call_own : (c : ImpCall) (s : State) → number (call_turn c s).state ≡ number s
 call_own (call.Offer m) s = offered_own (way_of s m.flow) m s
 call_own (call.Arrive k f) s = from_line_own s k f
-call_own call.Resend s = refl
-call_own call.Route s = refl
-call_own (call.EndDown k) s = refl
-call_own (call.EndUp k) s = refl
-call_own (call.GiveUp f) s = refl
-call_own (call.Forget i) s = refl
-call_own (call.Abandon f) s = refl
 call_own (call.Ask f) s = asked_own (outstanding s f) f s
 call_own (call.HostDown h) s = all_returned_own (host_at s h).queue (stopped s h)
-call_own (call.HostUp h) s = refl
+call_own c s = refl

@@ -25,10 +25,8 @@ use Rattle.imp_node.specs.declared.waiting.Message.{Message}
 use Rattle.imp_node.specs.declared.waiting.Told.{Told}
 use Rattle.imp_node.specs.State.{State, HostState, ImpTurn, no_host, host_at}
 use Rattle.imp_node.specs.Arrival.{from_line}
-use Rattle.imp_node.specs.Lines.{resend, route, end_down, end_up}
+use Rattle.imp_node.specs.Lines.{resend, route}
 use Rattle.imp_node.specs.Offering.{from_host}
-use Rattle.imp_node.specs.Asking.{ask}
-use Rattle.imp_node.specs.Stopping.{give_up, forget, abandon, host_down, host_up}
 use Rattle.imp_node.specs.Taking.{to_host, first_of}
 use Rattle.subnet.specs.Net.{Net, imp_at, wire_at, port_of, frames_on, far_end}
 use Rattle.subnet.specs.Events.{at_imp, at_up, logging, accepted, is_imp, site_at, imp_refusal, offer_out, given_at, taken_by_host, crossings_of, take_in, delivered, deliver, downs_from, downs_at, quiet_round, step_refusal, stepped}
@@ -203,42 +201,35 @@ imp_down_shown n i allowed listed is =
 
 -- ---- the log after each call
 
-call_log : (o : Option State) (i : ℕ) (call : State → ImpTurn) (n : Net) → (at_imp o i call n).log ≡ n.log
-call_log None i call n = refl
-call_log (Some s) i call n = refl
+-- of a call that puts these crossings on the log
+call_log : (o : Option State) (i : ℕ) (call : State → ImpTurn) (entries : List Crossing) (n : Net) → (logging entries (at_imp o i call n)).log ≡ entries ++ n.log
+call_log None i call entries n = refl
+call_log (Some s) i call entries n = refl
 
 deliver_log : (n : Net) (l : ℕ) (d : Direction) (k : ℕ) → (deliver n l d k).log ≡ n.log
 deliver_log n l d k = by (slice_get (frames_on d (wire_at n.lines l)) k) where
   by : (o : Option Frame) → (delivered n l d o).log ≡ n.log
   by None = refl
-  by (Some f) = let i : ℕ = far_end d (wire_at n.lines l) in call_log (imp_at n.imps i) i (λ s. from_line s (port_of n.lines i l) f) n
+  by (Some f) = let i : ℕ = far_end d (wire_at n.lines l) in call_log (imp_at n.imps i) i (λ s. from_line s (port_of n.lines i l) f) [] n
 
 pub offer_log : (n : Net) (m : HostMessage) → (offer_out n m).log ≡ crossing.Out m ∷ n.log
-offer_log n m = ap (λ (log : List Crossing). crossing.Out m ∷ log) (call_log (imp_at n.imps m.flow.source.imp) m.flow.source.imp (λ s. from_host s m) n)
+offer_log n m = call_log (imp_at n.imps m.flow.source.imp) m.flow.source.imp (λ s. from_host s m) (crossing.Out m ∷ []) n
 
 pub take_log : (n : Net) (h : Host) → (take_in n h).log ≡ crossings_of (taken_by_host n h) ++ n.log
-take_log n h = ap (λ (log : List Crossing). crossings_of (taken_by_host n h) ++ log) (call_log (imp_at n.imps h.imp) h.imp (λ s. to_host s h.host) n)
+take_log n h = call_log (imp_at n.imps h.imp) h.imp (λ s. to_host s h.host) (crossings_of (taken_by_host n h)) n
 
 pub step_log : (n : Net) (e : NetEvent) → step_refusal n e ≡ None → IsListed n → IsSound n → (stepped n e).log ≡ step_crossings (seen n) e ++ n.log
 step_log n (event.Deliver l d k) allowed listed is = deliver_log n l d k
 step_log n (event.Drop l d k) allowed listed is = refl
-step_log n (event.Resend i) allowed listed is = call_log (imp_at n.imps i) i resend n
-step_log n (event.Route i) allowed listed is = call_log (imp_at n.imps i) i route n
-step_log n (event.EndDown i l) allowed listed is = call_log (imp_at n.imps i) i (λ s. end_down s (port_of n.lines i l)) n
-step_log n (event.EndUp i l) allowed listed is = call_log (imp_at n.imps i) i (λ s. end_up s (port_of n.lines i l)) n
 step_log n (event.ImpDown i) allowed listed is = ap (λ (cs : List Crossing). cs ++ n.log) (imp_down_shown n i allowed listed is)
 step_log n (event.ImpUp i) allowed listed is = refl
-step_log n (event.HostDown h) allowed listed is = ap (λ (log : List Crossing). crossing.Down h ∷ log) (call_log (imp_at n.imps h.imp) h.imp (λ s. host_down s h.host) n)
-step_log n (event.HostUp h) allowed listed is = ap (λ (log : List Crossing). crossing.Up h ∷ log) (call_log (imp_at n.imps h.imp) h.imp (λ s. host_up s h.host) n)
-step_log n (event.GiveUp f) allowed listed is = call_log (imp_at n.imps f.source.imp) f.source.imp (λ s. give_up s f) n
-step_log n (event.Forget at from) allowed listed is = call_log (imp_at n.imps at) at (λ s. forget s from) n
-step_log n (event.Abandon f) allowed listed is = call_log (imp_at n.imps f.destination.imp) f.destination.imp (λ s. abandon s f) n
-step_log n (event.Ask f) allowed listed is = call_log (imp_at n.imps f.source.imp) f.source.imp (λ s. ask s f) n
+-- every other event is a call of one IMP
+step_log n e allowed listed is = call_log (imp_at n.imps _) _ _ (step_crossings (seen n) e) n
 
 pub round_log : (n : Net) → (quiet_round n).log ≡ n.log
 round_log n = round_keeps (λ m. m.log ≡ n.log) (record {
-  route = λ m i same. call_log (imp_at m.imps i) i route m ∙ same;
-  resend = λ m i same. call_log (imp_at m.imps i) i resend m ∙ same;
+  route = λ m i same. call_log (imp_at m.imps i) i route [] m ∙ same;
+  resend = λ m i same. call_log (imp_at m.imps i) i resend [] m ∙ same;
   deliver = λ m l d k same. deliver_log m l d k ∙ same;
   drop = λ m l d k same. same;
 }) n refl
@@ -257,48 +248,38 @@ take_for n h i is given = by (imp_at n.imps h.imp) (is.imps h.imp) given where
 
 -- ---- hosts and sites stay
 
-call_same : (o : Option State) (i : ℕ) (call : State → ImpTurn) (n : Net) → SameNetwork n (at_imp o i call n)
-call_same None i call n = record { hosts = refl; sites = refl }
-call_same (Some s) i call n = record { hosts = refl; sites = refl }
+-- whatever crosses
+call_same : (o : Option State) (i : ℕ) (call : State → ImpTurn) (log : List Crossing) (n : Net) → SameNetwork n (record (at_imp o i call n) { log = log })
+call_same None i call log n = record { hosts = refl; sites = refl }
+call_same (Some s) i call log n = record { hosts = refl; sites = refl }
 
 deliver_same : (n : Net) (l : ℕ) (d : Direction) (k : ℕ) → SameNetwork n (deliver n l d k)
 deliver_same n l d k = by (slice_get (frames_on d (wire_at n.lines l)) k) where
   by : (o : Option Frame) → SameNetwork n (delivered n l d o)
   by None = record { hosts = refl; sites = refl }
-  by (Some f) = let i : ℕ = far_end d (wire_at n.lines l) in call_same (imp_at n.imps i) i (λ s. from_line s (port_of n.lines i l) f) n
-
-logged_same : (n m : Net) (entries : List Crossing) → SameNetwork n m → SameNetwork n (logging entries m)
-logged_same n m entries same = record { hosts = same.hosts; sites = same.sites }
+  by (Some f) = let i : ℕ = far_end d (wire_at n.lines l) in call_same (imp_at n.imps i) i (λ s. from_line s (port_of n.lines i l) f) _ n
 
 same_then : (l m n : Net) → SameNetwork l m → SameNetwork m n → SameNetwork l n
 same_then l m n first second = record { hosts = second.hosts ∙ first.hosts; sites = second.sites ∙ first.sites }
 
 pub offer_same : (n : Net) (m : HostMessage) → SameNetwork n (offer_out n m)
-offer_same n m = logged_same n (at_imp (imp_at n.imps m.flow.source.imp) m.flow.source.imp (λ s. from_host s m) n) (crossing.Out m ∷ []) (call_same (imp_at n.imps m.flow.source.imp) m.flow.source.imp (λ s. from_host s m) n)
+offer_same n m = call_same (imp_at n.imps m.flow.source.imp) m.flow.source.imp (λ s. from_host s m) _ n
 
 pub take_same : (n : Net) (h : Host) → SameNetwork n (take_in n h)
-take_same n h = logged_same n (at_imp (imp_at n.imps h.imp) h.imp (λ s. to_host s h.host) n) (crossings_of (taken_by_host n h)) (call_same (imp_at n.imps h.imp) h.imp (λ s. to_host s h.host) n)
+take_same n h = call_same (imp_at n.imps h.imp) h.imp (λ s. to_host s h.host) _ n
 
 pub step_same : (n : Net) (e : NetEvent) → SameNetwork n (stepped n e)
 step_same n (event.Deliver l d k) = deliver_same n l d k
 step_same n (event.Drop l d k) = record { hosts = refl; sites = refl }
-step_same n (event.Resend i) = call_same (imp_at n.imps i) i resend n
-step_same n (event.Route i) = call_same (imp_at n.imps i) i route n
-step_same n (event.EndDown i l) = call_same (imp_at n.imps i) i (λ s. end_down s (port_of n.lines i l)) n
-step_same n (event.EndUp i l) = call_same (imp_at n.imps i) i (λ s. end_up s (port_of n.lines i l)) n
 step_same n (event.ImpDown i) = record { hosts = refl; sites = refl }
 step_same n (event.ImpUp i) = record { hosts = refl; sites = refl }
-step_same n (event.HostDown h) = logged_same n (at_imp (imp_at n.imps h.imp) h.imp (λ s. host_down s h.host) n) (crossing.Down h ∷ []) (call_same (imp_at n.imps h.imp) h.imp (λ s. host_down s h.host) n)
-step_same n (event.HostUp h) = logged_same n (at_imp (imp_at n.imps h.imp) h.imp (λ s. host_up s h.host) n) (crossing.Up h ∷ []) (call_same (imp_at n.imps h.imp) h.imp (λ s. host_up s h.host) n)
-step_same n (event.GiveUp f) = call_same (imp_at n.imps f.source.imp) f.source.imp (λ s. give_up s f) n
-step_same n (event.Forget at from) = call_same (imp_at n.imps at) at (λ s. forget s from) n
-step_same n (event.Abandon f) = call_same (imp_at n.imps f.destination.imp) f.destination.imp (λ s. abandon s f) n
-step_same n (event.Ask f) = call_same (imp_at n.imps f.source.imp) f.source.imp (λ s. ask s f) n
+-- every other event is a call of one IMP
+step_same n e = call_same (imp_at n.imps _) _ _ _ n
 
 pub round_same : (n : Net) → SameNetwork n (quiet_round n)
 round_same n = round_keeps (SameNetwork n) (record {
-  route = λ m i same. same_then n m (at_imp (imp_at m.imps i) i route m) same (call_same (imp_at m.imps i) i route m);
-  resend = λ m i same. same_then n m (at_imp (imp_at m.imps i) i resend m) same (call_same (imp_at m.imps i) i resend m);
+  route = λ m i same. same_then n m (at_imp (imp_at m.imps i) i route m) same (call_same (imp_at m.imps i) i route _ m);
+  resend = λ m i same. same_then n m (at_imp (imp_at m.imps i) i resend m) same (call_same (imp_at m.imps i) i resend _ m);
   deliver = λ m l d k same. same_then n m (deliver m l d k) same (deliver_same m l d k);
   drop = λ m l d k same. record { hosts = same.hosts; sites = same.sites };
 }) n (record { hosts = refl; sites = refl })

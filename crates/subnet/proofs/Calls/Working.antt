@@ -315,19 +315,7 @@ step_working old e (Err f) new went is = fails_working _ (step_grows old.net e) 
 same_crossings : (hosts : List Host) (log : List Crossing) (s : Bool) (e : NetEvent)
     → (let a : Seen = record { hosts = hosts; log = log; stopped = s } in let b : Seen = record { hosts = hosts; log = log; stopped = false } in step_crossings b e ≡ step_crossings a e)
 same_crossings hosts log s (event.Deliver l d k) = refl
-same_crossings hosts log s (event.Drop l d k) = refl
-same_crossings hosts log s (event.Resend i) = refl
-same_crossings hosts log s (event.Route i) = refl
-same_crossings hosts log s (event.EndDown i l) = refl
-same_crossings hosts log s (event.EndUp i l) = refl
-same_crossings hosts log s (event.ImpDown i) = refl
-same_crossings hosts log s (event.ImpUp i) = refl
-same_crossings hosts log s (event.HostDown h) = refl
-same_crossings hosts log s (event.HostUp h) = refl
-same_crossings hosts log s (event.GiveUp f) = refl
-same_crossings hosts log s (event.Forget at from) = refl
-same_crossings hosts log s (event.Abandon f) = refl
-same_crossings hosts log s (event.Ask f) = refl
+same_crossings hosts log s e = refl
 
 pub step_shown : (old : Kept) (e : NetEvent) (r : Result (Unit {0}) CarrierFault) (new : Kept) → IsWorking old → SubnetStep old e r new → ShowsStep (seen_of old) e r (seen_of new)
 step_shown old e (Ok done) new is went =
