@@ -83,19 +83,7 @@ net_is : (e : NetEvent) (rest : List ℕ) → IsIt (net_spelling e) rest → beh
 net_is (net.Forget at from) rest is =
     (same_cut 34 forgets behind (net_spelling (net.Forget at from)) rest (forget_lacks 1 2) (forget_lacks at from)
     (sym (append_assoc forgets (34 ∷ []) behind) ∙ is ∙ append_assoc (net_spelling (net.Forget at from)) (34 ∷ []) rest)).back
-net_is (net.Deliver line way frame) rest is = absurd (other_first refl is)
-net_is (net.Drop line way frame) rest is = absurd (other_first refl is)
-net_is (net.Resend imp) rest is = absurd (other_first refl is)
-net_is (net.Route imp) rest is = absurd (other_first refl is)
-net_is (net.EndDown imp line) rest is = absurd (other_first refl is)
-net_is (net.EndUp imp line) rest is = absurd (other_first refl is)
-net_is (net.ImpDown imp) rest is = absurd (other_first refl is)
-net_is (net.ImpUp imp) rest is = absurd (other_first refl is)
-net_is (net.HostDown h) rest is = absurd (other_first refl is)
-net_is (net.HostUp h) rest is = absurd (other_first refl is)
-net_is (net.GiveUp f) rest is = absurd (other_first refl is)
-net_is (net.Abandon f) rest is = absurd (other_first refl is)
-net_is (net.Ask f) rest is = absurd (other_first refl is)
+net_is e rest is = absurd (other_first refl is)
 
 raw_is : (e : RawEvent) (rest : List ℕ) → IsIt (spelling e) rest → behind ≡ rest
 raw_is (script.Net e) rest is = net_is e rest is
