@@ -184,62 +184,37 @@ no_operand key word rest is h none x meant e =
 -- a line with another first word is none of these events
 pub no_host_event : (word rest : List ℕ) → Lacks 32 word → word ≢ codes "giveup" → word ≢ codes "abandon" → word ≢ codes "ask" → word ≢ codes "hostdown" → word ≢ codes "hostup"
     → (x : NetEvent) → IsOfHosts x → word ++ 32 ∷ rest ≢ net_spelling x
-no_host_event word rest h giveup abandon ask hostdown hostup x meant e = by x meant (first_word word rest (event.Net x) h e) where
-  by : (y : NetEvent) → IsOfHosts y → word ≡ keyword (event.Net y) → ⊥
-  by (net.HostDown h) meant same = hostdown same
-  by (net.HostUp h) meant same = hostup same
-  by (net.GiveUp f) meant same = giveup same
-  by (net.Abandon f) meant same = abandon same
-  by (net.Ask f) meant same = ask same
-  by (net.Resend i) meant same = absurd meant
-  by (net.Route i) meant same = absurd meant
-  by (net.ImpDown i) meant same = absurd meant
-  by (net.ImpUp i) meant same = absurd meant
-  by (net.Forget at from) meant same = absurd meant
-  by (net.Deliver l d k) meant same = absurd meant
-  by (net.Drop l d k) meant same = absurd meant
-  by (net.EndDown i l) meant same = absurd meant
-  by (net.EndUp i l) meant same = absurd meant
+no_host_event word rest h giveup abandon ask hostdown hostup x meant e = of_hosts x meant (first_word word rest (event.Net x) h e) where
+  of_hosts : (y : NetEvent) → IsOfHosts y → word ≡ keyword (event.Net y) → ⊥
+  of_hosts (net.HostDown h) meant same = hostdown same
+  of_hosts (net.HostUp h) meant same = hostup same
+  of_hosts (net.GiveUp f) meant same = giveup same
+  of_hosts (net.Abandon f) meant same = abandon same
+  of_hosts (net.Ask f) meant same = ask same
+  of_hosts y meant same = absurd meant
 
 -- a line with another first word is none of these events
 pub no_imp_event : (word rest : List ℕ) → Lacks 32 word → word ≢ codes "resend" → word ≢ codes "route" → word ≢ codes "impdown" → word ≢ codes "impup" → word ≢ codes "forget"
     → (x : NetEvent) → IsOfImps x → word ++ 32 ∷ rest ≢ net_spelling x
-no_imp_event word rest h resend route impdown impup forget x meant e = by x meant (first_word word rest (event.Net x) h e) where
-  by : (y : NetEvent) → IsOfImps y → word ≡ keyword (event.Net y) → ⊥
-  by (net.HostDown h) meant same = absurd meant
-  by (net.HostUp h) meant same = absurd meant
-  by (net.GiveUp f) meant same = absurd meant
-  by (net.Abandon f) meant same = absurd meant
-  by (net.Ask f) meant same = absurd meant
-  by (net.Resend i) meant same = resend same
-  by (net.Route i) meant same = route same
-  by (net.ImpDown i) meant same = impdown same
-  by (net.ImpUp i) meant same = impup same
-  by (net.Forget at from) meant same = forget same
-  by (net.Deliver l d k) meant same = absurd meant
-  by (net.Drop l d k) meant same = absurd meant
-  by (net.EndDown i l) meant same = absurd meant
-  by (net.EndUp i l) meant same = absurd meant
+no_imp_event word rest h resend route impdown impup forget x meant e = of_imps x meant (first_word word rest (event.Net x) h e) where
+  of_imps : (y : NetEvent) → IsOfImps y → word ≡ keyword (event.Net y) → ⊥
+  of_imps (net.Resend i) meant same = resend same
+  of_imps (net.Route i) meant same = route same
+  of_imps (net.ImpDown i) meant same = impdown same
+  of_imps (net.ImpUp i) meant same = impup same
+  of_imps (net.Forget at from) meant same = forget same
+  of_imps y meant same = absurd meant
 
 -- a line with another first word is none of these events
 pub no_line_event : (word rest : List ℕ) → Lacks 32 word → word ≢ codes "deliver" → word ≢ codes "drop" → word ≢ codes "enddown" → word ≢ codes "endup"
     → (x : NetEvent) → IsOfLines x → word ++ 32 ∷ rest ≢ net_spelling x
-no_line_event word rest h deliver drop enddown endup x meant e = by x meant (first_word word rest (event.Net x) h e) where
-  by : (y : NetEvent) → IsOfLines y → word ≡ keyword (event.Net y) → ⊥
-  by (net.HostDown h) meant same = absurd meant
-  by (net.HostUp h) meant same = absurd meant
-  by (net.GiveUp f) meant same = absurd meant
-  by (net.Abandon f) meant same = absurd meant
-  by (net.Ask f) meant same = absurd meant
-  by (net.Resend i) meant same = absurd meant
-  by (net.Route i) meant same = absurd meant
-  by (net.ImpDown i) meant same = absurd meant
-  by (net.ImpUp i) meant same = absurd meant
-  by (net.Forget at from) meant same = absurd meant
-  by (net.Deliver l d k) meant same = deliver same
-  by (net.Drop l d k) meant same = drop same
-  by (net.EndDown i l) meant same = enddown same
-  by (net.EndUp i l) meant same = endup same
+no_line_event word rest h deliver drop enddown endup x meant e = of_lines x meant (first_word word rest (event.Net x) h e) where
+  of_lines : (y : NetEvent) → IsOfLines y → word ≡ keyword (event.Net y) → ⊥
+  of_lines (net.Deliver l d k) meant same = deliver same
+  of_lines (net.Drop l d k) meant same = drop same
+  of_lines (net.EndDown i l) meant same = enddown same
+  of_lines (net.EndUp i l) meant same = endup same
+  of_lines y meant same = absurd meant
 
 -- the events by what they name are events inside a network
 pub is_imp_event : (x : NetEvent) → IsOfImps x → IsNetEvent x
