@@ -90,6 +90,7 @@ step_crossings s (event.HostUp h) = crossing.Up h ∷ []
 step_crossings s (event.ImpDown imp) = reverse (map (λ h. crossing.Down h) (up_at s imp))
 step_crossings s (event.Deliver line direction frame) = []
 step_crossings s (event.Drop line direction frame) = []
+step_crossings s (event.Garble line direction frame) = []
 step_crossings s (event.Resend imp) = []
 step_crossings s (event.Route imp) = []
 step_crossings s (event.EndDown imp line) = []

@@ -32,6 +32,15 @@ pub enum NetEvent {
         /// The frame's place on the line, 0 being the oldest.
         frame: u32,
     },
+    /// The frame at a place of a directed line arrives with a wrong checksum: its receiver refuses it, and it is lost.
+    Garble {
+        /// The line's number, from 0.
+        line: u32,
+        /// Which way the frame goes.
+        direction: Direction,
+        /// The frame's place on the line, 0 being the oldest.
+        frame: u32,
+    },
     /// An IMP sends again what is not acknowledged.
     Resend(ImpNumber),
     /// An IMP sends its neighbours its distances.

@@ -97,6 +97,7 @@ keyword (event.Net (net.ImpUp i)) = codes "impup"
 keyword (event.Net (net.Forget at from)) = codes "forget"
 keyword (event.Net (net.Deliver l d k)) = codes "deliver"
 keyword (event.Net (net.Drop l d k)) = codes "drop"
+keyword (event.Net (net.Garble l d k)) = codes "garble"
 keyword (event.Net (net.EndDown i l)) = codes "enddown"
 keyword (event.Net (net.EndUp i l)) = codes "endup"
 
@@ -118,8 +119,9 @@ made word =
     if bytes_eq word (codes "forget") then (Twos, λ x. event.Net (net.Forget x.0 x.1)) else (
     if bytes_eq word (codes "deliver") then (Frames, λ x. event.Net (net.Deliver x.0 x.1 x.2)) else (
     if bytes_eq word (codes "drop") then (Frames, λ x. event.Net (net.Drop x.0 x.1 x.2)) else (
+    if bytes_eq word (codes "garble") then (Frames, λ x. event.Net (net.Garble x.0 x.1 x.2)) else (
     if bytes_eq word (codes "enddown") then (Ends, λ x. event.Net (net.EndDown x.0 x.1)) else (
-    (Ends, λ x. event.Net (net.EndUp x.0 x.1))))))))))))))))))
+    (Ends, λ x. event.Net (net.EndUp x.0 x.1)))))))))))))))))))
 
 abbrev pub operand : (e : RawEvent) → OperandOf (made (keyword e)).0
 operand (event.Out m) = m
@@ -137,6 +139,7 @@ operand (event.Net (net.ImpUp i)) = i
 operand (event.Net (net.Forget at from)) = (at, from)
 operand (event.Net (net.Deliver l d k)) = (l, d, k)
 operand (event.Net (net.Drop l d k)) = (l, d, k)
+operand (event.Net (net.Garble l d k)) = (l, d, k)
 operand (event.Net (net.EndDown i l)) = (i, l)
 operand (event.Net (net.EndUp i l)) = (i, l)
 
@@ -206,12 +209,13 @@ no_imp_event word rest h resend route impdown impup forget x meant e = of_imps x
   of_imps y meant same = absurd meant
 
 -- a line with another first word is none of these events
-pub no_line_event : (word rest : List ℕ) → Lacks 32 word → word ≢ codes "deliver" → word ≢ codes "drop" → word ≢ codes "enddown" → word ≢ codes "endup"
+pub no_line_event : (word rest : List ℕ) → Lacks 32 word → word ≢ codes "deliver" → word ≢ codes "drop" → word ≢ codes "garble" → word ≢ codes "enddown" → word ≢ codes "endup"
     → (x : NetEvent) → IsOfLines x → word ++ 32 ∷ rest ≢ net_spelling x
-no_line_event word rest h deliver drop enddown endup x meant e = of_lines x meant (first_word word rest (event.Net x) h e) where
+no_line_event word rest h deliver drop garble enddown endup x meant e = of_lines x meant (first_word word rest (event.Net x) h e) where
   of_lines : (y : NetEvent) → IsOfLines y → word ≡ keyword (event.Net y) → ⊥
   of_lines (net.Deliver l d k) meant same = deliver same
   of_lines (net.Drop l d k) meant same = drop same
+  of_lines (net.Garble l d k) meant same = garble same
   of_lines (net.EndDown i l) meant same = enddown same
   of_lines (net.EndUp i l) meant same = endup same
   of_lines y meant same = absurd meant
@@ -228,6 +232,7 @@ is_imp_event x meant = absurd meant
 pub is_line_event : (x : NetEvent) → IsOfLines x → IsNetEvent x
 is_line_event (net.Deliver l d k) meant = meant
 is_line_event (net.Drop l d k) meant = meant
+is_line_event (net.Garble l d k) meant = meant
 is_line_event (net.EndDown i l) meant = meant
 is_line_event (net.EndUp i l) meant = meant
 is_line_event x meant = absurd meant

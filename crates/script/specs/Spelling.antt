@@ -66,6 +66,7 @@ IsMessage m = IsFlow m.flow × (length m.text ≤ 8063)
 abbrev pub net_spelling : NetEvent → List ℕ
 net_spelling (net.Deliver line way frame) = codes "deliver " ++ (decimal line ++ (codes " " ++ (direction_text way ++ (codes " " ++ decimal frame))))
 net_spelling (net.Drop line way frame) = codes "drop " ++ (decimal line ++ (codes " " ++ (direction_text way ++ (codes " " ++ decimal frame))))
+net_spelling (net.Garble line way frame) = codes "garble " ++ (decimal line ++ (codes " " ++ (direction_text way ++ (codes " " ++ decimal frame))))
 net_spelling (net.Resend imp) = codes "resend " ++ decimal imp
 net_spelling (net.Route imp) = codes "route " ++ decimal imp
 net_spelling (net.EndDown imp line) = codes "enddown " ++ (decimal imp ++ (codes " " ++ decimal line))
@@ -98,6 +99,7 @@ IsIndex n = n < 2 ^ 32
 abbrev pub IsNetEvent : NetEvent → Type 0
 IsNetEvent (net.Deliver line way frame) = IsIndex line × IsIndex frame
 IsNetEvent (net.Drop line way frame) = IsIndex line × IsIndex frame
+IsNetEvent (net.Garble line way frame) = IsIndex line × IsIndex frame
 IsNetEvent (net.Resend imp) = IsImp imp
 IsNetEvent (net.Route imp) = IsImp imp
 IsNetEvent (net.EndDown imp line) = IsImp imp × IsIndex line

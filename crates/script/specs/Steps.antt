@@ -64,6 +64,7 @@ IsOfImps e = ⊥
 abbrev pub IsOfLines : NetEvent → Type 0
 IsOfLines (net.Deliver line way frame) = IsIndex line × IsIndex frame
 IsOfLines (net.Drop line way frame) = IsIndex line × IsIndex frame
+IsOfLines (net.Garble line way frame) = IsIndex line × IsIndex frame
 IsOfLines (net.EndDown imp line) = IsImp imp × IsIndex line
 IsOfLines (net.EndUp imp line) = IsImp imp × IsIndex line
 IsOfLines e = ⊥

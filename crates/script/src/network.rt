@@ -84,6 +84,13 @@ fn read_line_event(word: &[u8], rest: &[u8]) -> Option<NetEvent>
             direction,
             frame,
         })
+    } else if is_word(word, b"garble") {
+        let (line, direction, frame) = read_frame(rest)?;
+        Some(NetEvent::Garble {
+            line,
+            direction,
+            frame,
+        })
     } else if is_word(word, b"enddown") {
         let (imp, line) = read_end(rest)?;
         Some(NetEvent::EndDown { imp, line })

@@ -75,6 +75,7 @@ has_host_up s = list_any (λ host. host.up) s.hosts
 abbrev pub step_grows : Net → NetEvent → Bool
 step_grows n (event.Deliver l d k) = delivered_grows n l d (slice_get (frames_on d (wire_at n.lines l)) k)
 step_grows n (event.Drop l d k) = false
+step_grows n (event.Garble l d k) = false
 step_grows n (event.Resend i) = grows_at (imp_at n.imps i) resend_grows
 step_grows n (event.Route i) = grows_at (imp_at n.imps i) route_grows
 step_grows n (event.EndDown i l) = grows_at (imp_at n.imps i) (λ s. end_down_grows s (port_of n.lines i l))

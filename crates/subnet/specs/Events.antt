@@ -272,6 +272,7 @@ imp_stopped n i = record n { imps = slice_set n.imps i None; log = downs_at i (i
 abbrev pub step_refusal : Net → NetEvent → Option CarrierFault
 step_refusal n (event.Deliver l d k) = frame_refusal n l d k
 step_refusal n (event.Drop l d k) = frame_refusal n l d k
+step_refusal n (event.Garble l d k) = frame_refusal n l d k
 step_refusal n (event.Resend i) = imp_refusal n i
 step_refusal n (event.Route i) = imp_refusal n i
 step_refusal n (event.EndDown i l) = at_end_refusal n i l end_down_refusal
@@ -288,6 +289,7 @@ step_refusal n (event.Ask f) = asking_refusal n f
 abbrev pub stepped : Net → NetEvent → Net
 stepped n (event.Deliver l d k) = deliver n l d k
 stepped n (event.Drop l d k) = drop_frame n l d k
+stepped n (event.Garble l d k) = drop_frame n l d k
 stepped n (event.Resend i) = at_imp (imp_at n.imps i) i resend n
 stepped n (event.Route i) = at_imp (imp_at n.imps i) i route n
 stepped n (event.EndDown i l) = at_imp (imp_at n.imps i) i (λ s. end_down s (port_of n.lines i l)) n

@@ -34,6 +34,10 @@ pub record WorkedFrames : Type 0 where
   pub killed :
       (is_alive (pair (Some imp_1) (Some imp_2) (data_frame 1 ∷ []) []) ours 1 ≡ true) ×
       (is_alive (drop_frame (pair (Some imp_1) (Some imp_2) (data_frame 1 ∷ []) []) 0 way.Forward 0) ours 1 ≡ false)
+  -- a frame that arrives garbled is gone too, and nothing is acknowledged
+  pub garbled :
+      stepped (pair (Some imp_1) (Some imp_2) (data_frame 0 ∷ data_frame 1 ∷ []) []) (event.Garble 0 way.Forward 0)
+      ≡ pair (Some imp_1) (Some imp_2) (data_frame 1 ∷ []) []
   -- at an IMP that is down it is not refused, and ignored
   pub ignored :
       (step_refusal (pair (Some imp_1) None (data_frame 0 ∷ []) []) (event.Deliver 0 way.Forward 0) ≡ None) ×

@@ -24,6 +24,11 @@ impl Parts {
                 line,
                 direction,
                 frame,
+            }
+            | NetEvent::Garble {
+                line,
+                direction,
+                frame,
             } => self.drop_frame(line, direction, frame),
             NetEvent::Resend(imp) => self.resend(imp),
             NetEvent::Route(imp) => self.route(imp),

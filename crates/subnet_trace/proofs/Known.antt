@@ -128,6 +128,7 @@ round_known {o} n sound known = (round_keeps (IsSoundlyKnown o) keeps n (record 
 pub step_known : {o : Net} (n : Net) (e : NetEvent) → IsNetEvent e → step_refusal n e ≡ None → IsSound n → IsKnown o n → IsKnown o (stepped n e)
 step_known n (net.Deliver l d k) valid ok sound is = deliver_known n l d k sound is
 step_known n (net.Drop l d k) valid ok sound is = drop_known n l d k is
+step_known n (net.Garble l d k) valid ok sound is = drop_known n l d k is
 step_known n (net.Resend i) valid ok sound is = resend_known n i is
 step_known n (net.Route i) valid ok sound is = route_known n i is
 step_known n (net.EndDown i l) valid ok sound is = call_known n i _ _ (end_down_knows (port_of n.lines i l)) is

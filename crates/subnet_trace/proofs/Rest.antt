@@ -163,6 +163,7 @@ start_rest n i (Line l) ok none = refl
 step_rest : (n : Net) (e : NetEvent) (p : Part) → IsPlaced n → step_refusal n e ≡ None → is_part n p ≡ true → is_named p (parts_of n (event.Net e)) ≡ false → SamePart p n (stepped n e)
 step_rest n (net.Deliver l d k) p placed ok there none = deliver_rest n l d k p placed ok there none
 step_rest n (net.Drop l d k) p placed ok there none = drop_rest n l d k p ok none
+step_rest n (net.Garble l d k) p placed ok there none = drop_rest n l d k p ok none
 step_rest n (net.ImpDown i) p placed ok there none = stop_rest n i p ok none
 step_rest n (net.ImpUp i) p placed ok there none = start_rest n i p ok none
 -- every other event is a call of one IMP
@@ -305,6 +306,7 @@ drop_keeps n l d k = record {
 pub step_keeps : (n : Net) (e : NetEvent) → step_refusal n e ≡ None → Keeps n (stepped n e)
 step_keeps n (net.Deliver l d k) ok = deliver_keeps n l d (slice_get (frames_on d (wire_at n.lines l)) k)
 step_keeps n (net.Drop l d k) ok = drop_keeps n l d k
+step_keeps n (net.Garble l d k) ok = drop_keeps n l d k
 step_keeps n (net.ImpDown i) ok = record {
   network = record { hosts = refl; sites = refl; lines = refl };
   placed = λ placed. one_placed n i None (refused_none (is_imp n i) (at_up (imp_at n.imps i) accepted) ok) placed;

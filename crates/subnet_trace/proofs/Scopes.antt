@@ -56,6 +56,7 @@ start_stays n i = record { imps = λ j none. get_or-set_other n.imps i j _ None 
 step_stays : (n : Net) (e : NetEvent) → step_refusal n e ≡ None → Stays (scope_of n (event.Net e)) n (stepped n e)
 step_stays n (net.Deliver l d k) ok = deliver_stays n l d k ok
 step_stays n (net.Drop l d k) ok = drop_stays n l d k
+step_stays n (net.Garble l d k) ok = drop_stays n l d k
 step_stays n (net.ImpDown i) ok = stop_stays n i
 step_stays n (net.ImpUp i) ok = start_stays n i
 -- every other event is a call of one IMP

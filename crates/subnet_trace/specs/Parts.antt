@@ -85,6 +85,7 @@ scope_of n (event.Out m) = scope.ImpAndLines m.flow.source.imp
 scope_of n (event.Take h) = scope.ImpAndLines h.imp
 scope_of n (event.Net (net.Deliver l d k)) = scope_of_delivery n l d
 scope_of n (event.Net (net.Drop l d k)) = scope.Line l
+scope_of n (event.Net (net.Garble l d k)) = scope.Line l
 scope_of n (event.Net (net.Resend i)) = scope.ImpAndLines i
 scope_of n (event.Net (net.Route i)) = scope.ImpAndLines i
 scope_of n (event.Net (net.EndDown i l)) = scope.ImpAndLines i

@@ -65,7 +65,7 @@ fn scope_of_net(subnet: &Subnet, event: &NetEvent) -> Scope
             direction,
             ..
         } => scope_of_delivery(subnet, line, direction),
-        NetEvent::Drop { line, .. } => Scope::Line(line),
+        NetEvent::Drop { line, .. } | NetEvent::Garble { line, .. } => Scope::Line(line),
         NetEvent::ImpDown(imp) | NetEvent::ImpUp(imp) => Scope::Imp(imp.number()),
         NetEvent::Resend(imp) | NetEvent::Route(imp) => Scope::ImpAndLines(imp.number()),
         NetEvent::EndDown { imp, .. } | NetEvent::EndUp { imp, .. } => {

@@ -92,6 +92,11 @@ pub fn print_net_event<W: Output>(event: &NetEvent, writer: &mut W) -> Result<()
             direction,
             frame,
         } => print_frame("drop", line, direction, frame, writer),
+        NetEvent::Garble {
+            line,
+            direction,
+            frame,
+        } => print_frame("garble", line, direction, frame, writer),
         NetEvent::Resend(imp) => print_imp("resend", imp, writer),
         NetEvent::Route(imp) => print_imp("route", imp, writer),
         NetEvent::EndDown { imp, line } => print_end("enddown", imp, line, writer),

@@ -443,6 +443,7 @@ start_imp_low h n i allowed low =
 step_low : (h : ℕ) (n : Net) (e : NetEvent) → step_refusal n e ≡ None → IsSound n → NumbersUpTo h n → NumbersUpTo h (stepped n e)
 step_low h n (event.Deliver l d k) allowed is low = deliver_low h n l d k low
 step_low h n (event.Drop l d k) allowed is low = drop_low h n l d k low
+step_low h n (event.Garble l d k) allowed is low = drop_low h n l d k low
 step_low h n (event.Resend i) allowed is low = resend_low h n i low
 step_low h n (event.Route i) allowed is low = route_low h n i low
 step_low h n (event.EndDown i l) allowed is low = quiet_low h n i (λ s. end_down s (port_of n.lines i l)) (λ s here. here) (end_down_nothing n i (port_of n.lines i l)) low

@@ -221,6 +221,7 @@ take_log n h = call_log (imp_at n.imps h.imp) h.imp (λ s. to_host s h.host) (cr
 pub step_log : (n : Net) (e : NetEvent) → step_refusal n e ≡ None → IsListed n → IsSound n → (stepped n e).log ≡ step_crossings (seen n) e ++ n.log
 step_log n (event.Deliver l d k) allowed listed is = deliver_log n l d k
 step_log n (event.Drop l d k) allowed listed is = refl
+step_log n (event.Garble l d k) allowed listed is = refl
 step_log n (event.ImpDown i) allowed listed is = ap (λ (cs : List Crossing). cs ++ n.log) (imp_down_shown n i allowed listed is)
 step_log n (event.ImpUp i) allowed listed is = refl
 -- every other event is a call of one IMP
@@ -271,6 +272,7 @@ take_same n h = call_same (imp_at n.imps h.imp) h.imp (λ s. to_host s h.host) _
 pub step_same : (n : Net) (e : NetEvent) → SameNetwork n (stepped n e)
 step_same n (event.Deliver l d k) = deliver_same n l d k
 step_same n (event.Drop l d k) = record { hosts = refl; sites = refl }
+step_same n (event.Garble l d k) = record { hosts = refl; sites = refl }
 step_same n (event.ImpDown i) = record { hosts = refl; sites = refl }
 step_same n (event.ImpUp i) = record { hosts = refl; sites = refl }
 -- every other event is a call of one IMP

@@ -166,6 +166,7 @@ frame_plain n l d k = last_plain (nat_lt l (length n.lines) && nat_lt k (length 
 step_plain : (e : NetEvent) (n : Net) → Plain (step_refusal n e)
 step_plain (event.Deliver l d k) n = frame_plain n l d k
 step_plain (event.Drop l d k) n = frame_plain n l d k
+step_plain (event.Garble l d k) n = frame_plain n l d k
 step_plain (event.Resend i) n = imp_plain n i
 step_plain (event.Route i) n = imp_plain n i
 step_plain (event.EndDown i l) n = at_end_plain n i l end_down_refusal end_down_plain

@@ -18,6 +18,7 @@ use Rattle.subnet.proofs.Moves.QuietCalls.{drop_sound, resend_sound, route_sound
 pub step_sound : (n : Net) (e : NetEvent) → step_refusal n e ≡ None → IsSound n → IsSound (stepped n e)
 step_sound n (event.Deliver l d k) allowed is = deliver_sound n l d k is
 step_sound n (event.Drop l d k) allowed is = drop_sound n l d k is
+step_sound n (event.Garble l d k) allowed is = drop_sound n l d k is
 step_sound n (event.Resend i) allowed is = resend_sound n i is
 step_sound n (event.Route i) allowed is = route_sound n i is
 step_sound n (event.EndDown i l) allowed is = end_down_sound n i (port_of n.lines i l) is

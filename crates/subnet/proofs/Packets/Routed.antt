@@ -311,6 +311,7 @@ stop_routed n i is = record { few = still_few n.imps i None is.few; imps = All-s
 pub step_routed : (n : Net) (e : NetEvent) → IsRouted n → IsRouted (stepped n e)
 step_routed n (event.Deliver l d k) is = deliver_routed n l d k is
 step_routed n (event.Drop l d k) is = drop_routed n l d k is
+step_routed n (event.Garble l d k) is = drop_routed n l d k is
 step_routed n (event.Resend i) is = resend_routed n i is
 step_routed n (event.Route i) is = route_routed n i is
 step_routed n (event.EndDown i l) is = call_routed n i (λ s. end_down s (port_of n.lines i l)) (end_down_tells (port_of n.lines i l)) is

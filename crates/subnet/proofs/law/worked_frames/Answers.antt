@@ -14,6 +14,7 @@ returns c = record {
   came = rw (get-empty flow_cmp ours) refl;
   dropped = refl;
   killed = (refl, refl);
+  garbled = refl;
   ignored = (refl, refl);
   no_frame = (refl, refl, refl);
 }
