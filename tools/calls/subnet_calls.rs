@@ -131,6 +131,7 @@ fn event(name: &str, mut words: Words<'_>) -> Option<NetEvent> {
     Some(match name {
         "deliver" => NetEvent::Deliver { line: words.number()?, direction: words.direction()?, frame: words.number()? },
         "drop" => NetEvent::Drop { line: words.number()?, direction: words.direction()?, frame: words.number()? },
+        "garble" => NetEvent::Garble { line: words.number()?, direction: words.direction()?, frame: words.number()? },
         "resend" => NetEvent::Resend(words.imp()?),
         "route" => NetEvent::Route(words.imp()?),
         "enddown" => NetEvent::EndDown { imp: words.imp()?, line: words.number()? },

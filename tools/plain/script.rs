@@ -223,7 +223,7 @@ fn read_net(name: &[u8], words: &mut Words) -> Result<Option<NetEvent>, BadLine>
         b"hostdown" => NetEvent::HostDown(words.host()?),
         b"hostup" => NetEvent::HostUp(words.host()?),
         b"deliver" => NetEvent::Deliver(words.number()?, words.way()?, words.number()?),
-        b"drop" => NetEvent::Drop(words.number()?, words.way()?, words.number()?),
+        b"drop" | b"garble" => NetEvent::Drop(words.number()?, words.way()?, words.number()?),
         b"resend" => NetEvent::Resend(words.imp()?),
         b"route" => NetEvent::Route(words.imp()?),
         b"impdown" => NetEvent::ImpDown(words.imp()?),

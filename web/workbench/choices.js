@@ -136,6 +136,7 @@ function frameChoices({ line, way, place }) {
     return [
         { words: "It arrives", lines: [`deliver ${which}`, `drop ${which}`] },
         { words: "It is lost", lines: [`drop ${which}`] },
+        { words: "It arrives garbled, and is refused", lines: [`garble ${which}`] },
         { words: "A copy arrives, and it stays on the line", lines: [`deliver ${which}`] },
     ];
 }

@@ -7,7 +7,7 @@
 
 import { FAR } from "./state.js";
 import { farEnd, wayOf } from "./topology.js";
-import { isQuiet, REST } from "./trace.js";
+import { isQuiet, LOSSES, REST } from "./trace.js";
 
 /** @typedef {import("./runs.js").Moment} Moment */
 /** @typedef {import("./state.js").State} State */
@@ -57,7 +57,7 @@ export function noteOf(moment, before, after, accepted) {
     const [kind, ...rest] = moment.words;
     const isRefused = moment.printed.some((line) => line.startsWith("refused "));
     if (kind === "impup" && !isRefused) accepted.start(Number(rest[0]));
-    const isFrame = (kind === "deliver" || kind === "drop") && !isRefused && `line ${rest[0]}` in before.parts;
+    const isFrame = (kind === "deliver" || LOSSES.has(kind)) && !isRefused && `line ${rest[0]}` in before.parts;
     const note = isFrame ? frameNote(moment, before, after, accepted) : { ...NOTHING };
     note.sent = sentBy(moment, before, after);
     note.weight = weightOf(moment, note);
@@ -76,7 +76,7 @@ function frameNote({ words: [kind, number, way, place], fate }, before, after, a
     const [from, to] = wayOf(before.network, line, way);
     const frame = before.line(line)[way === "+" ? "+" : "-"][Number(place)] ?? null;
     const note = { ...NOTHING, frame, line, from, to };
-    if (kind === "drop" || !frame) return note;
+    if (LOSSES.has(kind) || !frame) return note;
     note.fate = fate ? fateOf(fate, frame, line, to, before, after, accepted) : null;
     note.freed = freedBy(line, to, before, after);
     return note;
@@ -148,7 +148,7 @@ function freedBy(line, imp, before, after) {
 function sentBy(moment, before, after) {
     /** @type {MomentNote["sent"]} */
     const found = [];
-    if (before.network.plain || moment.words[0] === "drop" || moment.words[0] === REST || isQuiet(moment)) return found;
+    if (before.network.plain || LOSSES.has(moment.words[0]) || moment.words[0] === REST || isQuiet(moment)) return found;
     for (const [name] of moment.parts) {
         if (!name.startsWith("line ")) continue;
         const line = Number(name.slice(5));

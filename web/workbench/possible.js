@@ -102,6 +102,7 @@ function ofLine(state, line) {
         return state.line(line)[way].slice(0, MOST_FRAMES).flatMap((frame, place) => [
             one(`${frameName(network, frame)} arrives at ${to}`, `deliver ${line} ${way} ${place}`),
             one(`${frameName(network, frame)} to ${to} is gone`, `drop ${line} ${way} ${place}`),
+            one(`${frameName(network, frame)} arrives at ${to} garbled`, `garble ${line} ${way} ${place}`),
         ]);
     });
     const ends = network.lines[line].map((imp) => (

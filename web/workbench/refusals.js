@@ -2,6 +2,7 @@
 
 import { TABLE } from "../../python/dorydate/sentences/table.mjs";
 import { farEnd, hostName, impName, impOf, siteName, wayOf } from "./topology.js";
+import { LOSSES } from "./trace.js";
 import { ANSWERS, messageName } from "./waits.js";
 import { capital, count, filled, listed } from "./words.js";
 
@@ -103,7 +104,7 @@ function noSuch(state, words) {
     const { network } = state;
     const [kind, what, way, place] = words;
     if (network.plain && !what.includes("/")) return REFUSED.plain;
-    if (kind === "deliver" || kind === "drop") {
+    if (kind === "deliver" || LOSSES.has(kind)) {
         const line = Number(what);
         if (line >= network.lines.length) return filled(REFUSED["no line"], { line });
         const frames = state.line(line)[way === "+" ? "+" : "-"].length;

@@ -341,7 +341,8 @@ function outside(it) {
 /** @type {{[kind: string]: (it: Telling) => string}} */
 const INNER = {
     deliver: delivered,
-    drop: dropped,
+    drop: (it) => lost(it, INSIDE.gone),
+    garble: (it) => lost(it, INSIDE.garbled),
     route: (it) => {
         const imp = Number(it.moment.words[1]);
         const over = it.note.sent.map((sent) => siteName(it.network, sent.to));
@@ -603,12 +604,15 @@ function dataTaken(it, packet, before, after) {
     return was.fate === "never" ? INSIDE["noted never"] : INSIDE.old;
 }
 
-/** @param {Telling} it */
-function dropped(it) {
+/**
+ * @param {Telling} it
+ * @param {string} sentence
+ */
+function lost(it, sentence) {
     const { note, network } = it;
     if (!note.frame) return outside(it);
     const start = filled(
-        INSIDE.gone,
+        sentence,
         { frame: frameName(network, note.frame), line: note.line, from: it.imp(note.from), to: it.imp(note.to) },
     );
     if (!note.frame.packet) return start;

@@ -6,7 +6,7 @@
 
 import { notesOf } from "./script.js";
 import { siteName, wayOf } from "./topology.js";
-import { REST } from "./trace.js";
+import { LOSSES, REST } from "./trace.js";
 
 /** @typedef {import("./fold.js").History} History */
 /** @typedef {import("./stops.js").Stop} Stop */
@@ -132,12 +132,12 @@ export function stopWords(history, stop) {
     const { frame, line, from, to } = history.notes[stop.main];
     if (words[0] === "quiet") return "a quiet round";
     if (words[0] === REST) return "the rest of the round";
-    if (words[0] !== "deliver" && words[0] !== "drop") return words.join(" ");
+    if (words[0] !== "deliver" && !LOSSES.has(words[0])) return words.join(" ");
     if (!frame || line < 0) return words.join(" ");
     const [a, b] = from ? [from, to] : wayOf(history.network, line, words[2]);
     const what = frame.packet ? packetWords(frame.packet) : frame.routes ? "distances" : "ack";
     const short = (/** @type {number} */ imp) => siteName(history.network, imp).replace(/^IMP /, "");
-    return `${short(a)}→${short(b)} ${what}${words[0] === "drop" ? " dropped" : ""}`;
+    return `${short(a)}→${short(b)} ${what}${{ drop: " dropped", garble: " garbled" }[words[0]] ?? ""}`;
 }
 
 /**

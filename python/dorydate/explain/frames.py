@@ -183,12 +183,22 @@ def freed(view: View, was: Before) -> str:
 
 def dropped(view: View, line: int, way: str, place: int) -> Sentences | None:
     """What is said of a frame that is gone."""
+    return lost(view, "gone", line, way, place)
+
+
+def garbled(view: View, line: int, way: str, place: int) -> Sentences | None:
+    """What is said of a frame whose checksum is wrong."""
+    return lost(view, "garbled", line, way, place)
+
+
+def lost(view: View, word: str, line: int, way: str, place: int) -> Sentences | None:
+    """What is said of a frame that is lost so."""
     frames = view.subnet.way(line, way)
     if place >= len(frames):
         return None
     content = frames[place].content
     near, far = view.line_ends(line, way)
-    start = filled(INSIDE["gone"], {"frame": frame_in_words(content), "line": line, "from": imp_in_words(near), "to": imp_in_words(far)})
+    start = filled(INSIDE[word], {"frame": frame_in_words(content), "line": line, "from": imp_in_words(near), "to": imp_in_words(far)})
     if not isinstance(content, Carried):
         return lambda: [start]
     imp = view.imp(near)

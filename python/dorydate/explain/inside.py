@@ -28,6 +28,7 @@ LOOKS: dict[str, Callable[..., Sentences | None]] = {
     "take": messages.taken,
     "deliver": frames.delivered,
     "drop": frames.dropped,
+    "garble": frames.garbled,
     "resend": frames.sent_again,
     "route": frames.routes_sent,
     "enddown": frames.end_down,

@@ -42,7 +42,7 @@ class Seen:
         """The IMP or the line that is first in an event, as its part is called; empty where the network has none of this number."""
         kind, first = event.split(" ")[:2]
         number = int(first.rpartition("/")[2])
-        if kind in ("deliver", "drop"):
+        if kind in ("deliver", "drop", "garble"):
             return f"line {number}" if number < len(self.network.lines) else ""
         return f"imp {number}" if any(it.number == number for it in self.network.imps) else ""
 

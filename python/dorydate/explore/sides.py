@@ -25,7 +25,7 @@ NUMBER = re.compile(r'\{"line":\d+,"number":(\d+),')
 HEADING = re.compile(r'"event":"([^"]*)","(?:fate":"[^"]*",")?crossed":(\[.*?\]),"printed":')
 PLACE = re.compile(r"\d+/(\d+)")
 GROUPS = ("parts", "programs", "services")
-OF_LINES = ("deliver", "drop")
+OF_LINES = ("deliver", "drop", "garble")
 EVERYONE = -1  # owns what all copies share
 
 

@@ -89,7 +89,7 @@ def crossings(moment: Moment, tracks: Tracks, spans: Spans) -> Iterator[Event]:
 def frames(moment: Moment, tracks: Tracks) -> Iterator[Event]:
     """A frame that arrives or is dropped."""
     match moment.event.split(" "):
-        case ["deliver" | "drop" as word, line, way, _] if not moment.lines:
+        case ["deliver" | "drop" | "garble" as word, line, way, _] if not moment.lines:
             yield instant(tracks, LINES, f"line {line} {way}", moment.fate or word, moment.time, event=moment.event, script=moment.happened.said)
 
 

@@ -170,6 +170,10 @@ class Subnet(Carrier):
             raise Refused("NoSuch")
         del way[place]
 
+    def garble(self, line: int, direction: str, place: int) -> None:
+        """A live frame arrives with a wrong checksum. Its receiver looks at nothing else in it, so nothing is acknowledged."""
+        self.drop(line, direction, place)
+
     def resend(self, number: int) -> None:
         """An IMP sends again what is in its channels."""
         self.site(number)

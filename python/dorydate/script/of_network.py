@@ -59,6 +59,12 @@ class Drop(OfFrame):
     """The frame at a place of a line is gone."""
 
 
+@event("garble")
+@dataclass(frozen=True)
+class Garble(OfFrame):
+    """The frame at a place of a line arrives with a wrong checksum: its receiver refuses it, and it is gone."""
+
+
 @event("resend")
 @dataclass(frozen=True)
 class Resend(OfImp):

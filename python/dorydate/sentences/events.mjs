@@ -13,6 +13,7 @@ export const TABLE = {
 "hostup": ["H", "carrier", "H"],
 "deliver": ["L +|- K", "subnet", "+|-"],
 "drop": ["L +|- K", "subnet", "L"],
+"garble": ["L +|- K", "subnet", "L"],
 "resend": ["I", "subnet", "I"],
 "route": ["I", "subnet", "I"],
 "enddown": ["I L", "subnet", "I"],

@@ -22,7 +22,7 @@ EVENTS = 100
 LARGEST_EVENTS = 400
 
 WEIGHTS = {
-    "out": 14, "take": 6, "calm": 2, "deliver": 20, "drop": 8, "resend": 3, "route": 2, "giveup": 4, "ask": 5, "abandon": 1, "forget": 1,
+    "out": 14, "take": 6, "calm": 2, "deliver": 20, "drop": 6, "garble": 2, "resend": 3, "route": 2, "giveup": 4, "ask": 5, "abandon": 1, "forget": 1,
     "enddown": 2, "endup": 3, "impdown": 0.5, "impup": 2, "hostdown": 1, "hostup": 4, "alive": 3,
 }  # fmt: skip
 WEIGHTS |= {word: 1 for word in OF_RAW if word not in WEIGHTS}
@@ -46,7 +46,7 @@ class Chance:
         self.hosts = near * 6 + [HostName(self.random.randrange(4), self.random.randrange(1, 64))]
         self.flows = [self.flow() for _ in range(6)]
         stops = self.random.random() < 0.4
-        rare = ("impdown", "impup", "forget", "drop")
+        rare = ("impdown", "impup", "forget", "drop", "garble")
         self.weights = [weight * (4 if stops and kind in rare else 1) for kind, weight in WEIGHTS.items()]
         self.lengths = self.random.choice([(0, 8, 24), (0, 24, 1008), (8, 2100), (1008, 8063)])
         self.seen: Counter[str] = Counter()
@@ -74,7 +74,7 @@ class Chance:
     def event(self) -> Event:
         """An event with its parts."""
         kind = self.random.choices([*WEIGHTS], self.weights)[0]
-        if kind in ("deliver", "drop") and not any(ways["+"] + ways["-"] for ways in self.subnet.live):
+        if kind in ("deliver", "drop", "garble") and not any(ways["+"] + ways["-"] for ways in self.subnet.live):
             kind = self.random.choice(["out", "out", "route", kind])
         return kind, *self.parts(kind)
 

@@ -191,7 +191,7 @@ class Script:
             imp, other = self.one(*self.network.imps)[0], self.one(*self.network.imps)[0]
             line = self.chance.randrange(len(self.network.lines) + 1)
             ways += [("impdown", imp), ("enddown", imp, line), ("forget", imp, other)]
-            ways += [("drop", at, way, 0) for at, way in self.frames()] * 2
+            ways += [(word, at, way, 0) for word in ("drop", "garble") for at, way in self.frames()]
             ways += [("abandon", flow) for flow in flows]
             ways += [("ask", flow) for flow in flows]
         event = self.chance.choice(ways or [("calm", 1)])
