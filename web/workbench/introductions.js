@@ -15,6 +15,7 @@ export const INTRODUCTIONS = {
     "three-imps-in-a-row": "A message on its way over three IMPs. They find the way by themselves, since each tells its neighbours its distances.",
     "a-repeat-is-taken-once":
         "A frame may arrive more than once. One bit for each channel of a line is enough to take its packet once.",
+    "a-frame-is-garbled": "Noise on a line: a frame arrives with a wrong checksum, and so does an acknowledgement.",
     "an-rfnm-arrives-three-times": "Not only messages come twice: here the same answer arrives three times.",
     "an-rfnm-is-lost": "The message is taken, and the answer that says so is lost for good with an end of the line.",
     "an-rfnm-is-lost-and-asked-for": "The same loss twice: once the message is given up, and once its IMP asks what became of it.",

@@ -94,6 +94,13 @@ const SUBNET = {
             "No. The channel's bit shows the IMP that it is a repeat: it is acknowledged again and thrown away.",
         ],
     ],
+    "a-frame-is-garbled": [
+        [
+            6,
+            "The frame came with a wrong checksum. What does host 0/2 get?",
+            "Nothing. Its IMP refused the frame and acknowledged nothing, so the packet is still in its channel at IMP 1.",
+        ],
+    ],
     "an-rfnm-arrives-three-times": [
         [
             13,
