@@ -223,10 +223,10 @@ function grants(life, receiver) {
  */
 function granted(book, life) {
     const link = Number(book.flowByRts(life).split(" ")[2] ?? 0);
-    if (!link) return said("granted", "unlinked");
+    if (!link) return said("promise.granted", "unlinked");
     const [messages, bits] = book.grantedTo(life, link);
     const isKept = life.messages <= messages && BigInt(life.text.size) <= bits;
-    return said("granted", isKept ? "allowed" : "not allowed", {
+    return said("promise.granted", isKept ? "allowed" : "not allowed", {
         messages: life.messages,
         bits: life.text.size,
         messages_granted: messages,
@@ -246,12 +246,12 @@ function over(book, life, names) {
     const { fate, host, peer, own, partner } = life;
     const found = overBy(book, life);
     const holes = { host: names(host), peer: names(peer), word: fate, line: Math.max(own, partner) + 1 };
-    if (!found || !leaves(found, fate)) return said("over", "unfit", holes);
+    if (!found || !leaves(found, fate)) return said("promise.over", "unfit", holes);
     if (!found.by || (fate === "reset" && found.by !== "reset")) {
-        return said("over", fate === "reset" ? "contact" : "open", holes);
+        return said("promise.over", fate === "reset" ? "contact" : "open", holes);
     }
     const name = fate === "reset" || fate === "stopped" ? fate : "by cls";
-    return said("over", name, { ...holes, place: found.place + 1, what: SAID[found.word] ?? "" });
+    return said("promise.over", name, { ...holes, place: found.place + 1, what: SAID[found.word] ?? "" });
 }
 
 /**
@@ -263,11 +263,11 @@ function over(book, life, names) {
 function within(book, life) {
     const { by, place } = overBy(book, life) ?? { by: "", place: -1 };
     if (!by || (life.fate === "reset" && by !== "reset")) {
-        return said("within", life.fate === "reset" ? "called" : "continues");
+        return said("promise.within", life.fate === "reset" ? "called" : "continues");
     }
     const late = book.countedBy(life).find((it) => it > place);
     const name = late === undefined ? "in time" : "too late";
-    return said("within", name, { place: place + 1, late: (late ?? 0) + 1, messages: life.messages });
+    return said("promise.within", name, { place: place + 1, late: (late ?? 0) + 1, messages: life.messages });
 }
 
 /**
@@ -280,13 +280,13 @@ function within(book, life) {
 function sent(book, life, others) {
     const flow = book.flowByRts(life);
     const taken = book.countedBy(life, flow);
-    if (!taken.length) return said("sent", "none counted");
+    if (!taken.length) return said("promise.sent", "none counted");
     const outs = taken.map((at) => book.lastOut(flow, at));
     const known = others.map((it) => common(outs, book.countedBy(it, book.flowByRts(it))));
     const most = Math.max(0, ...known);
-    if (most < outs.length) return said("sent", "not that", { number: most + 1, line: taken[most] + 1 });
+    if (most < outs.length) return said("promise.sent", "not that", { number: most + 1, line: taken[most] + 1 });
     const other = others[known.indexOf(most)].line;
-    return said("sent", "each sent", { lines: lines(outs), messages: outs.length, other });
+    return said("promise.sent", "each sent", { lines: lines(outs), messages: outs.length, other });
 }
 
 /**
@@ -307,11 +307,11 @@ function common(some, others) {
  * @param {Life[]} others
  */
 function whole(life, others) {
-    if (!life.receives || life.fate !== "ended" || !others.length) return said("whole", "not ended");
+    if (!life.receives || life.fate !== "ended" || !others.length) return said("promise.whole", "not ended");
     const bits = bitsOf(life.text);
     const has = (/** @type {Life} */ it) => bitsOf(it.text) === bits && bitsOf(it.handed) === bits;
     const hasAll = others.every((it) => has(it) && it.messages === life.messages);
-    return said("whole", hasAll ? "whole" : "lacking", { bits: life.text.size, other: others[0].line });
+    return said("promise.whole", hasAll ? "whole" : "lacking", { bits: life.text.size, other: others[0].line });
 }
 
 /**
@@ -321,9 +321,9 @@ function whole(life, others) {
  * @param {Life} life
  */
 function allCounted(book, life) {
-    if (!life.receives || life.fate !== "open") return said("arrived.all", "not open");
+    if (!life.receives || life.fate !== "open") return said("promise.arrived.all", "not open");
     const came = BigInt(book.placesOf(life).length);
-    return said("arrived.all", came === life.messages ? "all" : "closing", { messages: life.messages, came });
+    return said("promise.arrived.all", came === life.messages ? "all" : "closing", { messages: life.messages, came });
 }
 
 /**
@@ -337,12 +337,12 @@ function allThere(book, life, others) {
     const found = overBy(book, life);
     const isClosed = found?.by === "" && found.closed.has("in");
     if (!life.receives || life.fate !== "open" || !isClosed || !others.length) {
-        return said("arrived.closed", "partner open");
+        return said("promise.arrived.closed", "partner open");
     }
     const bits = bitsOf(life.text);
     const hasAll = others.every((it) => bitsOf(it.text) === bits && it.messages === life.messages);
     const name = hasAll ? "partner closed" : "short";
-    return said("arrived.closed", name, { bits: life.text.size, other: others[0].line });
+    return said("promise.arrived.closed", name, { bits: life.text.size, other: others[0].line });
 }
 
 // ---- a message
@@ -370,7 +370,7 @@ function ofMessage(book, at, names) {
         said("promise.run", isEmpty ? "run" : "box", { line: before + 1 }),
         said("promise.safe.messages.once", taken < 0 ? "untaken" : "taken", { line: line(taken) }),
         said("promise.safe.messages.answered", told, { answer: ANSWERS[since[answer]?.answer] ?? "", line: line(answer) }),
-        said("contacts", isReset ? "only rst" : "no contact", hosts),
+        said("promise.contacts", isReset ? "only rst" : "no contact", hosts),
         ...(link === "0" ? [] : ofData(book, at, isRfnm && taken >= 0 ? line(taken) - 1 : -1)),
     ];
 }
@@ -395,10 +395,10 @@ function frees({ kind, flow: its }, flow) {
 function ofData(book, at, came) {
     const sent = said("promise.told", "sent");
     const sender = book.lives.find((it) => !it.receives && book.countedBy(it).includes(at));
-    if (!sender) return [sent, said("arrived.answered.sent", "of none")];
+    if (!sender) return [sent, said("promise.arrived.answered.sent", "of none")];
     const number = book.countedBy(sender).indexOf(at) + 1;
-    const counted = [sent, said("arrived.answered.sent", "of life", { number, line: sender.line })];
-    const clause = "arrived.answered.arrived";
+    const counted = [sent, said("promise.arrived.answered.sent", "of life", { number, line: sender.line })];
+    const clause = "promise.arrived.answered.arrived";
     if (came < 0) return [...counted, said(clause, "no rfnm")];
     const receivers = book.partnersOf(sender);
     if (!receivers.length) return [...counted, said(clause, "unmatched")];
@@ -415,5 +415,5 @@ function ofData(book, at, came) {
 function countedBy(book, life, place) {
     const number = book.countedBy(life).indexOf(place) + 1;
     const name = number ? "counted" : life.fate === "open" ? "may be uncounted" : "uncounted";
-    return said("arrived.answered.arrived", name, { number, line: life.line, word: life.fate });
+    return said("promise.arrived.answered.arrived", name, { number, line: life.line, word: life.fate });
 }

@@ -23,8 +23,8 @@ pub use Rattle.command_line.specs.Steps.{IsNetworkFault, IsReplayFault}
 pub use Rattle.command_line.specs.declared.auditing.AuditFault.{AuditFault}
 pub use Rattle.command_line.specs.declared.fault.ScriptFault.{ScriptFault}
 pub use Rattle.command_line.specs.declared.verdict.Verdict.{Verdict}
-pub use Rattle.headline.proofs.lemmas.{given}
-pub use Rattle.headline.specs.Promise.{KeepsPromise}
+pub use Rattle.headline.proofs.lemmas.{world_keeps}
+pub use Rattle.headline.specs.Promise.{WorldKeeps}
 pub use Rattle.host_services.specs.declared.report.Reported.{Reported}
 pub use Rattle.interface.specs.Calls.{Calls}
 pub use Rattle.interface.specs.Host.{Host}

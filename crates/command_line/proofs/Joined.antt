@@ -178,15 +178,15 @@ kept_from calls opening (World events) octets h = record {
   book = world_book h.last.kept;
   log = (alone octets (world_book h.last.kept)).1 (h.written, h.valid);
   says =
-      says_logged h.last.kept h.promise.fated []
+      says_logged h.last.kept h.promise.book.fated []
       (kept_alone_from (reverse h.last.kept.book.crossings) h.last.kept.book.lives h.last.kept.handed (map logged_fate h.last.kept.fates)
-      (run_twice (calls.seen h.last.carrier).hosts h.last.kept.book.crossings h.promise.promised.run)
+      (run_twice (calls.seen h.last.carrier).hosts h.last.kept.book.crossings h.promise.book.run)
       (made_twice h.last.kept.book.crossings h.last.kept.book.lives
-      (made_with h.last.kept.book.contacts h.last.kept.book.crossings h.last.kept.book.lives h.promise.contacts h.promise.promised.formed h.promise.within))
-      (turned audit.Kept h.last.kept.book.crossings h.last.kept.book.lives h.last.kept.handed (kept_promise (calls.seen h.last.carrier).hosts h.last.kept.book h.last.kept.handed h.promise.promised))
-      (subst (λ (cs : List Crossing). EachWasSent cs h.last.kept.book.lives) (sym (reverse-reverse h.last.kept.book.crossings)) h.promise.sent)
+      (made_with h.last.kept.book.contacts h.last.kept.book.crossings h.last.kept.book.lives h.promise.book.contacts h.promise.book.formed h.promise.book.within))
+      (turned audit.Kept h.last.kept.book.crossings h.last.kept.book.lives h.last.kept.handed (kept_promise (calls.seen h.last.carrier).hosts h.last.kept h.promise.book))
+      (subst (λ (cs : List Crossing). EachWasSent cs h.last.kept.book.lives) (sym (reverse-reverse h.last.kept.book.crossings)) h.promise.book.sent)
       (closes_logged (reverse (reverse h.last.kept.book.crossings)) h.last.kept.book.lives h.last.kept.handed h.last.kept.fates
-      (subst (λ (cs : List Crossing). ClosesWhole cs h.last.kept.book.lives h.last.kept.handed h.last.kept.fates) (sym (reverse-reverse h.last.kept.book.crossings)) h.promise.whole))
+      (subst (λ (cs : List Crossing). ClosesWhole cs h.last.kept.book.lives h.last.kept.handed h.last.kept.fates) (sym (reverse-reverse h.last.kept.book.crossings)) h.promise.book.whole))
       (suited_logged (reverse (reverse h.last.kept.book.crossings)) h.last.kept.book.lives h.last.kept.fates
       (subst (λ (cs : List Crossing). AreSuited cs h.last.kept.book.lives h.last.kept.fates) (sym (reverse-reverse h.last.kept.book.crossings)) h.suited)));
 }

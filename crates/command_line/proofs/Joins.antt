@@ -99,7 +99,7 @@ told_from {C} calls settled opening (World events) book detail out log h k =
     let one : (h.shows.last ≡ k.last) × (h.shown ≡ k.shows) =
     worlds.one_replay calls settled (opening_world (shown calls) opening) h.shows.last k.last events h.shown k.shows h.shows.replayed k.replayed in
     let alive : h.lives ≡ lives_of (world_book k.last.kept) =
-    h.shows.left ∙ ap (λ (w : WorldState C). w.kept.book.lives) one.0 ∙ sym (lives_back k.last.kept.book.lives k.last.kept.fates k.promise.fated) in
+    h.shows.left ∙ ap (λ (w : WorldState C). w.kept.book.lives) one.0 ∙ sym (lives_back k.last.kept.book.lives k.last.kept.fates k.promise.book.fated) in
     record {
       shown = h.shown;
       told = world_book k.last.kept;

@@ -1,6 +1,6 @@
 -- What `--log` writes is the log of the book that a replay leaves.
 use Rattle.command_line.proofs.Common.{◌≡◌, ℕ, Bool, List, [], ◌++◌, Option, Result, OnOk, refl, subst, sym, Appends}
-use Rattle.command_line.proofs.Common.{AreSuited, log_text, AreFated, Fate, KeepsPromise, IsRun, SafeMessages, Crossing}
+use Rattle.command_line.proofs.Common.{AreSuited, log_text, AreFated, Fate, WorldKeeps, IsRun, SafeMessages, Crossing}
 use Rattle.command_line.proofs.Common.{shown, WorldState, opening_world, Life, Writes, Calls, Detail, Host, RawEvent}
 use Rattle.command_line.proofs.Common.{WorldEvent, on_ok, world_book}
 use Rattle.std.proofs.Common.{reverse}
@@ -61,7 +61,7 @@ book_valid k crossings lives handed fates r p q x y h =
 
 pub logs_world : {C : Type 0} (calls : Calls C) (opening : C) (first last : WorldState C) (events : List WorldEvent)
     (detail : Detail) (k : Kept) (x y before after : Option (List ℕ)) → first ≡ opening_world (shown calls) opening
-    → lines.Writes detail (worlds.Replays (shown calls) first events last) x y → KeepsPromise calls.seen last
+    → lines.Writes detail (worlds.Replays (shown calls) first events last) x y → WorldKeeps calls.seen last
     → k ≡ last.kept → AreSuited last.kept.book.crossings last.kept.book.lives last.kept.fates
     → Appends before after (log_text (world_book k))
     → (AreFated k.book.lives k.fates → IsBook (world_book k)) → LogsWorld calls opening events before after
@@ -74,5 +74,5 @@ logs_world {C} calls opening first last events detail k x y before after begins 
       suited = suited;
       written = subst (λ (b : Kept). Appends before after (log_text (world_book b))) is written;
       valid = subst (λ (b : Kept). IsBook (world_book b)) is
-          (valid (subst (λ (b : Kept). AreFated b.book.lives b.fates) (sym is) promise.fated));
+          (valid (subst (λ (b : Kept). AreFated b.book.lives b.fates) (sym is) promise.book.fated));
     }

@@ -1,6 +1,6 @@
 -- What a replay prints is a formed and safe book.
 use Rattle.command_line.proofs.Common.{arith, ◌≡◌, ◌+◌, ℕ, Bool, true, false, List, [], ◌∷◌, ◌++◌, Option, codes, refl}
-use Rattle.command_line.proofs.Common.{ap, sym, subst, ◌∙◌, length-append, Appends, Contains, KeepsPromise, plain_calls}
+use Rattle.command_line.proofs.Common.{ap, sym, subst, ◌∙◌, length-append, Appends, Contains, WorldKeeps, plain_calls}
 use Rattle.command_line.proofs.Common.{Calls, Host, IsRun, SafeMessages, Crossing, Told, AreTwo, WorldState, Life}
 use Rattle.command_line.proofs.Common.{Reported, crossings_of, output, Detail, TopologyFields, CarrierKind}
 use Rattle.script.specs.Input.{ended_line}
@@ -134,15 +134,15 @@ joined_as b other crossings reports lives joined = λ server user s u a e c d h.
     }))
 
 world_book : {C : Type 0} (seen : C → Seen) (last : WorldState C) (shows : List lines.Shown) →
-    ShowsBook last.kept.book shows → KeepsPromise seen last → AreOneBook false shows last.kept.book.lives
+    ShowsBook last.kept.book shows → WorldKeeps seen last → AreOneBook false shows last.kept.book.lives
 world_book seen last shows booked promise = record {
   handed = last.kept.handed;
   hosts = (seen last.carrier).hosts;
-  formed = subst (λ log. FormedBook log last.kept.book.lives) booked.crossed promise.promised.formed;
-  told = subst (λ (told : List Told). FormedNotices (log_of shows) told) booked.told (subst (λ (log : List Crossing). FormedNotices log last.kept.book.notices) booked.crossed promise.promised.told);
-  safe = subst (λ log. SafeBook log last.kept.book.lives last.kept.handed) booked.crossed promise.promised.safe;
-  joined = joined_as last.kept.book (shown_book shows last.kept.book.lives) booked.crossed booked.said refl promise.promised.joined;
-  run = subst (IsRun (seen last.carrier).hosts) booked.crossed promise.promised.run;
+  formed = subst (λ log. FormedBook log last.kept.book.lives) booked.crossed promise.book.formed;
+  told = subst (λ (told : List Told). FormedNotices (log_of shows) told) booked.told (subst (λ (log : List Crossing). FormedNotices log last.kept.book.notices) booked.crossed promise.book.told);
+  safe = subst (λ log. SafeBook log last.kept.book.lives last.kept.handed) booked.crossed promise.book.safe;
+  joined = joined_as last.kept.book (shown_book shows last.kept.book.lives) booked.crossed booked.said refl promise.book.joined;
+  run = subst (IsRun (seen last.carrier).hosts) booked.crossed promise.book.run;
   lived = subst (λ (told : List Told). AreLived (log_of shows) told last.kept.book.lives) booked.told
       (subst (λ (log : List Crossing). AreLived log last.kept.book.notices last.kept.book.lives) booked.crossed (lived promise.exact.lawful.whole.moments last.kept promise.exact.lawful.whole.kept));
 }

@@ -3,7 +3,7 @@ use Rattle.std.specs.Prelude.{ℕ, List, [], reverse, Option}
 use Rattle.std.specs.Io.KnownBytes.{Appends}
 use Rattle.book_log.specs.Log.{Book, IsBook, log_text, logged_book}
 use Rattle.book_judge.specs.Fates.{AreSuited}
-use Rattle.headline.specs.Promise.{KeepsPromise}
+use Rattle.headline.specs.Promise.{WorldKeeps}
 use Rattle.interface.specs.Mailboxes.{IsRun}
 use Rattle.interface.specs.Messages.{SafeMessages}
 use Rattle.net_sim.specs.Book.{Kept}
@@ -52,7 +52,7 @@ pub record LogsWorld {C : Type 0} (calls : Calls C) (opening : C) (events : List
   pub last : WorldState C
   pub shows : List lines.Shown
   pub replayed : worlds.Replays (shown calls) (opening_world (shown calls) opening) events last shows
-  pub promise : KeepsPromise calls.seen last
+  pub promise : WorldKeeps calls.seen last
   pub suited : AreSuited last.kept.book.crossings last.kept.book.lives last.kept.fates
   pub written : Appends before after (log_text (world_book last.kept))
   pub valid : IsBook (world_book last.kept)

@@ -1,7 +1,7 @@
 -- What the simulator writes.
 use Rattle.std.specs.Prelude.{◌≡◌, ℕ, Bool, true, false, List, [], ◌++◌, reverse, Option, codes}
 use Rattle.std.specs.Io.KnownBytes.{Appends}
-use Rattle.headline.specs.Promise.{KeepsPromise}
+use Rattle.headline.specs.Promise.{WorldKeeps}
 use Rattle.interface.specs.Mailboxes.{IsRun}
 use Rattle.interface.specs.Messages.{SafeMessages}
 use Rattle.promise.specs.Book.{Book}
@@ -66,14 +66,14 @@ pub record WorldShowsFrom {C : Type 0} (calls : Calls C) (opening : C) (events :
   pub replayed : worlds.Replays (shown calls) (opening_world (shown calls) opening) events last shows
   pub booked : ShowsBook last.kept.book shows
   pub left : lives ≡ last.kept.book.lives
-  pub promise : KeepsPromise calls.seen last
+  pub promise : WorldKeeps calls.seen last
 
 -- memory ran out in one of the events: the lines that were shown by then have what is in the world's book, and its book keeps the promise
 pub record WorldStopsFrom {C : Type 0} (calls : Calls C) (opening : C) (events : List WorldEvent) (shows : List lines.Shown) : Type 0 where
   pub last : WorldState C
   pub stopped : worlds.EndsIn (shown calls) (worlds.StopsIn (shown calls)) (opening_world (shown calls) opening) events last shows
   pub booked : ShowsBook last.kept.book shows
-  pub promise : KeepsPromise calls.seen last
+  pub promise : WorldKeeps calls.seen last
 
 -- the lives, where the book is asked for
 abbrev pub book_text : Bool → List Life → List ℕ

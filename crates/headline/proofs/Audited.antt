@@ -4,8 +4,8 @@ use Rattle.std.specs.Prelude.{IsSome}
 use Rattle.interface.specs.declared.crossing.Crossing.{Crossing}
 use Rattle.interface.specs.Host.{Host}
 use Rattle.net_sim.specs.Audit.{IsWellFormed, Says}
-use Rattle.promise.specs.Book.{Book}
-use Rattle.promise.specs.Promised.{Promised}
+use Rattle.headline.specs.Promise.{KeepsPromise}
+use Rattle.net_sim.specs.Book.{Kept}
 use Rattle.net_sim.specs.declared.auditing.said.Audit.TheVariants as said
 use Rattle.promise.specs.declared.life.Life.{Life}
 use Rattle.promise.specs.Formed.{FormedBook, own_named, partner_named}
@@ -36,5 +36,5 @@ well_formed log lives handed f s = record {
       });
 }
 
-pub kept_promise : (hosts : List Host) (book : Book) (handed : List (List Bool)) → Promised hosts book handed → Says said.Kept book.crossings book.lives handed
-kept_promise hosts book handed p = (well_formed book.crossings book.lives handed p.formed p.safe, p.safe)
+pub kept_promise : (hosts : List Host) (k : Kept) → KeepsPromise hosts k → Says said.Kept k.book.crossings k.book.lives k.handed
+kept_promise hosts k p = (well_formed k.book.crossings k.book.lives k.handed p.formed p.safe, p.safe)

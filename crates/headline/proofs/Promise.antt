@@ -7,25 +7,19 @@ use Rattle.interface.specs.declared.crossing.Crossing.{Crossing}
 use Rattle.net_sim.specs.Book.{Kept}
 use Rattle.net_sim.specs.Clean.{IsLawful}
 use Rattle.net_sim.specs.World.{WorldState}
-use Rattle.net_sim.proofs.lemmas.{booked_messages}
-use Rattle.promise.specs.Arrived.{ArrivedBook}
-use Rattle.promise.specs.Ends.{AreContacts, AreLeft}
-use Rattle.promise.specs.Fates.{AreFated, ClosesWhole}
-use Rattle.promise.specs.Promised.{Promised}
+use Rattle.net_sim.proofs.lemmas.{booked_messages, world_fated}
 use Rattle.promise.specs.declared.life.Life.{Life}
 use Rattle.net_sim.proofs.lemmas.AllOurs.{happened}
 use Rattle.net_sim.specs.Story.{Moment}
 use Rattle.net_sim.specs.Timeline.{crossings_of}
 use Rattle.mixed_worlds.specs.Laws.{Among}
-use Rattle.headline.specs.Promise.{IsExact, KeepsPromise}
+use Rattle.headline.specs.Promise.{IsExact, KeepsPromise, WorldKeeps}
 use Rattle.world_keeps_connections.proofs.lemmas.{world_joined}
 use Rattle.world_keeps_lives.proofs.lemmas.{world_drained, world_handed, world_taken, world_told}
 use Rattle.world_keeps_lives.proofs.lemmas.AllOurs.{lives_all}
 use Rattle.world_keeps_pairing.proofs.lemmas.{book_lives, book_run, world_alone, world_partners}
 use Rattle.world_keeps_streams.specs.Granted.{EachIsWithin}
-use Rattle.world_keeps_streams.specs.Sent.{EachWasSent}
-use Rattle.world_keeps_streams.specs.Within.{CountNothingLater}
-use Rattle.world_keeps_streams.proofs.lemmas.{world_agrees, world_answered, world_arrives, world_calms, world_came, world_closes, world_comes, world_firsts, world_formed, world_handed_over, world_rests, world_sent, world_settles, world_source}
+use Rattle.world_keeps_streams.proofs.lemmas.{world_agrees, world_answered, world_arrived, world_arrives, world_calms, world_came, world_closes, world_comes, world_contacts, world_ended, world_firsts, world_formed, world_handed_over, world_over, world_rests, world_sent, world_settles, world_source, world_was_sent, world_within}
 
 -- what is left of a run without its newest crossings is one
 older_run : (hosts : List Host) (more log : List Crossing) → IsRun hosts (more ++ log) → IsRun hosts log
@@ -35,27 +29,6 @@ older_run hosts (c ∷ more) log run = older_run hosts more log run.1
 -- the book of a world is a run, even if memory ran out in an event of which something crossed
 world_run : {C : Type 0} (seen : C → Seen) (w : WorldState C) → IsLawful seen (seen w.carrier).hosts w → IsRun (seen w.carrier).hosts w.kept.book.crossings
 world_run seen w lawful = older_run (seen w.carrier).hosts lawful.booked.unbooked w.kept.book.crossings (subst (IsRun (seen w.carrier).hosts) lawful.booked.book lawful.run)
-
-pub promised : {C : Type 0} (seen : C → Seen) (w : WorldState C) → IsLawful seen (seen w.carrier).hosts w → Promised (seen w.carrier).hosts w.kept.book w.kept.handed
-promised seen w lawful = record {
-  run = world_run seen w lawful;
-  formed = world_formed seen (seen w.carrier).hosts w lawful;
-  told = world_told seen (seen w.carrier).hosts w lawful;
-  safe = record {
-    messages = booked_messages seen w lawful.booked lawful.run;
-    partners = world_partners seen (seen w.carrier).hosts w lawful;
-    streams = record {
-      one = λ receiver x y there two mx my. world_alone seen (seen w.carrier).hosts w lawful receiver x y two mx my;
-      source = λ receiver there kind some. world_source (seen w.carrier).hosts seen w lawful receiver there kind some;
-      sent = world_handed seen (seen w.carrier).hosts w lawful;
-    };
-    grants = record {
-      taken = λ receiver there kind. world_taken seen (seen w.carrier).hosts w lawful receiver there kind;
-      sent = λ receiver sender here there match. world_sent (seen w.carrier).hosts seen w lawful receiver sender here there match;
-    };
-  };
-  joined = world_joined seen (seen w.carrier).hosts w lawful;
-}
 
 pub exact : {C : Type 0} (seen : C → Seen) (w : WorldState C) → IsLawful seen (seen w.carrier).hosts w → IsExact seen w
 exact seen w lawful = record {
@@ -91,21 +64,38 @@ within_grants law seen w lawful =
       happen = happened hosts moments lawful.whole.timeline;
     }))))
 
--- so it is where a call promises each of the book that it gives
-pub given : {C : Type 0} (seen : C → Seen) (w : WorldState C) (k : Kept) → k ≡ w.kept → Promised (seen w.carrier).hosts k.book k.handed → AreFated k.book.lives k.fates
-    → ClosesWhole k.book.crossings k.book.lives k.handed k.fates → ArrivedBook k.book.contacts k.book.crossings k.book.lives k.fates
-    → AreLeft k.book.contacts k.book.crossings k.book.lives k.fates → AreContacts k.book.contacts k.book.crossings
-    → CountNothingLater k.book.contacts k.book.crossings k.book.lives → EachWasSent k.book.crossings k.book.lives
-    → EachIsWithin k.book.crossings k.book.lives → IsExact seen w → KeepsPromise seen w
-given seen w k is promised fated whole arrived over contacts within sent granted exact = record {
-  promised = subst (λ (j : Kept). Promised (seen w.carrier).hosts j.book j.handed) is promised;
-  fated = subst (λ (j : Kept). AreFated j.book.lives j.fates) is fated;
-  whole = subst (λ (j : Kept). ClosesWhole j.book.crossings j.book.lives j.handed j.fates) is whole;
-  arrived = subst (λ (j : Kept). ArrivedBook j.book.contacts j.book.crossings j.book.lives j.fates) is arrived;
-  over = subst (λ (j : Kept). AreLeft j.book.contacts j.book.crossings j.book.lives j.fates) is over;
-  contacts = subst (λ (j : Kept). AreContacts j.book.contacts j.book.crossings) is contacts;
-  within = subst (λ (j : Kept). CountNothingLater j.book.contacts j.book.crossings j.book.lives) is within;
-  sent = subst (λ (j : Kept). EachWasSent j.book.crossings j.book.lives) is sent;
-  granted = subst (λ (j : Kept). EachIsWithin j.book.crossings j.book.lives) is granted;
-  exact = exact;
-}
+-- what the book of a lawful world keeps. That each life is within its grants is so of any network
+pub keeps : Among → {C : Type 0} (seen : C → Seen) (w : WorldState C) → IsLawful seen (seen w.carrier).hosts w → KeepsPromise (seen w.carrier).hosts w.kept
+keeps among seen w lawful =
+    let hosts : List Host = (seen w.carrier).hosts in
+    record {
+      run = world_run seen w lawful;
+      formed = world_formed seen hosts w lawful;
+      told = world_told seen hosts w lawful;
+      safe = record {
+        messages = booked_messages seen w lawful.booked lawful.run;
+        partners = world_partners seen hosts w lawful;
+        streams = record {
+          one = λ receiver x y there two mx my. world_alone seen hosts w lawful receiver x y two mx my;
+          source = λ receiver there kind some. world_source hosts seen w lawful receiver there kind some;
+          sent = world_handed seen hosts w lawful;
+        };
+        grants = record {
+          taken = λ receiver there kind. world_taken seen hosts w lawful receiver there kind;
+          sent = λ receiver sender here there match. world_sent hosts seen w lawful receiver sender here there match;
+        };
+      };
+      joined = world_joined seen hosts w lawful;
+      fated = world_fated seen hosts w lawful;
+      whole = world_ended seen hosts w lawful;
+      arrived = world_arrived seen hosts w lawful;
+      over = world_over seen hosts w lawful;
+      contacts = world_contacts seen hosts w lawful;
+      within = world_within seen hosts w lawful;
+      sent = world_was_sent seen hosts w lawful;
+      granted = within_grants among seen w lawful;
+    }
+
+-- a world keeps the promise by what a call says of the book that it gives
+pub world_keeps : {C : Type 0} (seen : C → Seen) (w : WorldState C) (k : Kept) → k ≡ w.kept → KeepsPromise (seen w.carrier).hosts k → IsExact seen w → WorldKeeps seen w
+world_keeps seen w k is book exact = record { book = subst (KeepsPromise (seen w.carrier).hosts) is book; exact = exact }

@@ -151,6 +151,7 @@ opening_book = record { crossings = []; notices = []; contacts = []; reports = [
 
 -- ---- the book, what was handed over, and how far the lives are, together
 
+-- the book of a world, and for each of its lives the bits that were handed over to be sent in it, and its fate
 pub record Kept : Type 0 where
   pub book : Book
   pub handed : List (List Bool)

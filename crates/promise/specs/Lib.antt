@@ -1,5 +1,4 @@
 -- All that must be believed of the headline, in reading order, beside the mailboxes of `interface` and how texts of messages are read.
-pub mod Promised
 pub mod Book
 pub mod Safe
 pub mod Formed

@@ -4,13 +4,14 @@
 //! Read in this order. No host program, packet, route or buffer occurs in any of it, and nothing else has to be read.
 //! 1. What crosses between hosts and the network: `specs/Mailboxes.antt` of `interface`, and `specs/Messages.antt`
 //!    there, which says what is safe of messages.
-//! 2. What is promised, in eight clauses of `headline::book_of`: `specs/Promised.antt`, a record of five parts;
-//!    `specs/Fates.antt`, what a life has that its partner's CLS ended, by the lives' [`Fate`]s; `specs/Arrived.antt`,
-//!    what an open life has and RFNM of data means; `specs/Ends.antt`, by what a life is over and what goes out after a
-//!    contact; and two of `world_keeps_streams`: `specs/Within.antt`, that a life counts nothing that crossed after it
-//!    was over, and `specs/Sent.antt`, which message of its partner each is that it counts.
+//! 2. What is promised: the fields of `KeepsPromise` in `specs/Promise.antt` of `headline`. Of them `specs/Fates.antt`
+//!    says what a life has that its partner's CLS ended, by the lives' [`Fate`]s; `specs/Arrived.antt`, what an open
+//!    life has and RFNM of data means; `specs/Ends.antt`, by what a life is over and what goes out after a contact; and
+//!    three files of `world_keeps_streams`: `specs/Within.antt`, that a life counts nothing that crossed after it was
+//!    over, `specs/Sent.antt`, which message of its partner each is that it counts, and `specs/Granted.antt`, what the
+//!    ALLs of its partner grant it.
 //! 3. What is written down of a world: `specs/Book.antt`, with [`Life`], [`Told`] and [`Called`].
-//! 4. The parts of the first: a safe book (`specs/Safe.antt`), the messages that a life is made of (`specs/Formed.antt`)
+//! 4. The other fields: a safe book (`specs/Safe.antt`), the messages that a life is made of (`specs/Formed.antt`)
 //!    and that a notice reports (`specs/Notices.antt`), and the sockets that an initial connection pairs
 //!    (`specs/Connections.antt`). For the last, how far a life is by what crossed: `specs/Ends.antt`.
 //! 5. How the text of a message is read: `Control` and `Data` of `host_pairs`, `DataHeader`, `Numbers` and `Reading` of

@@ -20,7 +20,7 @@ use Rattle.command_line.specs.Carriers.{plain_of, subnet_of}
 use Rattle.command_line.specs.Mixed.{MixedReplaysOver}
 use Rattle.command_line.specs.Events.{Raw, World}
 use Rattle.command_line.specs.Replayed.{ReplaysOver}
-use Rattle.headline.specs.Promise.{KeepsPromise}
+use Rattle.headline.specs.Promise.{WorldKeeps}
 use Rattle.interface.proofs.lemmas.{safe_messages}
 use Rattle.net_sim.specs.World.{WorldState, opening_world}
 use Rattle.replay.proofs.lemmas as raw_proofs
@@ -106,7 +106,7 @@ raw_prints calls carrier empty script said last h = (
 )
 
 pub world_prints : {C : Type 0} (calls : Calls C) (carrier : C) (opening : WorldState C) → opening ≡ opening_world (shown calls) carrier → (script said : List ℕ)
-    → Prints world_spelling IsWorldEvent (ReplaysWith (HappensBy (world_kind (shown calls))) (lines.shown_text Texts) (KeepsPromise calls.seen)) opening script said
+    → Prints world_spelling IsWorldEvent (ReplaysWith (HappensBy (world_kind (shown calls))) (lines.shown_text Texts) (WorldKeeps calls.seen)) opening script said
     → (over calls carrier false).Prints script said
 world_prints {C} calls carrier opening is script said (last, h) =
     let from : ReplaysBy (world_kind (shown calls)) (opening_world (shown calls) carrier) h.events last h.replayed.0 =

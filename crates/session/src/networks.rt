@@ -3,7 +3,7 @@
 
 ghost use Rattle.std.specs.Prelude.{◌≡◌, Err, List, OnOk, false, ℕ};
 ghost use Rattle.std.specs.Io.KnownBytes.{Appends};
-ghost use Rattle.headline.specs.Promise.{KeepsPromise};
+ghost use Rattle.headline.specs.Promise.{WorldKeeps};
 ghost use Rattle.net_sim.specs.Carriers.{shown};
 ghost use Rattle.replay.specs.Failing.{TellsCannotWrite};
 ghost use Rattle.replay.specs.Output as raw;
@@ -51,12 +51,12 @@ impl<C: Carrier, W: Output> Stage<RawEvent, W> for Bare<C> {
 }
 
 impl<C: Carrier, W: Output> Stage<WorldEvent, W> for World<C> {
-    ghost replays = { ReplaysWith (HappensBy (world_kind (shown C.calls))) (shown_text Texts) (KeepsPromise C.calls.seen) };
+    ghost replays = { ReplaysWith (HappensBy (world_kind (shown C.calls))) (shown_text Texts) (WorldKeeps C.calls.seen) };
 
     fn replay(&mut self, events: Vec<WorldEvent>, writer: &mut W) -> Result<(), ReplayFault>
         requires { W.failed writer.old ≡ false }
         ensures part { result ≡ Err ReplayFault.OutOfMemory → (said : List ℕ) × Appends (W.contents writer.old) (W.contents writer.new) said }
-        ensures replayed { OnOk result ((said : List ℕ) × ReplaysWith (HappensBy (world_kind (shown C.calls))) (shown_text Texts) (KeepsPromise C.calls.seen) self.old events.items self.new said × Appends (W.contents writer.old) (W.contents writer.new) said) }
+        ensures replayed { OnOk result ((said : List ℕ) × ReplaysWith (HappensBy (world_kind (shown C.calls))) (shown_text Texts) (WorldKeeps C.calls.seen) self.old events.items self.new said × Appends (W.contents writer.old) (W.contents writer.new) said) }
         ensures failed { TellsCannotWrite result (W.failed writer.new) }
     {
         let outcome = replay_events(self, events, Detail::Texts, writer);
@@ -95,7 +95,7 @@ impl<C: Carrier, W: Output> Stage<MixedWorldEvent, W> for MixedWorld<C> {
 
 /// Proves that the book of a world keeps the promise. It is there for the proof only.
 fn keeps_promise<C: Carrier>(world: &World<C>)
-    ensures { KeepsPromise C.calls.seen world.now }
+    ensures { WorldKeeps C.calls.seen world.now }
 {
     let _kept = book_of(world);
 }

@@ -3,7 +3,7 @@ use Rattle.std.specs.Prelude.{◌≡◌, ◌≢◌, ℕ, ◌<◌, Bool, true, fa
 use Rattle.std.specs.List.{filter}
 use Rattle.command_line.specs.Options.{options_of, task_of}
 use Rattle.command_line.specs.declared.options.Task.TheVariants as task
-use Rattle.simulator.specs.Program.{Closes, EndsProgram, LeavesUntouched, is_answered, sides}
+use Rattle.simulator.specs.Program.{Closes, EndsProgram, LeavesUntouched, sides}
 use Rattle.simulator.specs.declared.program.Done.{Done}
 use Rattle.simulator.specs.declared.program.ProgramFault.{ProgramFault}
 
@@ -40,9 +40,8 @@ pub record RunsOn (input : Option (List ℕ)) (words : List (List ℕ)) (before 
   pub unread : Bool
   pub ends : EndsProgram words (sides input left unread before after) r
   pub closes : Closes r unread unwritten flushed Untouched
-  -- words that are refused, and those that the program answers of itself, leave the input unread
+  -- words that are refused leave the input unread
   pub refused : task_of words ≡ None → options_of words ≡ None → (left ≡ input) × Untouched
-  pub answered : is_answered (task_of words) ≡ true → left ≡ input
   -- a fault with another status than 3 leaves nothing written, but for a live session
   pub untouched : task_of words ≢ Some task.Live → LeavesUntouched r Untouched
 

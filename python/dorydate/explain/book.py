@@ -102,12 +102,15 @@ def of_life(book: Book, at: int) -> Iterator[Said]:
     yield Said("promise.safe.partners", paired(book, life))
     yield stream(book, at, others)
     yield from grants(book, life, others)
-    yield Said("over", over(book, life))
-    yield Said("within", within(book, life))
-    yield Said("sent", sent(book, life, others)) if life.receives() else Said("granted", granted(book, life))
-    yield Said("whole", whole(book, life, others))
-    yield Said("arrived.all", all_counted(book, life))
-    yield Said("arrived.closed", all_there(book, life, others))
+    yield Said("promise.over", over(book, life))
+    yield Said("promise.within", within(book, life))
+    if life.receives():
+        yield Said("promise.sent", sent(book, life, others))
+    else:
+        yield Said("promise.granted", granted(book, life))
+    yield Said("promise.whole", whole(book, life, others))
+    yield Said("promise.arrived.all", all_counted(book, life))
+    yield Said("promise.arrived.closed", all_there(book, life, others))
 
 
 def toward(book: Book, at: int) -> Iterator[Said]:
@@ -319,7 +322,7 @@ def of_message(book: Book, at: int) -> Iterator[Said]:
         return  # of what users ask for and are notified of nothing more is promised beside a stranger
     hosts = {"source": spell_host(flow.source), "destination": spell_host(flow.destination)}
     is_reset = flow.link == 0 and list(firsts.RIGHT.commands(message.text)) == [bytes([RST])]
-    yield Said("contacts", filled(SAID["only rst" if is_reset else "no contact"], hosts))
+    yield Said("promise.contacts", filled(SAID["only rst" if is_reset else "no contact"], hosts))
     if flow.link != 0:
         yield Said("promise.told", SAID["sent"])
         yield from arrived(book, at, taken, answer)
@@ -351,18 +354,18 @@ def arrived(book: Book, at: int, taken: list[int], answer: int | None) -> Iterat
     log = book.log
     senders = [it for it in book.lives if not it.receives() and at in READING.counted(log, it)]
     if not senders:
-        yield Said("arrived.answered.sent", SAID["of none"])
+        yield Said("promise.arrived.answered.sent", SAID["of none"])
         return
     number = READING.counted(log, senders[0]).index(at) + 1
-    yield Said("arrived.answered.sent", filled(SAID["of life"], number=number, line=line_of(book, senders[0])))
+    yield Said("promise.arrived.answered.sent", filled(SAID["of life"], number=number, line=line_of(book, senders[0])))
     reply = log[answer] if answer is not None else None
     if not (isinstance(reply, Answered) and reply.answer == "rfnm" and taken):
-        yield Said("arrived.answered.arrived", SAID["no rfnm"])
+        yield Said("promise.arrived.answered.arrived", SAID["no rfnm"])
         return
     receivers = partners(book, senders[0])
-    yield from (Said("arrived.answered.arrived", counted_by(book, it, taken[0])) for it in receivers)
+    yield from (Said("promise.arrived.answered.arrived", counted_by(book, it, taken[0])) for it in receivers)
     if not receivers:
-        yield Said("arrived.answered.arrived", SAID["unmatched"])
+        yield Said("promise.arrived.answered.arrived", SAID["unmatched"])
 
 
 def counted_by(book: Book, life: Life, place: int) -> str:

@@ -57,7 +57,7 @@ from workshop.parts import ROOT, read_octets
 # files, the words after --book, the status, and what is said among others
 BOOKS: list[tuple[str, list[str], int, list[str]]] = [
     ("logs/two-octets", [], 0, ["line 13: socket 16 of 0/1", "line 10: 56 bits from 0/2 to 0/1 on link 5"]),
-    ("logs/two-octets", ["10"], 0, ["arrived.answered.arrived: It is message 1 of the life of line 13"]),
+    ("logs/two-octets", ["10"], 0, ["promise.arrived.answered.arrived: It is message 1 of the life of line 13"]),
     ("logs/two-octets", ["12"], 1, ["line 12 of the log is no life and no message"]),
     ("logs/two-octets", ["x"], 2, ["LINE is a number, and x is none"]),
     ("logs/beside-a-stranger", [], 0, ["line 29: socket 16 of 0/1", "line 17: 48 bits from 0/3 to 0/1 on link 6"]),

@@ -20,15 +20,15 @@ from workshop.documents import believed_promises, believed_words
 from workshop.documents.rules import Place, read
 from workshop.parts import ROOT
 
-MOST_LINES = 604  # without comments, imports and empty lines: what the clauses of book_of need, counted
+MOST_LINES = 616  # without comments, imports and empty lines: what the clauses of book_of need, counted
 MOST_AMONG = 137  # and what those of book_among need beside them
 WORLD = ("net_sim", "World", "WorldState")  # of a world the clauses of book_among use only what is kept, which HEAD_AMONG says
 READING = ("host_pairs", "ncp_control", "bit_messages")  # crates whose definitions say how texts are read
 HEAD = """# What must be believed
 
-`./check docs --write` makes this page from the sources. It has all that [the promise](../headline.md) says of a book without speaking of a program: the clauses of `headline::book_of` but `lawful` and `value`, and every definition that they use, each before those that it uses. These are {definitions} definitions of {files} files, in {lines} lines without comments; `./check docs` wants at most {most}. No host program, packet, route or buffer occurs in them, and no other line of any `specs/` changes what is promised, but for two records, `Kept` and `Seen`.
+`./check docs --write` makes this page from the sources. It has all that [the promise](../headline.md) says of a book without speaking of a program: the clause `promise` of `headline::book_of`, and every definition that it uses, each before those that it uses. These are {definitions} definitions of {files} files, in {lines} lines without comments; `./check docs` wants at most {most}. No host program, packet, route or buffer occurs in them, and no other line of any `specs/` changes what is promised, but for a record, `Seen`.
 
-In a clause, `result` is what `book_of` gives of a world: its `book`, in `handed` the bits that were handed over to be sent in each of the lives, and in `fates` the fate of each (`crates/net_sim/specs/Book.antt`). `(C.calls.seen world.now.carrier).hosts` are the hosts of its network (`crates/interface/specs/Calls.antt`).
+In the clause, `result` is what `book_of` gives of a world. `(C.calls.seen world.now.carrier).hosts` are the hosts of its network (`crates/interface/specs/Calls.antt`).
 
 Logs are read newest first, and all other lists oldest first. Words that definitions share with Rust are [below](#the-types), and so are [those of the language](#the-words-of-the-language), and [a book to try it on](#a-book-to-try-it-on).
 """
@@ -230,6 +230,7 @@ def reading(of: Page = PROMISE) -> tuple[list[tuple[str, dict[Key, Definition]]]
             whole.definitions[clause.first] = own
             whole.seen.add(clause.first)
             sections.append((heading, {clause.first: own}))
+            section("\n### Of what\n", [key for word in WORD.findall(own.lines[0]) for key in named(crate, path, word)])
             for part, keys in clause.parts:
                 section(f"\n### `{part}`\n", keys)
         else:

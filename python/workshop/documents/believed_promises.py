@@ -20,7 +20,7 @@ POINTS = {
 LINKS = re.compile(r" ?\((?:\[[^]]*\]\([^)]*\)(?:, )?)+\)")
 
 STREAM = ("promise.safe.streams.source", "promise.safe.streams.one")
-CLOSED = ("arrived.closed", "whole.took_sent")
+CLOSED = ("promise.arrived.closed", "promise.whole.took_sent")
 PARTNERS = tuple(f"promise.safe.partners.{it}" for it in ("own_once", "partner_once", "peers", "both_ways"))
 GRANTS = ("promise.safe.grants.taken", "promise.safe.grants.sent")
 
@@ -29,12 +29,22 @@ GRANTS = ("promise.safe.grants.taken", "promise.safe.grants.sent")
 PROMISES = (
     (README, "If a sender", ("promise.safe.messages.answered",), ""),
     (README, "No message is taken", ("promise.safe.messages.once", "promise.safe.messages.none_before"), ""),
-    (README, "What a receiver got", ("promise.formed", *STREAM, "sent"), ""),
+    (README, "What a receiver got", ("promise.formed", *STREAM, "promise.sent"), ""),
     (README, "and all of it,", CLOSED, "while the life continues, and where it ended, which `over` ties to both CLS; if it was reset or stopped, by `closes` of `lawful`"),
-    (README, "An RFNM of data", ("arrived.answered", "whole.took_sent"), "for an open life, and for one that ended"),
-    (README, "Nobody receives", (*GRANTS, "granted"), ""),
+    (
+        README,
+        "An RFNM of data",
+        ("promise.arrived.answered", "promise.whole.took_sent"),
+        "for an open life, and for one that ended",
+    ),
+    (README, "Nobody receives", (*GRANTS, "promise.granted"), ""),
     (README, "No request", (*PARTNERS, "promise.joined"), ""),
-    (README, "and after a reset", ("promise.formed", "over", "sent"), "of lives and data; of commands `lawful` says it"),
+    (
+        README,
+        "and after a reset",
+        ("promise.formed", "promise.over", "promise.sent"),
+        "of lives and data; of commands `lawful` says it",
+    ),
     (TOUR, "A message that was", ("promise.safe.messages.answered", "promise.safe.messages.once"), ""),
     (TOUR, "If a receiving", (*STREAM, "promise.safe.streams.sent"), ""),
     (TOUR, "What was taken, and", GRANTS, ""),

@@ -259,8 +259,8 @@ class Believed(unittest.TestCase):
 
     def test_the_page_begins_with_the_promise(self) -> None:
         first, *others = believed.reading()[0]
-        self.assertEqual([name for _, _, name in first[1]], ["Promised"])
-        self.assertEqual([heading.strip() for heading, _ in others[:5]], ["### `run`", "### `formed`", "### `told`", "### `safe`", "### `joined`"])
+        self.assertEqual([name for _, _, name in first[1]], ["KeepsPromise"])
+        self.assertEqual([heading.strip() for heading, _ in others[1:6]], ["### `run`", "### `formed`", "### `told`", "### `safe`", "### `joined`"])
 
 
 class Figures(unittest.TestCase):

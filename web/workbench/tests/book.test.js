@@ -52,13 +52,13 @@ test("what a life counts is told before and after its end", () => {
     const before = stopped.replace("life 0/1", "down 0/2\nlife 0/1");
     const after = stopped.replace("out 0/2 0/1 5", "down 0/2\nup 0/2\nout 0/2 0/1 5");
     const within = (/** @type {string} */ log, /** @type {number} */ line) =>
-        printed(log, line)?.find((it) => it.startsWith("  within:"));
+        printed(log, line)?.find((it) => it.startsWith("  promise.within:"));
     assert(/ended it crossed in line 13, after all that it counts: 1 message/.test(within(before, 15) ?? ""));
     assert(/ended it crossed in line 10, and it counts what crossed later, in line 12/.test(within(after, 16) ?? ""));
 });
 
 test("what a life sent is told beside what ALLs grant", () => {
-    const granted = (/** @type {string} */ log) => printed(log, 14)?.find((it) => it.startsWith("  granted:"));
+    const granted = (/** @type {string} */ log) => printed(log, 14)?.find((it) => it.startsWith("  promise.granted:"));
     assert(/no more than the 1 message and 100 bits that .* grant on link 5/.test(granted(octets) ?? ""));
     const other = octets.replaceAll("0008000405000100000064", "0008000406000100000064");
     assert(/more than the 0 messages and 0 bits that .* grant on link 5/.test(granted(other) ?? ""));

@@ -1,6 +1,6 @@
 -- A replay over the carrier of a topology continues, and ends.
 use Rattle.command_line.proofs.Common.{◌≡◌, ◌⊎◌, inl, inr, ℕ, Bool, List, [], ◌++◌, Option, Result, OnOk, codes, ap}
-use Rattle.command_line.proofs.Common.{sym, subst, ◌∙◌, Appends, Keeps, KeepsPromise, IsRun, SafeMessages, shown}
+use Rattle.command_line.proofs.Common.{sym, subst, ◌∙◌, Appends, Keeps, WorldKeeps, IsRun, SafeMessages, shown}
 use Rattle.command_line.proofs.Common.{WorldState, opening_world, Life, Writes, crossings_of, output, Calls, Detail}
 use Rattle.command_line.proofs.Common.{RawEvent, TopologyFields, CarrierKind, WorldEvent, LogsOn, LogsOver, ReplaysOn}
 use Rattle.command_line.proofs.Common.{ReplaysOver, ShowsBook, ShowsFrom, StopsFrom, WorldShowsFrom, WorldStopsFrom}
@@ -55,7 +55,7 @@ pub shows_book : (last : Kept) (shows : List lines.Shown) → world.HaveGains op
 shows_book last shows h = record { crossed = h.crossed ∙ append-nil (reverse (lines.crossings_of shows)); told = h.told; said = h.said }
 
 pub world_writes_all : {C : Type 0} (calls : Calls C) (carrier : C) (opening last : WorldState C) (events : List WorldEvent) (lives : List Life) (book : Bool) (detail : Detail) (a b c : Option (List ℕ)) → opening ≡ opening_world (shown calls) carrier
-    → lines.Writes detail (worlds.Replays (shown calls) opening events last) a b → KeepsPromise calls.seen last → lives ≡ last.kept.book.lives → Appends b c (book_text book lives ++ codes "end\n")
+    → lines.Writes detail (worlds.Replays (shown calls) opening events last) a b → WorldKeeps calls.seen last → lives ≡ last.kept.book.lives → Appends b c (book_text book lives ++ codes "end\n")
     → WritesWorld book detail (WorldShowsFrom calls carrier events) a c
 world_writes_all {C} calls carrier opening last events lives book detail a b c is h promise left end =
     let from : worlds.Replays (shown calls) (opening_world (shown calls) carrier) events last h.shown =
@@ -74,7 +74,7 @@ world_writes_all {C} calls carrier opening last events lives book detail a b c i
     }
 
 pub world_writes_part : {C : Type 0} (calls : Calls C) (carrier : C) (opening last : WorldState C) (events : List WorldEvent) (detail : Detail) (a b : Option (List ℕ)) → opening ≡ opening_world (shown calls) carrier
-    → lines.Writes detail (worlds.EndsIn (shown calls) (worlds.StopsIn (shown calls)) opening events last) a b → KeepsPromise calls.seen last
+    → lines.Writes detail (worlds.EndsIn (shown calls) (worlds.StopsIn (shown calls)) opening events last) a b → WorldKeeps calls.seen last
     → lines.Writes detail (WorldStopsFrom calls carrier events) a b
 world_writes_part {C} calls carrier opening last events detail a b is h promise =
     let from : worlds.EndsIn (shown calls) (worlds.StopsIn (shown calls)) (opening_world (shown calls) carrier) events last h.shown =

@@ -1,4 +1,4 @@
-use Rattle.command_line.proofs.Common.{Calls, Sizes, None, subst, given, AreSuited}
+use Rattle.command_line.proofs.Common.{Calls, Sizes, None, subst, world_keeps, AreSuited}
 use Rattle.net_sim.specs.Book.{Kept}
 use Rattle.book_judge.proofs.lemmas.{suited_with}
 use Rattle.command_line.proofs.Logs.{logs_world}
@@ -11,8 +11,8 @@ returns-in-Ok-clause-logged g c =
     c.book_of-book.result None None
     (g.W.Output.contents c.args.writer.now) (g.W.Output.contents c.write_book.new.writer) c.in_ok-world.ensures
     c.in-Ok.ensures.replayed
-    (given calls.seen c.replay_events.new.world c.book_of-book.result c.book_of-book.ensures.value c.book_of-book.ensures.promise c.book_of-book.ensures.fated c.book_of-book.ensures.whole c.book_of-book.ensures.arrived c.book_of-book.ensures.over c.book_of-book.ensures.contacts c.book_of-book.ensures.within c.book_of-book.ensures.sent c.book_of-book.ensures.granted c.book_of-book.ensures.lawful)
+    (world_keeps calls.seen c.replay_events.new.world c.book_of-book.result c.book_of-book.ensures.value c.book_of-book.ensures.promise c.book_of-book.ensures.lawful)
     c.book_of-book.ensures.value
     (subst (λ (k : Kept). AreSuited k.book.crossings k.book.lives k.fates) c.book_of-book.ensures.value
-    (suited_with c.book_of-book.result.book.contacts c.book_of-book.result.book.crossings c.book_of-book.result.book.lives c.book_of-book.result.fates c.book_of-book.ensures.contacts c.book_of-book.ensures.over))
+    (suited_with c.book_of-book.result.book.contacts c.book_of-book.result.book.crossings c.book_of-book.result.book.lives c.book_of-book.result.fates c.book_of-book.ensures.promise.contacts c.book_of-book.ensures.promise.over))
     c.in_ok-write_book-in-Ok.ensures.written c.in_ok-write_book-in-Ok.ensures.valid

@@ -5,8 +5,8 @@ use Rattle.interface.specs.declared.crossing.Crossing.{Crossing}
 use Rattle.net_sim.specs.Audit.{Says}
 use Rattle.net_sim.specs.Book.{Kept}
 use Rattle.promise.specs.declared.life.Life.{Life}
-use Rattle.promise.specs.Promised.{Promised}
 use Rattle.net_sim.specs.declared.auditing.said.Audit.TheVariants as said
+use Rattle.headline.specs.Promise.{KeepsPromise}
 use Rattle.headline.proofs.Audited.{kept_promise}
 use Rattle.headline.proofs.audits.audit_of.Goals as goal
 
@@ -19,7 +19,7 @@ returns g c =
     let handed : c.handed.result.now ≡ k.handed = c.handed.ensures.value in
     let hosts : List Host = (g.C.Carrier.calls.seen c.args.world.now.carrier).hosts in
     let says : Says said.Kept k.book.crossings k.book.lives k.handed =
-    kept_promise hosts k.book k.handed (subst (λ (j : Kept). Promised hosts j.book j.handed) c.book_of-book.ensures.value c.book_of-book.ensures.promise) in
+    kept_promise hosts k (subst (KeepsPromise hosts) c.book_of-book.ensures.value c.book_of-book.ensures.promise) in
     let with_handed = subst (λ (h : List (List Bool)). Says said.Kept k.book.crossings k.book.lives h) (sym handed) says in
     let with_lives = subst (λ (xs : List Life). Says said.Kept k.book.crossings xs c.handed.result.now) (sym lives) with_handed in
     (c.audit.ensures said.Kept).1 (subst (λ (l : List Crossing). Says said.Kept l c.lives.result.now c.handed.result.now) (sym log) with_lives)

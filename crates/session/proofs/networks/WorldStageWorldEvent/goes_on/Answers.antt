@@ -1,4 +1,4 @@
-use Rattle.headline.specs.Promise.{KeepsPromise}
+use Rattle.headline.specs.Promise.{WorldKeeps}
 use Rattle.net_sim.specs.Carriers.{shown}
 use Rattle.replay.specs.declared.print.Detail.TheVariants.{Texts}
 use Rattle.world_replay.specs.Kinds.{HappensBy}
@@ -8,4 +8,4 @@ use Rattle.session.proofs.Parts.{goes_on}
 use Rattle.session.proofs.networks.WorldStageWorldEvent.goes_on.Goals as goal
 
 pub returns : goal.returns
-returns g c = goes_on (HappensBy (world_kind (shown g.C.Carrier.calls))) (shown_text Texts) (KeepsPromise g.C.Carrier.calls.seen)
+returns g c = goes_on (HappensBy (world_kind (shown g.C.Carrier.calls))) (shown_text Texts) (WorldKeeps g.C.Carrier.calls.seen)
