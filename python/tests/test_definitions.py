@@ -239,15 +239,15 @@ class OfLogs(unittest.TestCase):
         """Whether it has the bits of the one that was sent, or both have none, only message by message it shows."""
         for file in ("an-old-message", "an-old-message-without-bits"):
             found = self.broken(file=file)
-            self.assertEqual([*found], ["sent", "granted"])  # no ALL crosses there
-            self.assertIn("receiver: line 28", found["sent"])
+            self.assertEqual([*found], ["promise.sent"])
+            self.assertIn("receiver: line 34", found["promise.sent"])
 
     def test_a_contact_that_nobody_sees(self) -> None:
         self.assertEqual(self.broken(("receive 1 16 1 100 0 0 open", "receive 1 16 1 100 0 0 reset")), {})
 
     def test_a_fate_that_nothing_leaves(self) -> None:
         self.assertEqual(
-            self.broken(("receive 1 16 1 100 0 0 open", "receive 1 16 1 100 0 0 stopped"))["over"],
+            self.broken(("receive 1 16 1 100 0 0 open", "receive 1 16 1 100 0 0 stopped"))["promise.over"],
             ("x: line 13", "f: Stopped"),
         )
 

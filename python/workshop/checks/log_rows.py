@@ -357,15 +357,15 @@ VERDICTS = [
 
 # ---- the log of a message of before a reset that is taken after it, with a text changed, and the verdict
 
-TAKES_TWO, SENDS_TWO = OLD.splitlines()[27:29]
+TAKES_TWO, SENDS_TWO = OLD.splitlines()[33:35]
 SENT = [
-    ("", "", "broken sent lines 28 29"),
+    ("", "", "broken sent lines 34 35"),
     # the first only isn't the sender's first, and none is counted
-    (TAKES_TWO, TAKES_TWO.replace("2 16 9", "1 8 9").replace("5858", "58"), "broken sent lines 28 29"),
+    (TAKES_TWO, TAKES_TWO.replace("2 16 9", "1 8 9").replace("5858", "58"), "broken sent lines 34 35"),
     (TAKES_TWO, TAKES_TWO.replace("2 16 9", "0 0 9").replace("5858", "-"), "kept"),
     # whichever line is first, the receiver's is named first; and nobody else where its sender isn't there
-    (f"{TAKES_TWO}\n{SENDS_TWO}", f"{SENDS_TWO}\n{TAKES_TWO}", "broken streams line 28\nbroken sent lines 29 28"),
-    (SENDS_TWO, SENDS_TWO.replace("0/1 16 16", "0/1 18 16"), "broken lives line 29\nbroken streams line 28\nbroken sent line 28"),
+    (f"{TAKES_TWO}\n{SENDS_TWO}", f"{SENDS_TWO}\n{TAKES_TWO}", "broken streams line 34\nbroken sent lines 35 34"),
+    (SENDS_TWO, SENDS_TWO.replace("0/1 16 19", "0/1 18 19"), "broken lives line 35\nbroken streams line 34\nbroken sent line 34"),
 ]
 
 # ---- logs of one line and `end`, and the verdict; those that are bad
