@@ -97,7 +97,7 @@ fn in_a_row(alloc: Global, hosts: Vec<HostAddr>, count: u8) -> Option<Subnet> {
 /// What is seen of a world over a carrier.
 fn of_world<C: Carrier>(alloc: Global, carrier: C, script: &str) -> Option<Seen> {
     let mut events = Vec::new(alloc);
-    for event in read_world_script(alloc, script.as_bytes()).ok()? {
+    for event in read_world_script(alloc, script.as_bytes(), false).ok()? {
         match event {
             WorldEvent::Happen(event) => events.push(event).ok()?,
             WorldEvent::Calm(rounds) => {

@@ -63,5 +63,4 @@ pub use Rattle.topology.specs.Mixed.{MixedFields}
 pub use Rattle.topology.specs.Topology.{TopologyFields, hosts_of}
 pub use Rattle.topology.specs.declared.network.CarrierKind.{CarrierKind}
 pub use Rattle.trace.proofs.lemmas.{plain_settled}
-pub use Rattle.world_script.specs.declared.event.MixedWorldEvent.{MixedWorldEvent}
 pub use Rattle.world_script.specs.declared.event.WorldEvent.{WorldEvent}

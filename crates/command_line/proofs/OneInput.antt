@@ -16,7 +16,7 @@ events_once : (raw : Bool) (events others : Asked) (lines : List (List ℕ)) →
 events_once true (Raw events) (Raw others) lines h k = ap Raw (asked_once events others lines h k)
 events_once true (Raw events) (World others) lines h k = absurd k
 events_once true (World events) others lines h k = absurd h
-events_once false (World events) (World others) lines h k = ap World (world_asked_once events others lines h k)
+events_once false (World events) (World others) lines h k = ap World (world_asked_once false events others lines h k)
 events_once false (World events) (Raw others) lines h k = absurd k
 events_once false (Raw events) others lines h k = absurd h
 

@@ -27,9 +27,9 @@ abbrev pub AsksFor : Bool → Asked → List (List ℕ) → Type 0
 AsksFor true (Raw events) lines = AskFor events lines
 AsksFor true (World events) lines = ⊥
 AsksFor false (Raw events) lines = ⊥
-AsksFor false (World events) lines = world.AskFor events lines
+AsksFor false (World events) lines = world.AskFor false events lines
 
 -- this is the first line that asks for no event
 abbrev pub IsFirstBadIn : Bool → List ℕ → ℕ → Type 0
 IsFirstBadIn true text number = IsFirstBad text number
-IsFirstBadIn false text number = IsFirstBadAs world_spelling IsWorldEvent text number
+IsFirstBadIn false text number = IsFirstBadAs world_spelling (IsWorldEvent false) text number

@@ -16,7 +16,7 @@ use Rattle.topology.specs.declared.network.CarrierKind.{CarrierKind}
 use Rattle.topology.specs.declared.network.CarrierKind.TheVariants as kind
 use Rattle.world_replay.specs.Kinds.{ReplaysBy, mixed_kind}
 use Rattle.world_replay.specs.Output.{Shown}
-use Rattle.world_script.specs.declared.event.MixedWorldEvent.{MixedWorldEvent}
+use Rattle.world_script.specs.declared.event.WorldEvent.{WorldEvent}
 use Rattle.command_line.specs.Carriers.{plain_of, subnet_of}
 use Rattle.command_line.specs.Logs.{Logged, LogsInput, world_book}
 use Rattle.command_line.specs.Mixed.{IsMixedInput}
@@ -30,7 +30,7 @@ ArePicked hosts strangers = (p : Host → Bool) × (strangers ≡ filter p hosts
 -- others, and has a list and a fate for each life. A line for each stranger is written, then the log of this book, and
 -- nothing else. It says all values as they are
 pub record MixedLogsFrom {C : Type 0} (calls : Calls C) (strangers : List Host) (opening : C)
-    (events : List MixedWorldEvent) (before after : Option (List ℕ)) : Type 0 where
+    (events : List WorldEvent) (before after : Option (List ℕ)) : Type 0 where
   pub there : absent_in (calls.seen opening).hosts strangers ≡ None
   pub named : AreStrangers strangers
   pub last : MixedState C
@@ -44,27 +44,27 @@ pub record MixedLogsFrom {C : Type 0} (calls : Calls C) (strangers : List Host) 
   pub valid : IsBook (world_book last.world.kept)
 
 -- over the carrier that a topology names: plain mailboxes between its hosts, or the subnet of its IMPs and lines
-abbrev pub MixedLogsOver : CarrierKind → MixedFields → List MixedWorldEvent → Option (List ℕ) → Option (List ℕ)
+abbrev pub MixedLogsOver : CarrierKind → MixedFields → List WorldEvent → Option (List ℕ) → Option (List ℕ)
     → Type 0
 MixedLogsOver kind.Plain t events before after =
     MixedLogsFrom plain_calls t.strangers (plain_of t.network) events before after
 MixedLogsOver kind.Subnet t events before after =
     MixedLogsFrom subnet_calls t.strangers (subnet_of t.network) events before after
 
-abbrev pub MixedLogsOn : MixedFields → List MixedWorldEvent → Option (List ℕ) → Option (List ℕ) → Type 0
+abbrev pub MixedLogsOn : MixedFields → List WorldEvent → Option (List ℕ) → Option (List ℕ) → Type 0
 MixedLogsOn t events before after = MixedLogsOver t.network.carrier t events before after
 
 -- the script of an input is replayed over the carrier of its topology, and the log of its book is written
 pub record MixedLogsInput (octets : List ℕ) (before after : Option (List ℕ)) : Type 0 where
   pub network : MixedFields
-  pub events : List MixedWorldEvent
+  pub events : List WorldEvent
   pub input : IsMixedInput octets network events
   pub logged : MixedLogsOn network events before after
 
 -- the same of some script over the carrier of some topology, for any reader
 pub record MixedLogged (before after : Option (List ℕ)) : Type 0 where
   pub network : MixedFields
-  pub events : List MixedWorldEvent
+  pub events : List WorldEvent
   pub logged : MixedLogsOn network events before after
 
 -- ---- with strangers or without

@@ -1,7 +1,7 @@
 -- What the contracts of private functions say. No public clause cites this file.
 use Rattle.std.specs.Prelude.{ℕ, Bool, List}
 use Rattle.script.specs.Script.{IsFirstBadAs}
-use Rattle.world_script.specs.Mixed.{IsEventAmong, mixed_spelling}
+use Rattle.world_script.specs.WorldSpelling.{IsWorldEvent, world_spelling}
 use Rattle.command_line.specs.Events.{IsFirstBadIn}
 use Rattle.command_line.specs.declared.fault.ScriptFault.{ScriptFault}
 use Rattle.command_line.specs.declared.fault.ScriptFault.TheVariants as fault
@@ -48,7 +48,7 @@ IsEventsFault raw text fault.CannotWrite = ⊥
 
 -- and of a script where there are strangers
 abbrev pub IsEventsFaultAmong : List ℕ → ScriptFault → Type 0
-IsEventsFaultAmong text (fault.BadLine number) = IsFirstBadAs mixed_spelling IsEventAmong text number
+IsEventsFaultAmong text (fault.BadLine number) = IsFirstBadAs world_spelling (IsWorldEvent true) text number
 IsEventsFaultAmong text fault.OutOfMemory = Unit {0}
 IsEventsFaultAmong text fault.BadTopology = ⊥
 IsEventsFaultAmong text fault.TooLong = ⊥

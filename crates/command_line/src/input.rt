@@ -72,7 +72,7 @@ fn read_events(alloc: Global, raw: bool, script: &[u8]) -> Result<Events, Script
             Err(fault) => fault,
         }
     } else {
-        match read_world_script(alloc, script) {
+        match read_world_script(alloc, script, false) {
             Ok(events) => return Ok(Events::World(events)),
             Err(fault) => fault,
         }

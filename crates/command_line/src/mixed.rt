@@ -4,7 +4,7 @@ ghost use Rattle.std.specs.Prelude.{◌≡◌, ◌≢◌, ◌≤◌, ◌↔◌, 
 ghost use Rattle.net_sim.specs.MixedWorlds.{absent_in};
 ghost use Rattle.script.specs.Script.{lines_of};
 ghost use Rattle.topology.specs.Mixed.{MixedFields};
-ghost use Rattle.world_script.specs.Mixed.{AskForMixed};
+ghost use Rattle.world_script.specs.WorldScript.{AskFor};
 ghost use Rattle.command_line.specs.Mixed.{DescribesMixed, IsMixedFault, IsMixedInput, MixedEndsOn, MixedReplaysOn, MixedShowsFrom, MixedWritesPart};
 ghost use Rattle.command_line.specs.Replayed.{WritesWorld};
 ghost use Rattle.command_line.specs.Steps.{IsEventsFaultAmong, IsNetworkFault, IsReplayFault};
@@ -22,7 +22,7 @@ use std::alloc::Global;
 use std::str;
 use topology::{CarrierKind, MixedTopology, TopologyFault};
 use world_replay::replay_mixed_events;
-use world_script::{MixedWorldEvent, read_mixed_script};
+use world_script::{WorldEvent, read_world_script};
 
 /// What an input of a network with strangers asks for.
 #[derive(Drop)]
@@ -30,7 +30,7 @@ pub struct MixedInput {
     /// Its topology.
     pub network: MixedTopology,
     /// The events of its script.
-    pub events: Vec<MixedWorldEvent>,
+    pub events: Vec<WorldEvent>,
 }
 
 /// Returns the input of a network with strangers that these octets are.
@@ -60,11 +60,11 @@ pub fn read_mixed_input(alloc: Global, octets: &[u8]) -> Result<MixedInput, Scri
 /// Returns the events that a script asks for.
 ///
 /// Errors: `BadLine` for the first line that is no event, `OutOfMemory`.
-fn read_mixed_events(alloc: Global, script: &[u8]) -> Result<Vec<MixedWorldEvent>, ScriptFault>
+fn read_mixed_events(alloc: Global, script: &[u8]) -> Result<Vec<WorldEvent>, ScriptFault>
     requires { length script.now ≤ MAX_INPUT }
-    ensures { MatchResult result (λ events. AskForMixed events.items (lines_of script.now)) (IsEventsFaultAmong script.now) }
+    ensures { MatchResult result (λ events. AskFor true events.items (lines_of script.now)) (IsEventsFaultAmong script.now) }
 {
-    match read_mixed_script(alloc, script) {
+    match read_world_script(alloc, script, true) {
         Ok(events) => Ok(events),
         Err(LineFault::BadLine(number)) => Err(ScriptFault::BadLine(number)),
         Err(LineFault::OutOfMemory) => Err(ScriptFault::OutOfMemory),
@@ -95,7 +95,7 @@ fn read_mixed_network(alloc: Global, document: &[u8]) -> Result<MixedTopology, S
 pub(crate) fn replay_mixed_on<W: Output>(
     alloc: Global,
     topology: &MixedTopology,
-    events: Vec<MixedWorldEvent>,
+    events: Vec<WorldEvent>,
     book: bool,
     detail: Detail,
     writer: &mut W,
@@ -131,7 +131,7 @@ fn replay_mixed<C: Carrier, W: Output>(
     alloc: Global,
     carrier: C,
     strangers: &[HostAddr],
-    events: Vec<MixedWorldEvent>,
+    events: Vec<WorldEvent>,
     book: bool,
     detail: Detail,
     writer: &mut W,

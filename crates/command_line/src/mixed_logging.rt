@@ -20,7 +20,7 @@ use script::MAX_INPUT;
 use std::alloc::Global;
 use topology::{CarrierKind, MixedTopology};
 use world_replay::replay_mixed_events;
-use world_script::MixedWorldEvent;
+use world_script::WorldEvent;
 
 /// Writes the log of the input of a network with strangers that octets are.
 ///
@@ -49,7 +49,7 @@ pub(crate) fn log_mixed<W: Output>(
 fn log_mixed_on<W: Output>(
     alloc: Global,
     topology: &MixedTopology,
-    events: Vec<MixedWorldEvent>,
+    events: Vec<WorldEvent>,
     writer: &mut W,
 ) -> Result<(), ScriptFault>
     requires whole { W.failed writer.old ≡ false }
@@ -84,7 +84,7 @@ fn log_among<C: Carrier, W: Output>(
     alloc: Global,
     carrier: C,
     strangers: &[HostAddr],
-    events: Vec<MixedWorldEvent>,
+    events: Vec<WorldEvent>,
     writer: &mut W,
 ) -> Result<(), ScriptFault>
     requires unused { (C.calls.seen carrier).log ≡ [] }

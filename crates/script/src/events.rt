@@ -26,21 +26,21 @@ pub fn read_script(alloc: Global, text: &[u8]) -> Result<Vec<RawEvent>, LineFaul
     requires { length text.now ≤ MAX_INPUT }
     ensures { MatchResult result (λ events. AskFor events.items (lines_of text.now)) (IsLineFault text.now) }
 {
-    read_events(alloc, text)
+    read_events(alloc, text, false)
 }
 
 impl ScriptEvent for RawEvent {
     ghost spelled = { spelling };
 
-    ghost is_meant = { IsEvent };
+    ghost is_meant = { λ strangers. IsEvent };
 
-    ghost wants = { WantsMemory };
+    ghost wants = { λ strangers. WantsMemory };
 
-    fn read(alloc: Global, line: &[u8]) -> Result<Option<RawEvent>, AllocError> {
+    fn read(alloc: Global, line: &[u8], _strangers: bool) -> Result<Option<RawEvent>, AllocError> {
         read_event(alloc, line)
     }
 
-    ghost kept = { λ e line same meant. inr (e, same, meant) };
+    ghost kept = { λ strangers e line same meant. inr (e, same, meant) };
 }
 
 /// Returns whether a line is empty or a comment.

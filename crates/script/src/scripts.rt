@@ -1,6 +1,6 @@
 //! Scripts of any kind: one event a line.
 
-ghost use Rattle.std.specs.Prelude.{◌≡◌, ℕ, ◌≤◌, List, length, MatchResult, IfOk, IfErr};
+ghost use Rattle.std.specs.Prelude.{◌≡◌, Bool, ℕ, ◌≤◌, List, length, MatchResult, IfOk, IfErr};
 ghost use Rattle.script.specs.Script.{AskForAs, IsLineFaultAs, lines_of};
 ghost use Rattle.script.specs.Spelling.{ReadsAs};
 
@@ -14,31 +14,36 @@ pub trait ScriptEvent: Drop {
     /// The line that asks for it.
     ghost spelled: { Self → List ℕ };
 
-    /// Which events a script may ask for: it may hold values that no line spells.
-    ghost is_meant: { Self → Type 0 };
+    /// Which events a script may ask for, by whether there are strangers, hosts without a program, among those with one.
+    /// It may hold values that no line spells.
+    ghost is_meant: { Bool → Self → Type 0 };
 
     /// Which lines need memory to be read and kept.
-    ghost wants: { List ℕ → Type 0 };
+    ghost wants: { Bool → List ℕ → Type 0 };
 
     /// Returns the event that a line asks for. `None` if the line is not a valid event.
     ///
     /// Errors: `AllocError`, only for a line that needs memory.
-    fn read(alloc: Global, line: &[u8]) -> Result<Option<Self>, AllocError>
-        ensures read { IfOk result (ReadsAs spelled is_meant line.now) }
-        ensures memory { IfErr result (λ _. wants line.now) };
+    fn read(alloc: Global, line: &[u8], strangers: bool) -> Result<Option<Self>, AllocError>
+        ensures read { IfOk result (ReadsAs spelled (is_meant strangers) line.now) }
+        ensures memory { IfErr result (λ _. wants strangers line.now) };
 
     /// The line of each event is one of these, since the event is kept.
-    ghost kept: { (e : Self) (line : List ℕ) → line ≡ spelled e → is_meant e → wants line };
+    ghost kept: { (strangers : Bool) (e : Self) (line : List ℕ) → line ≡ spelled e → is_meant strangers e → wants strangers line };
 }
 
-/// Returns the events of a script, in order. Empty lines and lines that begin with `#` are ignored, but they are
-/// counted.
+/// Returns the events of a script of a network with strangers, or without, in order. Empty lines and lines that begin
+/// with `#` are ignored, but they are counted.
 ///
 /// Errors: `BadLine` with the number of the first line, counted from 1, that is not an event. `OutOfMemory` only
 /// at a line that needs memory, with no bad line before it.
-pub fn read_events<E: ScriptEvent>(alloc: Global, text: &[u8]) -> Result<Vec<E>, LineFault>
+pub fn read_events<E: ScriptEvent>(
+    alloc: Global,
+    text: &[u8],
+    strangers: bool,
+) -> Result<Vec<E>, LineFault>
     requires { length text.now ≤ MAX_INPUT }
-    ensures { MatchResult result (λ events. AskForAs E.spelled E.is_meant events.items (lines_of text.now)) (IsLineFaultAs E.spelled E.is_meant E.wants text.now) }
+    ensures { MatchResult result (λ events. AskForAs E.spelled (E.is_meant strangers) events.items (lines_of text.now)) (IsLineFaultAs E.spelled (E.is_meant strangers) (E.wants strangers) text.now) }
 {
     let mut events = Vec::new(alloc);
     let mut passed = 0;
@@ -46,7 +51,7 @@ pub fn read_events<E: ScriptEvent>(alloc: Global, text: &[u8]) -> Result<Vec<E>,
     'lines: while let Some(left) = rest {
         let (line, more) = first_line(left);
         if !is_passed_over(line) {
-            let Some(event) = E::read(alloc, line)? else {
+            let Some(event) = E::read(alloc, line, strangers)? else {
                 return Err(LineFault::BadLine(passed + 1));
             };
             events.push(event)?;

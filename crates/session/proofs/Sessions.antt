@@ -8,7 +8,7 @@ use Rattle.script.proofs.lemmas.{parted_once}
 use Rattle.script.specs.Input.{IsParted}
 use Rattle.topology.specs.Mixed.{MixedFields}
 use Rattle.topology.specs.Topology.{TopologyFields}
-use Rattle.world_script.specs.declared.event.MixedWorldEvent.{MixedWorldEvent}
+use Rattle.world_script.specs.declared.event.WorldEvent.{WorldEvent}
 use Rattle.command_line.specs.Described.{Describes}
 use Rattle.command_line.specs.Either.{IsEitherFault}
 use Rattle.command_line.specs.Events.{Asked}
@@ -89,7 +89,7 @@ module _ (head document : List ℕ) (opens : IsHead head document) where
   short_after : (script : List ℕ) → length head + length script ≤ 268435456 → length (head ++ script) ≤ 268435456
   short_after script short = (let both : length (head ++ script) ≡ length head + length script = length-append head script in omega (arith, both, short))
 
-  pub mixed_reads : (network : MixedFields) (events : List MixedWorldEvent) → IsMixedInput head network events
+  pub mixed_reads : (network : MixedFields) (events : List WorldEvent) → IsMixedInput head network events
       → Translates (length head) (on_mixed network) (after_head head)
   mixed_reads network events input =
       let described : DescribesMixed document network =

@@ -15,7 +15,6 @@ use Rattle.topology.specs.declared.network.CarrierKind.TheVariants as kind
 use Rattle.world_replay.proofs.lemmas.Gained.{replays_show}
 use Rattle.world_replay.specs.Kinds.{HappensBy, ReplaysBy, mixed_kind}
 use Rattle.world_replay.specs.Output as lines
-use Rattle.world_script.specs.Mixed.{IsEventAmong, mixed_spelling}
 use Rattle.command_line.specs.Carriers.{plain_of, subnet_of}
 use Rattle.command_line.specs.Mixed.{MixedReplaysOver}
 use Rattle.command_line.specs.Events.{Raw, World}
@@ -37,7 +36,7 @@ use Rattle.session.proofs.Sessions.{Translates}
 
 pub mixed_prints : {C : Type 0} (calls : Calls C) (strangers : List Host) (carrier : C) (opening : MixedState C)
     → opening ≡ opening_mixed (shown calls) carrier strangers → (script said : List ℕ)
-    → Prints mixed_spelling IsEventAmong (ReplaysWith (HappensBy (mixed_kind (shown calls))) (lines.shown_text Texts) (KeepsAll calls)) opening script said
+    → Prints world_spelling (IsWorldEvent true) (ReplaysWith (HappensBy (mixed_kind (shown calls))) (lines.shown_text Texts) (KeepsAll calls)) opening script said
     → (among calls strangers carrier).Prints script said
 mixed_prints {C} calls strangers carrier opening is script said (last, h) =
     let from : ReplaysBy (mixed_kind (shown calls)) (opening_mixed (shown calls) carrier strangers) h.events last h.replayed.0 =
@@ -106,7 +105,7 @@ raw_prints calls carrier empty script said last h = (
 )
 
 pub world_prints : {C : Type 0} (calls : Calls C) (carrier : C) (opening : WorldState C) → opening ≡ opening_world (shown calls) carrier → (script said : List ℕ)
-    → Prints world_spelling IsWorldEvent (ReplaysWith (HappensBy (world_kind (shown calls))) (lines.shown_text Texts) (WorldKeeps calls.seen)) opening script said
+    → Prints world_spelling (IsWorldEvent false) (ReplaysWith (HappensBy (world_kind (shown calls))) (lines.shown_text Texts) (WorldKeeps calls.seen)) opening script said
     → (over calls carrier false).Prints script said
 world_prints {C} calls carrier opening is script said (last, h) =
     let from : ReplaysBy (world_kind (shown calls)) (opening_world (shown calls) carrier) h.events last h.replayed.0 =

@@ -7,8 +7,9 @@ use Rattle.replay.specs.declared.print.Detail.TheVariants.{Texts}
 use Rattle.script.specs.Script.{IsFirstBadAs, lines_of}
 use Rattle.topology.specs.Mixed.{MixedFields}
 use Rattle.topology.specs.Topology.{TopologyFields}
-use Rattle.world_script.specs.Mixed.{AskForMixed, IsEventAmong, mixed_spelling}
-use Rattle.world_script.specs.declared.event.MixedWorldEvent.{MixedWorldEvent}
+use Rattle.world_script.specs.WorldScript.{AskFor}
+use Rattle.world_script.specs.WorldSpelling.{IsWorldEvent, world_spelling}
+use Rattle.world_script.specs.declared.event.WorldEvent.{WorldEvent}
 use Rattle.command_line.specs.Either.{IsEitherFault, ReplaysEither}
 use Rattle.command_line.specs.Events.{Asked, AsksFor, IsFirstBadIn}
 use Rattle.command_line.specs.Mixed.{MixedReplaysOn, MixedShowsFrom}
@@ -77,14 +78,14 @@ on t = record {
 
 abbrev pub among : {C : Type 0} → Calls C → List Host → C → Reading
 among calls strangers carrier = record {
-  Prints = λ script said. (events : List MixedWorldEvent) × AskForMixed events (lines_of script)
+  Prints = λ script said. (events : List WorldEvent) × AskFor true events (lines_of script)
       × WritesWorld false Texts (MixedShowsFrom calls strangers carrier events) (Some []) (Some (said ++ codes "end\n"));
-  Refuses = IsFirstBadAs mixed_spelling IsEventAmong;
+  Refuses = IsFirstBadAs world_spelling (IsWorldEvent true);
 }
 
 abbrev pub on_mixed : MixedFields → Reading
 on_mixed t = record {
-  Prints = λ script said. (events : List MixedWorldEvent) × AskForMixed events (lines_of script)
+  Prints = λ script said. (events : List WorldEvent) × AskFor true events (lines_of script)
       × MixedReplaysOn t false Texts events (Some []) (Some (said ++ codes "end\n"));
-  Refuses = IsFirstBadAs mixed_spelling IsEventAmong;
+  Refuses = IsFirstBadAs world_spelling (IsWorldEvent true);
 }

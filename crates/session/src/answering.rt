@@ -12,15 +12,16 @@ use script::reading::{ScriptEvent, read_events};
 use script::{LineFault, MAX_INPUT};
 use std::alloc::Global;
 
-/// Hears the lines of a script to the end of the input, and answers each before it hears the next: what its event
-/// shows, and an empty line. Octets of the script that were read already are in `ahead`; `heard` octets of the input
-/// were heard before.
+/// Hears the lines of a script of a network with strangers, or without, to the end of the input, and answers each before
+/// it hears the next: what its event shows, and an empty line. Octets of the script that were read already are in `ahead`;
+/// `heard` octets of the input were heard before.
 ///
 /// Errors: `CannotRead`, `TooLong` and `OutOfMemory` as in [`hear`]; `BadLine` for the first line that is no event;
 /// `OutOfMemory` within an answer, of which a part may be written then; `CannotWrite`. The lines before it were answered.
 pub fn answer_lines<E: ScriptEvent, S: Stage<E, W>, R: Source, W: Output>(
     alloc: Global,
     stage: &mut S,
+    strangers: bool,
     reader: &mut R,
     ahead: &mut Vec<u8>,
     heard: usize,
@@ -33,7 +34,7 @@ pub fn answer_lines<E: ScriptEvent, S: Stage<E, W>, R: Source, W: Output>(
     requires short { heard + length ahead.old.items ≤ MAX_INPUT }
 
     // all lines are answered in turn, to the end of the input, or those before the fault
-    ensures ends { Ends (reading E.spelled E.is_meant S.replays stage.old) (hearing heard ahead.old.items (R.remaining reader.old)) (W.contents writer.old) (W.contents writer.new) result }
+    ensures ends { Ends (reading E.spelled (E.is_meant strangers) S.replays stage.old) (hearing heard ahead.old.items (R.remaining reader.old)) (W.contents writer.old) (W.contents writer.new) result }
     ensures handed { OnOk result (W.flushed writer.new ≡ true) }
     ensures kept { IfErr result (λ f. f ≢ ScriptFault.CannotWrite → f ≢ ScriptFault.OutOfMemory → W.flushed writer.new ≡ true) }
     ensures cannot_read { (result ≡ Err ScriptFault.CannotRead) ↔ (R.failed reader.new ≡ true) }
@@ -48,7 +49,7 @@ pub fn answer_lines<E: ScriptEvent, S: Stage<E, W>, R: Source, W: Output>(
         if next.line.is_empty() {
             return Ok(());
         }
-        answer(alloc, stage, &next.line, passed, writer)?;
+        answer(alloc, stage, strangers, &next.line, passed, writer)?;
         if !next.ended {
             return Ok(());
         }
@@ -64,6 +65,7 @@ pub fn answer_lines<E: ScriptEvent, S: Stage<E, W>, R: Source, W: Output>(
 fn answer<E: ScriptEvent, S: Stage<E, W>, W: Output>(
     alloc: Global,
     stage: &mut S,
+    strangers: bool,
     line: &[u8],
     passed: usize,
     writer: &mut W,
@@ -71,14 +73,14 @@ fn answer<E: ScriptEvent, S: Stage<E, W>, W: Output>(
     requires short { length line.now ≤ MAX_INPUT }
     requires few { passed ≤ MAX_INPUT }
     requires writes { W.failed writer.old ≡ false }
-    ensures answered { OnOk result (IsAnswered E.spelled E.is_meant S.replays stage.old stage.new line.now (W.contents writer.old) (W.contents writer.new)) }
-    ensures cause { IfErr result (λ f. IsCause (IsBadLine E.spelled E.is_meant line.now passed) ⊥ f (W.contents writer.old) (W.contents writer.new)) }
+    ensures answered { OnOk result (IsAnswered E.spelled (E.is_meant strangers) S.replays stage.old stage.new line.now (W.contents writer.old) (W.contents writer.new)) }
+    ensures cause { IfErr result (λ f. IsCause (IsBadLine E.spelled (E.is_meant strangers) line.now passed) ⊥ f (W.contents writer.old) (W.contents writer.new)) }
     ensures fault { IfErr result (λ f. f ≢ ScriptFault.CannotRead) }
     ensures kept { IfErr result (λ f. f ≢ ScriptFault.CannotWrite → f ≢ ScriptFault.OutOfMemory → writer.new ≡ writer.old) }
     ensures handed { OnOk result (W.flushed writer.new ≡ true) }
     ensures failed { (result ≡ Err ScriptFault.CannotWrite) ↔ (W.failed writer.new ≡ true) }
 {
-    match read_events::<E>(alloc, line) {
+    match read_events::<E>(alloc, line, strangers) {
         Ok(events) => stage.replay(events, writer)?,
         Err(LineFault::BadLine(_)) => return Err(ScriptFault::BadLine(passed + 1)),
         Err(LineFault::OutOfMemory) => return Err(ScriptFault::OutOfMemory),

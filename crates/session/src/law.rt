@@ -1,6 +1,6 @@
 //! What sessions promise, as laws over their definitions. The functions here do nothing: their clauses are the laws.
 
-ghost use Rattle.std.specs.Prelude.{◌≡◌, [], List, codes};
+ghost use Rattle.std.specs.Prelude.{◌≡◌, [], Bool, List, codes};
 ghost use Rattle.session.specs.Laws.{Echoes, OneSession, Prefixes, two};
 ghost use Rattle.session.specs.Turns.{AnswersInTurn, Prints, Turn, session_of};
 
@@ -10,13 +10,13 @@ use script::reading::ScriptEvent;
 
 /// Without its empty lines a session is what is printed of its script: the answers to all lines together.
 pub fn one_session<E: ScriptEvent, W: Output, S: Stage<E, W>>()
-    ensures { (opening : S) (turns : List Turn) → OneSession (Prints E.spelled E.is_meant S.replays opening) turns }
+    ensures { (strangers : Bool) (opening : S) (turns : List Turn) → OneSession (Prints E.spelled (E.is_meant strangers) S.replays opening) turns }
 {}
 
 /// What is printed of the first lines is the first part of what is printed of all, where a script determines what is
 /// printed of it.
 pub fn prefixes<E: ScriptEvent, W: Output, S: Stage<E, W>>()
-    ensures { (opening : S) (turns : List Turn) → Prefixes (Prints E.spelled E.is_meant S.replays opening) turns }
+    ensures { (strangers : Bool) (opening : S) (turns : List Turn) → Prefixes (Prints E.spelled (E.is_meant strangers) S.replays opening) turns }
 {}
 
 /// Sessions on a network on which each line is answered by itself.

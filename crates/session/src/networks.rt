@@ -22,7 +22,7 @@ use net_sim::{MixedWorld, World};
 use replay::{Detail, Output, ReplayFault};
 use script::RawEvent;
 use world_replay::{replay_events, replay_mixed_events};
-use world_script::{MixedWorldEvent, WorldEvent};
+use world_script::WorldEvent;
 
 /// A network without host programs.
 #[derive(Drop)]
@@ -71,10 +71,10 @@ impl<C: Carrier, W: Output> Stage<WorldEvent, W> for World<C> {
     fn goes_on() {}
 }
 
-impl<C: Carrier, W: Output> Stage<MixedWorldEvent, W> for MixedWorld<C> {
+impl<C: Carrier, W: Output> Stage<WorldEvent, W> for MixedWorld<C> {
     ghost replays = { ReplaysWith (HappensBy (mixed_kind (shown C.calls))) (shown_text Texts) (KeepsAll C.calls) };
 
-    fn replay(&mut self, events: Vec<MixedWorldEvent>, writer: &mut W) -> Result<(), ReplayFault>
+    fn replay(&mut self, events: Vec<WorldEvent>, writer: &mut W) -> Result<(), ReplayFault>
         requires { W.failed writer.old ≡ false }
         ensures part { result ≡ Err ReplayFault.OutOfMemory → (said : List ℕ) × Appends (W.contents writer.old) (W.contents writer.new) said }
         ensures replayed { OnOk result ((said : List ℕ) × ReplaysWith (HappensBy (mixed_kind (shown C.calls))) (shown_text Texts) (KeepsAll C.calls) self.old events.items self.new said × Appends (W.contents writer.old) (W.contents writer.new) said) }

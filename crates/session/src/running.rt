@@ -88,7 +88,7 @@ fn serve_mixed<C: Carrier, R: Source, W: Output>(
         Err(StrangersFault::OutOfMemory) => return Err(ScriptFault::OutOfMemory),
         Err(StrangersFault::NoSuch(_)) => return Err(ScriptFault::BadTopology),
     };
-    answer_lines(alloc, &mut world, reader, ahead, heard, writer)
+    answer_lines(alloc, &mut world, true, reader, ahead, heard, writer)
 }
 
 /// Answers the lines of a script over the carrier that a topology without strangers names.
@@ -152,10 +152,10 @@ fn serve_over<C: Carrier, R: Source, W: Output>(
 {
     if raw {
         let mut bare = Bare { carrier };
-        answer_lines(alloc, &mut bare, reader, ahead, heard, writer)
+        answer_lines(alloc, &mut bare, false, reader, ahead, heard, writer)
     } else {
         let mut world = World::new(alloc, carrier)?;
-        answer_lines(alloc, &mut world, reader, ahead, heard, writer)
+        answer_lines(alloc, &mut world, false, reader, ahead, heard, writer)
     }
 }
 

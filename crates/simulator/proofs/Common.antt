@@ -48,7 +48,6 @@ pub use Rattle.world_replay.proofs.lemmas.Replays.{SameGains, gains_once, happen
 pub use Rattle.world_replay.specs.Output.{Shown}
 pub use Rattle.world_replay.specs.Replay.{Happens, HappensInCalm}
 pub use Rattle.world_replay.specs.Rounds.{EndsRound}
-pub use Rattle.world_script.specs.declared.event.MixedWorldEvent.{MixedWorldEvent}
 pub use Rattle.world_script.specs.declared.event.WorldEvent.{WorldEvent}
 pub use Rattle.world_trace.specs.Texts.{opening_text, world_line}
 pub use Rattle.world_trace.specs.Traces.{StopsOne, TellsIn, TellsInCalm, TellsOne, TellsRound, change_of, first_rounds, state_of}

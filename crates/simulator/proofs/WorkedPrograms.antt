@@ -1,5 +1,5 @@
 -- Ends that the program does not have.
-use Rattle.simulator.proofs.Common.{◌≡◌, inl, inr, ℕ, true, false, List, [], ◌∷◌, ◌++◌, Option, Some, None, Result, Ok, Err, codes, map, refl, sym, ap, ◌∙◌, Appends, Keeps, text_of, TopologyFields, CarrierKind, Raw, World, plain_calls, subnet_calls, EndsTask, Sides, TracesOver, ScriptFault, detail_of, ReplaysOver, MixedFields, MixedWorldEvent, RanEither, EndsReplay, Asked, MixedTracesOver, TracedEither}
+use Rattle.simulator.proofs.Common.{◌≡◌, inl, inr, ℕ, true, false, List, [], ◌∷◌, ◌++◌, Option, Some, None, Result, Ok, Err, codes, map, refl, sym, ap, ◌∙◌, Appends, Keeps, text_of, TopologyFields, CarrierKind, Raw, World, plain_calls, subnet_calls, EndsTask, Sides, TracesOver, ScriptFault, detail_of, ReplaysOver, MixedFields, WorldEvent, RanEither, EndsReplay, Asked, MixedTracesOver, TracedEither}
 use Rattle.std.proofs.lemmas.Bool.{false≢true}
 use Rattle.book_log.specs.Log.{log_text}
 use Rattle.command_line.specs.Logs.{LogsOver, raw_book, world_book}
@@ -93,7 +93,7 @@ no_rest : (front rest : List ℕ) → [] ≡ front ++ rest → [] ≡ rest
 no_rest [] rest e = e
 no_rest (x ∷ front) rest e = cc
 
-nothing_logged_among : (carrier : CarrierKind) (t : MixedFields) (events : List MixedWorldEvent)
+nothing_logged_among : (carrier : CarrierKind) (t : MixedFields) (events : List WorldEvent)
     → MixedLogsOver carrier t events (Some []) (Some []) → ⊥
 nothing_logged_among kind.Plain t events h =
     let b : Book = world_book h.last.world.kept in
@@ -128,7 +128,7 @@ nothing_traced kind.Subnet t numbers (Raw events) written h k =
 nothing_traced kind.Subnet t numbers (World events) written h k =
     nothing_written h.traced.shown _ h.traced.is_shown.0 written h.traced.is_shown.1 h.traced.written k
 
-nothing_traced_among : (carrier : CarrierKind) (t : MixedFields) (numbers : List ℕ) (events : List MixedWorldEvent)
+nothing_traced_among : (carrier : CarrierKind) (t : MixedFields) (numbers : List ℕ) (events : List WorldEvent)
     (written : Option (List ℕ)) → MixedTracesOver carrier t numbers events (Some []) written
     → Keeps written (Some []) → ⊥
 nothing_traced_among kind.Plain t numbers events written h k =
@@ -209,7 +209,7 @@ nothing_replayed kind.Plain t (World events) written h k = nothing_ended _ writt
 nothing_replayed kind.Subnet t (Raw events) written h k = nothing_ended _ written h.written k
 nothing_replayed kind.Subnet t (World events) written h k = nothing_ended _ written h.written k
 
-nothing_among : (carrier : CarrierKind) (t : MixedFields) (events : List MixedWorldEvent) (written : Option (List ℕ)) →
+nothing_among : (carrier : CarrierKind) (t : MixedFields) (events : List WorldEvent) (written : Option (List ℕ)) →
     MixedReplaysOver carrier t false (detail_of false) events (Some []) written → Keeps written (Some []) → ⊥
 nothing_among kind.Plain t events written h k = nothing_ended _ written h.written k
 nothing_among kind.Subnet t events written h k = nothing_ended _ written h.written k

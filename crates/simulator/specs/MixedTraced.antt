@@ -11,7 +11,7 @@ use Rattle.topology.specs.declared.network.CarrierKind.{CarrierKind}
 use Rattle.topology.specs.declared.network.CarrierKind.TheVariants as kind
 use Rattle.trace.specs.Traces.{event_lines, plain_inside}
 use Rattle.trace.specs.declared.all_parts.AllParts.{AllParts}
-use Rattle.world_script.specs.declared.event.MixedWorldEvent.{MixedWorldEvent}
+use Rattle.world_script.specs.declared.event.WorldEvent.{WorldEvent}
 use Rattle.world_trace.specs.MixedTraces.{WritesMixed, WritesMixedPart}
 use Rattle.command_line.specs.Carriers.{plain_of, subnet_of}
 use Rattle.command_line.specs.Mixed.{IsMixedInput}
@@ -21,40 +21,40 @@ use Rattle.simulator.specs.Traced.{IsScriptOf, TraceStops, Traced, TracedInPart,
 -- events are replayed in a world over a carrier that shows all its parts as these members of an object, in which these hosts are strangers, and
 -- their trace is written: first the network with its strangers, and then a line for each event, of a calm for each of its own that prints
 -- or changes something, and nothing else
-pub record MixedTracesFrom {C : Type 0} (calls : Calls C) (members : C → AllParts) (t : MixedFields) (opening : C) (events : List (ℕ × MixedWorldEvent)) (before after : Option (List ℕ)) : Type 0 where
+pub record MixedTracesFrom {C : Type 0} (calls : Calls C) (members : C → AllParts) (t : MixedFields) (opening : C) (events : List (ℕ × WorldEvent)) (before after : Option (List ℕ)) : Type 0 where
   pub last : MixedState C
   pub traced : WritesMixed calls members t.network (opening_mixed calls opening t.strangers) events last before after
 
 -- memory ran out in one of them
-pub record MixedTraceEndsFrom {C : Type 0} (calls : Calls C) (members : C → AllParts) (t : MixedFields) (opening : C) (events : List (ℕ × MixedWorldEvent)) (before after : Option (List ℕ)) : Type 0 where
+pub record MixedTraceEndsFrom {C : Type 0} (calls : Calls C) (members : C → AllParts) (t : MixedFields) (opening : C) (events : List (ℕ × WorldEvent)) (before after : Option (List ℕ)) : Type 0 where
   pub last : MixedState C
   pub traced : WritesMixedPart calls members t.network (opening_mixed calls opening t.strangers) events last before after
 
 -- in one of them, or before the first line
 abbrev pub MixedTraceStopsFrom : {C : Type 0} → Calls C → (C → AllParts) → MixedFields → C
-    → List (ℕ × MixedWorldEvent) → Option (List ℕ) → Option (List ℕ) → Type 0
+    → List (ℕ × WorldEvent) → Option (List ℕ) → Option (List ℕ) → Type 0
 MixedTraceStopsFrom calls members t opening events before after =
     NothingOr (MixedTraceEndsFrom calls members t opening events) before after
 
 -- over the carrier that a topology names, of events in these lines of a script
-abbrev pub MixedTracesOver : CarrierKind → MixedFields → List ℕ → List MixedWorldEvent → Option (List ℕ) → Option (List ℕ) → Type 0
+abbrev pub MixedTracesOver : CarrierKind → MixedFields → List ℕ → List WorldEvent → Option (List ℕ) → Option (List ℕ) → Type 0
 MixedTracesOver kind.Plain t lines events before after = MixedTracesFrom (shown plain_calls) plain_inside.members t (plain_of t.network) (zip lines events) before after
 MixedTracesOver kind.Subnet t lines events before after = MixedTracesFrom (shown subnet_calls) subnet_inside.members t (subnet_of t.network) (zip lines events) before after
 
-abbrev pub MixedTraceEndsOver : CarrierKind → MixedFields → List ℕ → List MixedWorldEvent → Option (List ℕ) → Option (List ℕ) → Type 0
+abbrev pub MixedTraceEndsOver : CarrierKind → MixedFields → List ℕ → List WorldEvent → Option (List ℕ) → Option (List ℕ) → Type 0
 MixedTraceEndsOver kind.Plain t lines events before after = MixedTraceEndsFrom (shown plain_calls) plain_inside.members t (plain_of t.network) (zip lines events) before after
 MixedTraceEndsOver kind.Subnet t lines events before after = MixedTraceEndsFrom (shown subnet_calls) subnet_inside.members t (subnet_of t.network) (zip lines events) before after
 
-abbrev pub MixedTracesOn : MixedFields → List ℕ → List MixedWorldEvent → Option (List ℕ) → Option (List ℕ) → Type 0
+abbrev pub MixedTracesOn : MixedFields → List ℕ → List WorldEvent → Option (List ℕ) → Option (List ℕ) → Type 0
 MixedTracesOn t lines events before after = MixedTracesOver t.network.carrier t lines events before after
 
-abbrev pub MixedTraceEndsOn : MixedFields → List ℕ → List MixedWorldEvent → Option (List ℕ) → Option (List ℕ) → Type 0
+abbrev pub MixedTraceEndsOn : MixedFields → List ℕ → List WorldEvent → Option (List ℕ) → Option (List ℕ) → Type 0
 MixedTraceEndsOn t lines events before after = MixedTraceEndsOver t.network.carrier t lines events before after
 
 -- ---- of an input
 
 -- an input of these events, which are in these lines of its script
-pub record IsMixedScripted (octets : List ℕ) (network : MixedFields) (lines : List ℕ) (events : List MixedWorldEvent) : Type 0 where
+pub record IsMixedScripted (octets : List ℕ) (network : MixedFields) (lines : List ℕ) (events : List WorldEvent) : Type 0 where
   pub script : List ℕ
   pub input : IsMixedInput octets network events
   pub parted : IsScriptOf octets script
@@ -65,7 +65,7 @@ pub record IsMixedScripted (octets : List ℕ) (network : MixedFields) (lines : 
 pub record MixedTracesInput (octets : List ℕ) (before after : Option (List ℕ)) : Type 0 where
   pub network : MixedFields
   pub lines : List ℕ
-  pub events : List MixedWorldEvent
+  pub events : List WorldEvent
   pub input : IsMixedScripted octets network lines events
   pub traced : MixedTracesOn network lines events before after
 
@@ -73,7 +73,7 @@ pub record MixedTracesInput (octets : List ℕ) (before after : Option (List ℕ
 pub record MixedTraceStops (octets : List ℕ) (before after : Option (List ℕ)) : Type 0 where
   pub network : MixedFields
   pub lines : List ℕ
-  pub events : List MixedWorldEvent
+  pub events : List WorldEvent
   pub input : IsMixedScripted octets network lines events
   pub stopped : MixedTraceEndsOn network lines events before after
 
@@ -81,13 +81,13 @@ pub record MixedTraceStops (octets : List ℕ) (before after : Option (List ℕ)
 pub record MixedTraced (before after : Option (List ℕ)) : Type 0 where
   pub network : MixedFields
   pub lines : List ℕ
-  pub events : List MixedWorldEvent
+  pub events : List WorldEvent
   pub traced : MixedTracesOn network lines events before after
 
 pub record MixedTracedInPart (before after : Option (List ℕ)) : Type 0 where
   pub network : MixedFields
   pub lines : List ℕ
-  pub events : List MixedWorldEvent
+  pub events : List WorldEvent
   pub stopped : MixedTraceEndsOn network lines events before after
 
 -- ---- with strangers or without

@@ -17,7 +17,7 @@ use std::alloc::Global;
 use subnet_trace::TracedSubnet;
 use topology::{CarrierKind, MixedTopology};
 use trace::{Inspect, beside_lines, event_lines};
-use world_script::MixedWorldEvent;
+use world_script::WorldEvent;
 use world_trace::trace_mixed_world;
 
 /// What an input of a network with strangers asks for, with the lines of its script.
@@ -28,7 +28,7 @@ struct MixedScripted {
     /// The numbers of the lines that ask for its events.
     lines: Vec<usize>,
     /// The events of its script.
-    events: Vec<MixedWorldEvent>,
+    events: Vec<WorldEvent>,
 }
 
 /// Writes the trace of the input of a network with strangers that octets are.
@@ -91,7 +91,7 @@ fn trace_mixed_on<W: Output>(
     alloc: Global,
     network: &MixedTopology,
     lines: &[usize],
-    events: Vec<MixedWorldEvent>,
+    events: Vec<WorldEvent>,
     writer: &mut W,
 ) -> Result<(), ScriptFault>
     requires whole { W.failed writer.old ≡ false }
@@ -125,7 +125,7 @@ fn trace_among<C: Inspect, W: Output>(
     alloc: Global,
     network: &MixedTopology,
     carrier: C,
-    events: Vec<(usize, MixedWorldEvent)>,
+    events: Vec<(usize, WorldEvent)>,
     writer: &mut W,
 ) -> Result<(), ScriptFault>
     requires unused { (C.calls.seen carrier).log ≡ [] }

@@ -50,6 +50,5 @@ pub use Rattle.world_replay.specs.Replay.{HappensInCalm, IsOfCalm, Replays, worl
 pub use Rattle.world_replay.specs.Rounds.{Again, EndsAgain, EndsRepeated, Repeated, RoundOf, crosses, turns_in}
 pub use Rattle.world_replay.specs.Steps.{EventEnds, Fronts, IsReplayable}
 pub use Rattle.world_replay.specs.Worked.{after, booked, tally}
-pub use Rattle.world_script.specs.declared.event.MixedWorldEvent.{MixedWorldEvent}
 pub use Rattle.world_script.specs.declared.event.WorldEvent.{WorldEvent}
 pub use Rattle.world_script.specs.declared.event.WorldEvent.TheVariants.{Calm}

@@ -1,5 +1,5 @@
 -- What a book gains where strangers speak and take.
-use Rattle.world_replay.proofs.Common.{inl, inr, [], ◌∷◌, Option, None, Some, Result, Ok, Err, ap, Calls, crossing_of, CalmGives, StepGives, WorldState, changed, with_carrier, Event, Take, WorldFault, Gains, FetchEnds, MixedState, OutEnds, RefusesMixed, Out, NoProgram, Carrier, MixedWorldEvent}
+use Rattle.world_replay.proofs.Common.{inl, inr, [], ◌∷◌, Option, None, Some, Result, Ok, Err, ap, Calls, crossing_of, CalmGives, StepGives, WorldState, changed, with_carrier, Event, Take, WorldFault, Gains, FetchEnds, MixedState, OutEnds, RefusesMixed, Out, NoProgram, Carrier, WorldEvent}
 use Rattle.interface.specs.declared.carrier.CarrierFault.{CarrierFault}
 use Rattle.interface.specs.declared.carrier.CarrierFault.TheVariants as fault
 use Rattle.interface.specs.declared.crossing.Crossing.TheVariants as crossing
@@ -10,7 +10,7 @@ use Rattle.world_replay.proofs.Grown.{Grew, does_grow, gains_same, grew_all_cros
 use Rattle.world_replay.proofs.Replays.{calm_grows}
 use Rattle.world_replay.proofs.Steady.{on_either}
 use Rattle.world_replay.specs.Kinds.{EventGivesAmong}
-use Rattle.world_script.specs.declared.event.MixedWorldEvent.TheVariants as script
+use Rattle.world_script.specs.declared.event.WorldEvent.TheVariants as script
 
 module _ {C : Type 0} (calls : Calls C) where
   out_end : (m : HostMessage) (answer : Result (Unit {0}) CarrierFault) (c : C) (old : WorldState C)
@@ -57,7 +57,7 @@ module _ {C : Type 0} (calls : Calls C) where
   mixed_gains e old r new g = asked_gains e old r new g
 
   -- of a script
-  pub mixed_event_gains : (e : MixedWorldEvent) (old : MixedState C) (r : Result (Unit {0}) WorldFault)
+  pub mixed_event_gains : (e : WorldEvent) (old : MixedState C) (r : Result (Unit {0}) WorldFault)
       (new : MixedState C)
       → EventGivesAmong calls old e r new → Gains old.world.kept new.world.kept
   mixed_event_gains (script.Happen e) old r new h = on_either old.world.stopped (λ s g. refused (Carrier fault.Stopped) old r new g) (λ s g. mixed_gains e old r new g) h

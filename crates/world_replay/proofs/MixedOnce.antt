@@ -2,7 +2,7 @@
 use Rattle.world_replay.proofs.Common.{◌≡◌, inl, inr, Bool, true, false, List, ◌++◌, Option, Some, None, Result, Ok, Err}
 use Rattle.world_replay.proofs.Common.{ap, ap₂, sym, ◌∙◌, refl, MatchBool, Calls, Host, Kept, WorldState, stops}
 use Rattle.world_replay.proofs.Common.{StepGives, CalmGives, Event, Take, WorldFault, Carrier, AreSettled, shown}
-use Rattle.world_replay.proofs.Common.{FetchEnds, MixedState, OutEnds, RefusesMixed, Out, NoProgram, MixedWorldEvent}
+use Rattle.world_replay.proofs.Common.{FetchEnds, MixedState, OutEnds, RefusesMixed, Out, NoProgram, WorldEvent}
 use Rattle.world_replay.proofs.Common.{HappensBy, StopsBy, mixed_kind, shown_refusal, Gains, gained, HappensOnce}
 use Rattle.world_replay.proofs.Common.{ShowsFront, in_turn_once}
 use Rattle.interface.specs.declared.carrier.CarrierFault.{CarrierFault}
@@ -13,7 +13,7 @@ use Rattle.net_sim.specs.MixedWorlds.{AmongGives, AskedGives, FetchGives, MixedS
 use Rattle.net_sim.specs.MixedWorlds.{asked_at, is_strange, strange_in}
 use Rattle.replay.proofs.lemmas.{ends_front}
 use Rattle.std.proofs.lemmas.List.{append_assoc}
-use Rattle.world_script.specs.declared.event.MixedWorldEvent.TheVariants as script
+use Rattle.world_script.specs.declared.event.WorldEvent.TheVariants as script
 use Rattle.world_replay.specs.Kinds.{EventGivesAmong, ReplaysBy, RunsOutBy}
 use Rattle.world_replay.specs.Output.{Shown}
 use Rattle.world_replay.proofs.Grown.{Grew, gains_none, grew_more, step_kept}
@@ -136,7 +136,7 @@ module _ {C : Type 0} (calls : Calls C) (settled : AreSettled calls) where
       (RefusesMixed (Carrier fault.Stopped) old) (AmongGives calls old e)
       (refused (Carrier fault.Stopped) old) (one_of e old)
 
-  event_once : (e : MixedWorldEvent) (old : MixedState C) (r q : Answer) (new other : MixedState C)
+  event_once : (e : WorldEvent) (old : MixedState C) (r q : Answer) (new other : MixedState C)
       → EventGivesAmong calls old e r new → stops r ≡ false → EventGivesAmong calls old e q other
       → stops q ≡ false → (r ≡ q) × (new ≡ other)
   event_once (script.Happen e) old r q new other h hg k kg = (single e old).once r q new other h hg k kg
@@ -196,7 +196,7 @@ module _ {C : Type 0} (calls : Calls C) (settled : AreSettled calls) where
 -- ---- events in turn
 
 pub one_mixed_replay : {C : Type 0} (own : Calls C) → AreSettled own → (old new other : MixedState C)
-    (events : List MixedWorldEvent) (lines more : List Shown)
+    (events : List WorldEvent) (lines more : List Shown)
     → ReplaysBy (mixed_kind (shown own)) old events new lines → ReplaysBy (mixed_kind (shown own)) old events other more
     → (new ≡ other) × (lines ≡ more)
 one_mixed_replay own s old new other events lines more h k =
@@ -204,7 +204,7 @@ one_mixed_replay own s old new other events lines more h k =
     old events new other lines more h k
 
 pub mixed_first_part : {C : Type 0} (own : Calls C) → AreSettled own → (old new other : MixedState C)
-    (events : List MixedWorldEvent) (part whole : List Shown)
+    (events : List WorldEvent) (part whole : List Shown)
     → RunsOutBy (mixed_kind (shown own)) old events new part
     → ReplaysBy (mixed_kind (shown own)) old events other whole → (rest : List Shown) × (whole ≡ part ++ rest)
 mixed_first_part own s old new other events part whole h k =

@@ -1,5 +1,5 @@
 -- What a replay needs of worlds, of those with strangers as well.
-use Rattle.world_replay.proofs.Common.{◌≡◌, ℕ, ◌+◌, zero, suc, Bool, true, false, List, ◌++◌, None, Some, Result, Ok, Err, refl, ap, ap₂, subst, ◌∙◌, arith, Calls, CalmGives, Calms, WorldState, stops, WorldFault, WorldEvent, Gains, MixedState, gained, mixed_kind, world_kind, IsReplayable, MixedWorldEvent}
+use Rattle.world_replay.proofs.Common.{◌≡◌, ℕ, ◌+◌, zero, suc, Bool, true, false, List, ◌++◌, None, Some, Result, Ok, Err, refl, ap, ap₂, subst, ◌∙◌, arith, Calls, CalmGives, Calms, WorldState, stops, WorldFault, WorldEvent, Gains, MixedState, gained, mixed_kind, world_kind, IsReplayable}
 use Rattle.world_replay.specs.Kinds.{mixed_rounds}
 use Rattle.world_replay.specs.Output.{Shown}
 use Rattle.world_replay.specs.Replay.{rounds_in}
@@ -9,7 +9,6 @@ use Rattle.world_replay.proofs.Mixed.{mixed_event_gains}
 use Rattle.world_replay.proofs.Replays.{calm_grows, event_gains, gained_more, gains_once, same_news}
 use Rattle.world_replay.proofs.Rounds.{calm_one, calm_stopped, done_runs, is_false, is_true, round_ends, when_false, when_true}
 use Rattle.world_script.specs.declared.event.WorldEvent.TheVariants as event
-use Rattle.world_script.specs.declared.event.MixedWorldEvent.TheVariants as mixed
 
 abbrev Answer : Type 0
 Answer = Result (Unit {0}) WorldFault
@@ -18,9 +17,9 @@ world_calm : (e : WorldEvent) (n : ℕ) → rounds_in e ≡ Some n → e ≡ eve
 world_calm (event.Happen e) n has = absurd (let no : None ≡ Some n = has in cc)
 world_calm (event.Calm m) n has = ap event.Calm (let same : Some m ≡ Some n = has in cc)
 
-mixed_calm : (e : MixedWorldEvent) (n : ℕ) → mixed_rounds e ≡ Some n → e ≡ mixed.Calm n
-mixed_calm (mixed.Happen e) n has = absurd (let no : None ≡ Some n = has in cc)
-mixed_calm (mixed.Calm m) n has = ap mixed.Calm (let same : Some m ≡ Some n = has in cc)
+mixed_calm : (e : WorldEvent) (n : ℕ) → mixed_rounds e ≡ Some n → e ≡ event.Calm n
+mixed_calm (event.Happen e) n has = absurd (let no : None ≡ Some n = has in cc)
+mixed_calm (event.Calm m) n has = ap event.Calm (let same : Some m ≡ Some n = has in cc)
 
 module _ {C : Type 0} (calls : Calls C) where
   -- rounds in which memory lasts, and then further ones

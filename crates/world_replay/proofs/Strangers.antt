@@ -1,5 +1,5 @@
 -- What is shown of a stranger in a small world.
-use Rattle.world_replay.proofs.Common.{◌≡◌, inl, inr, ℕ, Bool, true, false, List, [], ◌∷◌, ◌++◌, Option, None, Some, Result, Ok, Err, refl, ap, sym, subst, ◌∙◌, append-nil, Calls, Seen, crossing_of, Host, Crossing, StepGives, WorldState, AtProgram, AtSeat, OfferGives, QuietEnds, TakeEnds, TakeGives, changed, stops, seat_of, world_moved, Event, Ask, Net, Offer, Quiet, Server, Take, Typed, User, WorldFault, Kept, crossed, Gains, NcpState, first, second, message, Seat, IsOfCalm, if◌then◌else◌, same_host, calm_keeps, FetchEnds, MixedState, OutEnds, Refuses, Out, any_carrier, Told, opening_state, third, gained, HappensBy, mixed_kind, Noticed, shown_refusal, MixedWorldEvent}
+use Rattle.world_replay.proofs.Common.{◌≡◌, inl, inr, ℕ, Bool, true, false, List, [], ◌∷◌, ◌++◌, Option, None, Some, Result, Ok, Err, refl, ap, sym, subst, ◌∙◌, append-nil, Calls, Seen, crossing_of, Host, Crossing, StepGives, WorldState, AtProgram, AtSeat, OfferGives, QuietEnds, TakeEnds, TakeGives, changed, stops, seat_of, world_moved, Event, Ask, Net, Offer, Quiet, Server, Take, Typed, User, WorldFault, Kept, crossed, Gains, NcpState, first, second, message, Seat, IsOfCalm, if◌then◌else◌, same_host, calm_keeps, FetchEnds, MixedState, OutEnds, Refuses, Out, any_carrier, Told, opening_state, third, gained, HappensBy, mixed_kind, Noticed, shown_refusal, WorldEvent}
 use Rattle.bit_messages.specs.Octets.{octets_of}
 use Rattle.host_pairs.specs.Control.{orders_of}
 use Rattle.host_pairs.specs.declared.notice.Notice.TheVariants as notice
@@ -26,7 +26,7 @@ use Rattle.world_replay.proofs.Rounds.{is_false}
 use Rattle.world_replay.proofs.Steady.{halts_stop}
 use Rattle.world_replay.specs.Output.{Crossed, Refused, Shown}
 use Rattle.world_replay.specs.WorkedMixed.{MayShow, hail, hailed}
-use Rattle.world_script.specs.declared.event.MixedWorldEvent.TheVariants as script
+use Rattle.world_script.specs.declared.event.WorldEvent.TheVariants as script
 
 -- a book that gains nothing shows nothing, and one that gains a crossing shows that
 unmoved : (k j : Kept) (g : Gains k j) → j ≡ k → gained g ≡ []
@@ -42,7 +42,7 @@ world = beside_third.world
 
 -- ---- refusals
 
-pub refused_only : (calls : Calls Seen) (e : MixedWorldEvent) (f : WorldFault) (new : MixedState Seen)
+pub refused_only : (calls : Calls Seen) (e : WorldEvent) (f : WorldFault) (new : MixedState Seen)
     (shown : List Shown) (h : HappensBy (mixed_kind calls) beside_third e new shown)
     → Refuses f world h.outcome new.world → shown ≡ Refused f ∷ []
 refused_only calls e f new shown h refuses =
@@ -51,7 +51,7 @@ refused_only calls e f new shown h refuses =
 
 -- ---- what it says and takes
 
-went_well : (c : Crossing) (e : MixedWorldEvent) (calls : Calls Seen) (new : MixedState Seen) (shown : List Shown)
+went_well : (c : Crossing) (e : WorldEvent) (calls : Calls Seen) (new : MixedState Seen) (shown : List Shown)
     (h : HappensBy (mixed_kind calls) beside_third e new shown)
     → (new.world.kept ≡ crossed c beside_third.world.kept) × (h.outcome ≡ Ok tt) → shown ≡ Crossed c ∷ []
 went_well c e calls new shown h (kept, well) =

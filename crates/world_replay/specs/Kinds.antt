@@ -9,8 +9,8 @@ use Rattle.net_sim.specs.declared.event.WorldFault.{WorldFault}
 use Rattle.replay.specs.InTurn.{EndsInTurn, Happening, InTurn}
 use Rattle.world_replay.specs.Gains.{Gains, gained}
 use Rattle.world_replay.specs.Output.{Shown, shown_refusal}
-use Rattle.world_script.specs.declared.event.MixedWorldEvent.{MixedWorldEvent}
-use Rattle.world_script.specs.declared.event.MixedWorldEvent.TheVariants as mixed
+use Rattle.world_script.specs.declared.event.WorldEvent.{WorldEvent}
+use Rattle.world_script.specs.declared.event.WorldEvent.TheVariants as script
 
 -- a kind of world, with the events of its scripts, as a replay sees it
 pub record Kind (S E : Type 0) : Type 1 where
@@ -80,20 +80,20 @@ BreaksOffBy kind old events new shown = EndsBy kind (MayDoBy kind) old events ne
 
 -- ---- worlds with strangers
 
-abbrev pub EventGivesAmong : {C : Type 0} → Calls C → MixedState C → MixedWorldEvent → Result (Unit {0}) WorldFault
+abbrev pub EventGivesAmong : {C : Type 0} → Calls C → MixedState C → WorldEvent → Result (Unit {0}) WorldFault
     → MixedState C → Type 0
-EventGivesAmong calls old (mixed.Happen e) r new = MixedStepGives calls old e r new
-EventGivesAmong calls old (mixed.Calm rounds) r new = MixedCalmGives calls rounds old r new
+EventGivesAmong calls old (script.Happen e) r new = MixedStepGives calls old e r new
+EventGivesAmong calls old (script.Calm rounds) r new = MixedCalmGives calls rounds old r new
 
-abbrev pub mixed_rounds : MixedWorldEvent → Option ℕ
-mixed_rounds (mixed.Happen e) = None
-mixed_rounds (mixed.Calm rounds) = Some rounds
+abbrev pub mixed_rounds : WorldEvent → Option ℕ
+mixed_rounds (script.Happen e) = None
+mixed_rounds (script.Calm rounds) = Some rounds
 
-abbrev pub mixed_kind : {C : Type 0} → Calls C → Kind (MixedState C) MixedWorldEvent
+abbrev pub mixed_kind : {C : Type 0} → Calls C → Kind (MixedState C) WorldEvent
 mixed_kind {C} calls = record {
   kept = λ (s : MixedState C). s.world.kept;
   gives = EventGivesAmong calls;
-  calm = mixed.Calm;
+  calm = script.Calm;
   rounds = mixed_rounds;
   rests = λ (s : MixedState C). IsAtRest calls s.world;
 }

@@ -14,9 +14,8 @@ use Rattle.replay.specs.InTurn.{InTurn}
 use Rattle.replay.specs.Output as raw
 use Rattle.replay.specs.Replay.{GoesOn}
 use Rattle.replay.specs.Settled.{AreSettled}
-use Rattle.world_script.specs.declared.event.MixedWorldEvent.{MixedWorldEvent}
-use Rattle.world_script.specs.declared.event.WorldEvent.TheVariants.{Calm}
 use Rattle.world_script.specs.declared.event.WorldEvent.{WorldEvent}
+use Rattle.world_script.specs.declared.event.WorldEvent.TheVariants.{Calm}
 use Rattle.world_replay.specs.Apart.{IsAt, OthersStay, SameHosts}
 use Rattle.world_replay.specs.Driven.{Drive, Drives, Goes, IsDrivenIn, Round}
 use Rattle.world_replay.specs.Kinds.{ReplaysBy, RunsOutBy, mixed_kind}
@@ -42,11 +41,11 @@ pub record OneReplay {C : Type 0} (calls : Calls C) : Type 0 where
 -- The same where some hosts are strangers: nothing but the script says what these send and take.
 pub record OneMixedReplay {C : Type 0} (calls : Calls C) : Type 0 where
   pub same :
-      AreSettled calls → (old new other : MixedState C) (events : List MixedWorldEvent) (lines more : List Shown) →
+      AreSettled calls → (old new other : MixedState C) (events : List WorldEvent) (lines more : List Shown) →
       ReplaysBy (mixed_kind (shown calls)) old events new lines →
       ReplaysBy (mixed_kind (shown calls)) old events other more → (new ≡ other) × (lines ≡ more)
   pub first_part :
-      AreSettled calls → (old new other : MixedState C) (events : List MixedWorldEvent) (part whole : List Shown) →
+      AreSettled calls → (old new other : MixedState C) (events : List WorldEvent) (part whole : List Shown) →
       RunsOutBy (mixed_kind (shown calls)) old events new part →
       ReplaysBy (mixed_kind (shown calls)) old events other whole → (rest : List Shown) × (whole ≡ part ++ rest)
 

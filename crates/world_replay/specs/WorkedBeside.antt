@@ -10,14 +10,14 @@ use Rattle.net_sim.specs.WorkedMixed.{beside_third}
 use Rattle.net_sim.specs.declared.event.Event.{Event}
 use Rattle.net_sim.specs.declared.event.Event.TheVariants.{Out}
 use Rattle.net_sim.specs.declared.event.WorldFault.{WorldFault}
-use Rattle.world_script.specs.declared.event.MixedWorldEvent.{MixedWorldEvent}
-use Rattle.world_script.specs.declared.event.MixedWorldEvent.TheVariants.{Happen}
+use Rattle.world_script.specs.declared.event.WorldEvent.{WorldEvent}
+use Rattle.world_script.specs.declared.event.WorldEvent.TheVariants.{Happen}
 
 -- what a script may ask for in any world, and what a stranger says
-abbrev pub event : Event → MixedWorldEvent
+abbrev pub event : Event → WorldEvent
 event e = Happen e
 
-abbrev pub saying : HostMessage → MixedWorldEvent
+abbrev pub saying : HostMessage → WorldEvent
 saying m = Happen (Out m)
 
 -- a carrier that has nothing for anybody, one that takes no message, and one that has no memory for a message

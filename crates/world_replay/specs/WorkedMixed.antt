@@ -11,22 +11,22 @@ use Rattle.net_sim.specs.WorkedMixed.{beside_third}
 use Rattle.sockets.specs.Worked.{control, first, third}
 use Rattle.world_replay.specs.Kinds.{HappensBy, ReplaysBy, mixed_kind}
 use Rattle.world_replay.specs.Output.{Crossed, Noticed, Shown}
-use Rattle.world_script.specs.declared.event.MixedWorldEvent.{MixedWorldEvent}
+use Rattle.world_script.specs.declared.event.WorldEvent.{WorldEvent}
 
 -- the stranger says RST to the first host
 abbrev pub hail : HostMessage
 hail = control third first (12 ∷ [])
 
 -- these events may show these lines, over this carrier
-abbrev pub MayShow : Calls Seen → List MixedWorldEvent → List Shown → Type 0
+abbrev pub MayShow : Calls Seen → List WorldEvent → List Shown → Type 0
 MayShow calls events lines = (new : MixedState Seen) × ReplaysBy (mixed_kind calls) beside_third events new lines
 
 -- an event shows no others
-abbrev pub ShowsOnly : Calls Seen → MixedWorldEvent → List Shown → Type 0
+abbrev pub ShowsOnly : Calls Seen → WorldEvent → List Shown → Type 0
 ShowsOnly calls e lines = (new : MixedState Seen) (shown : List Shown) → HappensBy (mixed_kind calls) beside_third e new shown → shown ≡ lines
 
 -- an event shows one crossing, of something that came in
-abbrev pub ShowsOneTaken : Calls Seen → MixedWorldEvent → Type 0
+abbrev pub ShowsOneTaken : Calls Seen → WorldEvent → Type 0
 ShowsOneTaken calls e =
     (new : MixedState Seen) (shown : List Shown) → HappensBy (mixed_kind calls) beside_third e new shown → (i : Inbound) × (shown ≡ Crossed (crossing_of i) ∷ [])
 

@@ -19,7 +19,7 @@ use crate::turning::Turning;
 use interface::Carrier;
 use net_sim::{Event, MixedWorld, World};
 use replay::{Detail, Line, Output, ReplayFault, hand_on_round};
-use world_script::{MixedWorldEvent, WorldEvent};
+use world_script::WorldEvent;
 
 /// Lets each event happen in order, and prints what it shows: each crossing, each notice after the crossings that
 /// were before it, each report after its notice, and then the refusal, if there is one. Of a message it prints as much
@@ -78,7 +78,7 @@ pub fn replay_events<C: Carrier, W: Output>(
 /// Errors: as in [`replay_events`].
 pub fn replay_mixed_events<C: Carrier, W: Output>(
     world: &mut MixedWorld<C>,
-    events: Vec<MixedWorldEvent>,
+    events: Vec<WorldEvent>,
     detail: Detail,
     writer: &mut W,
 ) -> Result<(), ReplayFault>

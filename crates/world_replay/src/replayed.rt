@@ -8,7 +8,7 @@ ghost use Rattle.world_replay.specs.Steps.{IsReplayable};
 
 use interface::Carrier;
 use net_sim::{Book, MixedWorld, World, WorldFault};
-use world_script::{MixedWorldEvent, WorldEvent};
+use world_script::WorldEvent;
 
 /// A world whose scripts are replayed.
 pub(crate) trait Replayed {
@@ -83,7 +83,7 @@ impl<C: Carrier> Replayed for World<C> {
 }
 
 impl<C: Carrier> Replayed for MixedWorld<C> {
-    type Event = MixedWorldEvent;
+    type Event = WorldEvent;
 
     ghost kind = { mixed_kind (shown C.calls) };
 
@@ -91,10 +91,10 @@ impl<C: Carrier> Replayed for MixedWorld<C> {
         MixedWorld::book(self)
     }
 
-    fn happen(&mut self, event: MixedWorldEvent) -> Result<(), WorldFault> {
+    fn happen(&mut self, event: WorldEvent) -> Result<(), WorldFault> {
         match event {
-            MixedWorldEvent::Happen(event) => self.step(event),
-            MixedWorldEvent::Calm(rounds) => self.calm(rounds),
+            WorldEvent::Happen(event) => self.step(event),
+            WorldEvent::Calm(rounds) => self.calm(rounds),
         }
     }
 
@@ -102,15 +102,15 @@ impl<C: Carrier> Replayed for MixedWorld<C> {
         MixedWorld::rests(self)
     }
 
-    fn rounds_of(event: &MixedWorldEvent) -> Option<u32> {
+    fn rounds_of(event: &WorldEvent) -> Option<u32> {
         match event {
-            MixedWorldEvent::Happen(_) => None,
-            MixedWorldEvent::Calm(rounds) => Some(*rounds),
+            WorldEvent::Happen(_) => None,
+            WorldEvent::Calm(rounds) => Some(*rounds),
         }
     }
 
-    fn round() -> MixedWorldEvent {
-        MixedWorldEvent::Calm(1)
+    fn round() -> WorldEvent {
+        WorldEvent::Calm(1)
     }
 
     fn is_replayable() {}

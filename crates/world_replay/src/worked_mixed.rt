@@ -13,7 +13,7 @@ ghost use Rattle.sockets.specs.declared.request.Request.TheVariants as request;
 ghost use Rattle.world_replay.specs.Output.{Crossed, Refused};
 ghost use Rattle.world_replay.specs.Printed.{refusal_text};
 ghost use Rattle.world_replay.specs.WorkedMixed.{MayShow, ShowsOneTaken, ShowsOnly, hail, hailed};
-ghost use Rattle.world_script.specs.declared.event.MixedWorldEvent.TheVariants.{Calm, Happen};
+ghost use Rattle.world_script.specs.declared.event.WorldEvent.TheVariants.{Calm, Happen};
 
 /// The words of a refusal.
 pub fn worked_refusals()

@@ -1,5 +1,4 @@
 mod Lines
-mod Strangers
 mod Requests
 pub mod WorldOnce
 pub mod lemmas

@@ -1,5 +1,5 @@
 -- No two events of a world are spelled alike.
-use Rattle.std.proofs.Common.{◌≡◌, ℕ, ◌<◌, ◌^◌, List, ◌∷◌, ◌++◌, length, refl, sym, ap, ◌∙◌, arith, subst, lit<}
+use Rattle.std.proofs.Common.{◌≡◌, Bool, ℕ, ◌<◌, ◌^◌, List, ◌∷◌, ◌++◌, length, refl, sym, ap, ◌∙◌, arith, subst, lit<}
 use Rattle.std.proofs.lemmas.Fmt.{decimal_injective}
 use Rattle.std.specs.Fmt.{decimal}
 use Rattle.interface.specs.Host.{Host}
@@ -7,14 +7,14 @@ use Rattle.interface.specs.Printed.{host_text}
 use Rattle.interface.specs.declared.event.NetEvent.{NetEvent}
 use Rattle.script.specs.Spelling.{IsHost, octets_text}
 use Rattle.script.specs.declared.event.RawEvent.TheVariants as raw
-use Rattle.script.proofs.lemmas.{SameCut, asked_once_as, event_once, host_once, host_unmarked, same_cut, text_once}
+use Rattle.script.proofs.lemmas.{SameCut, asked_once_as, event_once, host_once, host_unmarked, message_once, same_cut, text_once}
 use Rattle.world_script.specs.Steps.{arguments, three_text, two_text}
 use Rattle.world_script.specs.WorldScript.{AskFor}
 use Rattle.world_script.specs.WorldSpelling.{IsRequest, IsWorldEvent, world_spelling}
 use Rattle.world_script.specs.declared.event.WorldEvent.{WorldEvent}
 use Rattle.world_script.specs.declared.verb.Verb.{Verb}
 use Rattle.world_script.specs.declared.verb.Verb.TheVariants as verb
-use Rattle.world_script.proofs.Lines.{Asks, Calms, Head, Nets, Offers, OperandAt, Serves, Takes, Types, Uses, behind, cut_alike, event_again, event_at, first, first_unmarked, head, head_again, head_of, operand_at, spelled_event}
+use Rattle.world_script.proofs.Lines.{Asks, Calms, Head, Nets, Offers, OperandAt, Says, Serves, Takes, Types, Uses, behind, cut_alike, event_again, event_at, first, first_unmarked, head, head_again, head_of, operand_at, spelled_event}
 use Rattle.world_script.proofs.Requests.{OperandOf, SameNumber, behind_number, request_of}
 
 -- ---- numbers and hosts
@@ -76,41 +76,42 @@ arguments_once verb.Close x y p q e = number_once x y p q e
 net_inside : (a b : NetEvent) → raw.Net a ≡ raw.Net b → a ≡ b
 net_inside a b e = cc
 
-operand_once : (k : Head) (x y : OperandAt k) → IsWorldEvent (event_at k x) → IsWorldEvent (event_at k y) → world_spelling (event_at k x) ≡ world_spelling (event_at k y) → behind (event_at k x) ≡ behind (event_at k y) → x ≡ y
-operand_once (Asks v) (h, x) (g, y) p q e b =
+operand_once : (strangers : Bool) (k : Head) (x y : OperandAt k) → IsWorldEvent strangers (event_at k x) → IsWorldEvent strangers (event_at k y) → world_spelling (event_at k x) ≡ world_spelling (event_at k y) → behind (event_at k x) ≡ behind (event_at k y) → x ≡ y
+operand_once strangers (Asks v) (h, x) (g, y) p q e b =
     let same : SameHost h g (arguments (request_of v x)) (arguments (request_of v y)) = hosts_alike h g (arguments (request_of v x)) (arguments (request_of v y)) p.0 q.0 b in
     let next : x ≡ y = arguments_once v x y p.1 q.1 same.back in
     λ i. (same.host i, next i)
-operand_once Offers x y p q e b = host_once x y p q b
-operand_once Takes x y p q e b = host_once x y p q b
-operand_once Calms x y p q e b = number_once x y p q b
-operand_once Serves (h, l, s) (g, x, y) p q e b =
+operand_once strangers Offers x y p q e b = host_once x y p q b
+operand_once strangers Takes x y p q e b = host_once x y p q b
+operand_once strangers Calms x y p q e b = number_once x y p q b
+operand_once strangers Serves (h, l, s) (g, x, y) p q e b =
     let same : SameHost h g (two_text (l, s)) (two_text (x, y)) = hosts_alike h g (two_text (l, s)) (two_text (x, y)) p.0 q.0 b in
     let next : (l, s) ≡ (x, y) = two_once (l, s) (x, y) p.1 p.2 q.1 q.2 same.back in
     λ i. (same.host i, (next i).0, (next i).1)
-operand_once Uses (h, k, l, u) (g, m, x, y) p q e b =
+operand_once strangers Uses (h, k, l, u) (g, m, x, y) p q e b =
     let same : SameHost h g (host_text k ++ 32 ∷ two_text (l, u)) (host_text m ++ 32 ∷ two_text (x, y)) = hosts_alike h g (host_text k ++ 32 ∷ two_text (l, u)) (host_text m ++ 32 ∷ two_text (x, y)) p.0 q.0 b in
     let peers : SameHost k m (two_text (l, u)) (two_text (x, y)) = hosts_alike k m (two_text (l, u)) (two_text (x, y)) p.1 q.1 same.back in
     let next : (l, u) ≡ (x, y) = two_once (l, u) (x, y) p.2 p.3 q.2 q.3 peers.back in
     λ i. (same.host i, peers.host i, (next i).0, (next i).1)
-operand_once Types (h, text) (g, other) p q e b =
+operand_once strangers Types (h, text) (g, other) p q e b =
     let same : SameHost h g text other = hosts_alike h g text other p.0 q.0 b in
     λ i. (same.host i, same.back i)
-operand_once Nets x y p q e b = net_inside x y (event_once (raw.Net x) (raw.Net y) p q e)
+operand_once strangers Says x y p q e b = message_once x y p.1 q.1 b
+operand_once strangers Nets x y p q e b = net_inside x y (event_once (raw.Net x) (raw.Net y) p q e)
 
-at_once : (k : Head) (x : OperandAt k) (d : WorldEvent) → head d ≡ k → IsWorldEvent (event_at k x) → (meant : IsWorldEvent d) → world_spelling (event_at k x) ≡ world_spelling d → behind (event_at k x) ≡ behind d → event_at k x ≡ d
-at_once k x d same p meant e b =
-    let F : Head → Type 0 = λ j. (y : OperandAt j) → IsWorldEvent (event_at j y) → world_spelling (event_at j y) ≡ world_spelling d → behind (event_at j y) ≡ behind d → event_at j y ≡ d in
+at_once : (strangers : Bool) (k : Head) (x : OperandAt k) (d : WorldEvent) → head d ≡ k → IsWorldEvent strangers (event_at k x) → (meant : IsWorldEvent strangers d) → world_spelling (event_at k x) ≡ world_spelling d → behind (event_at k x) ≡ behind d → event_at k x ≡ d
+at_once strangers k x d same p meant e b =
+    let F : Head → Type 0 = λ j. (y : OperandAt j) → IsWorldEvent strangers (event_at j y) → world_spelling (event_at j y) ≡ world_spelling d → behind (event_at j y) ≡ behind d → event_at j y ≡ d in
     let again : event_at (head d) (operand_at d meant) ≡ d = event_again d meant in
-    let here : F (head d) = λ y q alike rest. ap (event_at (head d)) (operand_once (head d) y (operand_at d meant) q (subst IsWorldEvent (sym again) meant) (alike ∙ ap world_spelling (sym again)) (rest ∙ ap behind (sym again))) ∙ again in
+    let here : F (head d) = λ y q alike rest. ap (event_at (head d)) (operand_once strangers (head d) y (operand_at d meant) q (subst (IsWorldEvent strangers) (sym again) meant) (alike ∙ ap world_spelling (sym again)) (rest ∙ ap behind (sym again))) ∙ again in
     subst F same here x p e b
 
-pub world_event_once : (d e : WorldEvent) → IsWorldEvent d → IsWorldEvent e → world_spelling d ≡ world_spelling e → d ≡ e
-world_event_once d e p q same =
+pub world_event_once : (strangers : Bool) (d e : WorldEvent) → IsWorldEvent strangers d → IsWorldEvent strangers e → world_spelling d ≡ world_spelling e → d ≡ e
+world_event_once strangers d e p q same =
     let cut : SameCut (first d) (behind d) (first e) (behind e) = cut_alike (first d) (behind d) e q (first_unmarked d p) (sym (spelled_event d p) ∙ same) in
     let heads : head e ≡ head d = sym (head_again e q) ∙ ap head_of (sym cut.front) ∙ head_again d p in
     let again : event_at (head d) (operand_at d p) ≡ d = event_again d p in
-    sym again ∙ at_once (head d) (operand_at d p) e heads (subst IsWorldEvent (sym again) p) q (ap world_spelling again ∙ same) (ap behind again ∙ cut.back)
+    sym again ∙ at_once strangers (head d) (operand_at d p) e heads (subst (IsWorldEvent strangers) (sym again) p) q (ap world_spelling again ∙ same) (ap behind again ∙ cut.back)
 
-pub world_asked_once : (ds es : List WorldEvent) (lines : List (List ℕ)) → AskFor ds lines → AskFor es lines → ds ≡ es
-world_asked_once ds es lines d e = asked_once_as world_spelling IsWorldEvent world_event_once ds es lines d e
+pub world_asked_once : (strangers : Bool) (ds es : List WorldEvent) (lines : List (List ℕ)) → AskFor strangers ds lines → AskFor strangers es lines → ds ≡ es
+world_asked_once strangers ds es lines d e = asked_once_as world_spelling (IsWorldEvent strangers) (world_event_once strangers) ds es lines d e

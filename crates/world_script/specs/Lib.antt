@@ -1,4 +1,3 @@
 pub mod Steps
-pub mod Mixed
 pub mod WorldScript
 pub mod WorldSpelling

@@ -1,11 +1,12 @@
 -- What the contracts of private functions say. No public clause cites this file.
-use Rattle.std.specs.Prelude.{◌≡◌, ◌≢◌, ℕ, ◌<◌, ◌≤◌, ◌^◌, List, ◌∷◌, ◌++◌, length, codes, Option, Some, None}
+use Rattle.std.specs.Prelude.{◌≡◌, ◌≢◌, Bool, ℕ, ◌<◌, ◌≤◌, ◌^◌, List, ◌∷◌, ◌++◌, length, codes, Option, Some, None}
 use Rattle.std.specs.Fmt.{decimal}
 use Rattle.interface.specs.Printed.{host_text}
-use Rattle.script.specs.Spelling.{IsHex, octets_text}
+use Rattle.script.specs.Spelling.{IsHex, ReadsAs, octets_text}
 use Rattle.sockets.specs.declared.request.Request.{Request}
 use Rattle.sockets.specs.declared.request.Request.TheVariants as request
-use Rattle.world_script.specs.WorldSpelling.{IsRequest, IsSocket}
+use Rattle.world_script.specs.WorldSpelling.{IsRequest, IsSocket, IsWorldEvent, world_spelling}
+use Rattle.world_script.specs.declared.event.WorldEvent.{WorldEvent}
 use Rattle.world_script.specs.declared.verb.Verb.{Verb}
 use Rattle.world_script.specs.declared.verb.Verb.TheVariants as verb
 
@@ -65,6 +66,10 @@ arguments (request.Grant socket messages bits) = three_text (socket, messages, b
 arguments (request.AskBack socket messages bits) = three_text (socket, messages, bits)
 arguments (request.Interrupt socket) = decimal socket
 arguments (request.Close socket) = decimal socket
+
+-- this is what a line asks for, whether there are strangers or not
+abbrev pub ReadsAnywhere : List ℕ → Option WorldEvent → Type 0
+ReadsAnywhere line read = (strangers : Bool) → ReadsAs world_spelling (IsWorldEvent strangers) line read
 
 -- these words are the arguments of a valid request of this verb, or of none
 abbrev pub ReadsRequest : Verb → List ℕ → Option Request → Type 0

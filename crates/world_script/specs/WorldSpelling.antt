@@ -1,11 +1,11 @@
 -- How events of a world are spelled in a script: words with single spaces between.
-use Rattle.std.specs.Prelude.{◌≡◌, true, ℕ, ◌^◌, ◌<◌, List, [], ◌++◌, ◌⊎◌, length, codes}
+use Rattle.std.specs.Prelude.{◌≡◌, Bool, true, ℕ, ◌^◌, ◌<◌, List, [], ◌++◌, ◌⊎◌, length, codes}
 use Rattle.std.specs.Fmt.{decimal}
 use Rattle.std.specs.List.{list_all}
 use Rattle.interface.specs.Host.{Host}
 use Rattle.interface.specs.Printed.{host_text}
 use Rattle.net_sim.specs.declared.event.Event.TheVariants as event
-use Rattle.script.specs.Spelling.{IsHex, IsHost, IsIndex, IsNetEvent, message_text, net_spelling, octets_text}
+use Rattle.script.specs.Spelling.{IsHex, IsHost, IsIndex, IsMessage, IsNetEvent, IsTextRead, message_text, net_spelling, octets_text}
 use Rattle.sockets.specs.declared.request.Request.{Request}
 use Rattle.sockets.specs.declared.request.Request.TheVariants as request
 use Rattle.terminal.specs.Lines.{is_printable}
@@ -65,19 +65,19 @@ IsRequest (request.Close socket) = IsSocket socket
 abbrev pub IsText : List ℕ → Type 0
 IsText text = list_all is_printable text ≡ true
 
--- the events that a world's script may ask for. Whether the sockets of a server or a user are even or odd, and whether
--- there is a terminal, is seen when the event is run. What a stranger sends is asked for only where there are strangers
-abbrev pub IsWorldEvent : WorldEvent → Type 0
-IsWorldEvent (world.Happen (event.Net e)) = IsNetEvent e
-IsWorldEvent (world.Happen event.Quiet) = ⊥
-IsWorldEvent (world.Happen (event.Offer h)) = IsHost h
-IsWorldEvent (world.Happen (event.Take h)) = IsHost h
-IsWorldEvent (world.Happen (event.Ask h r)) = IsHost h × IsRequest r
-IsWorldEvent (world.Happen (event.Server h listen base)) = IsHost h × IsSocket listen × IsSocket base
-IsWorldEvent (world.Happen (event.User h peer listen own)) = IsHost h × IsHost peer × IsSocket listen × IsSocket own
-IsWorldEvent (world.Happen (event.Typed h text)) = IsHost h × IsText text
-IsWorldEvent (world.Happen (event.Out m)) = ⊥
-IsWorldEvent (world.Calm rounds) = IsIndex rounds
+-- the events that a world's script may ask for, by whether there are strangers: what one sends is asked for only where there are. Whether the sockets
+-- of a server or a user are even or odd, whether there is a terminal, and whether a message's source is a stranger is seen when the event is run
+abbrev pub IsWorldEvent : Bool → WorldEvent → Type 0
+IsWorldEvent strangers (world.Happen (event.Net e)) = IsNetEvent e
+IsWorldEvent strangers (world.Happen event.Quiet) = ⊥
+IsWorldEvent strangers (world.Happen (event.Offer h)) = IsHost h
+IsWorldEvent strangers (world.Happen (event.Take h)) = IsHost h
+IsWorldEvent strangers (world.Happen (event.Ask h r)) = IsHost h × IsRequest r
+IsWorldEvent strangers (world.Happen (event.Server h listen base)) = IsHost h × IsSocket listen × IsSocket base
+IsWorldEvent strangers (world.Happen (event.User h peer listen own)) = IsHost h × IsHost peer × IsSocket listen × IsSocket own
+IsWorldEvent strangers (world.Happen (event.Typed h text)) = IsHost h × IsText text
+IsWorldEvent strangers (world.Happen (event.Out m)) = (strangers ≡ true) × IsMessage m
+IsWorldEvent strangers (world.Calm rounds) = IsIndex rounds
 
 -- ---- memory
 
@@ -93,6 +93,8 @@ pub record IsSendRead (line : List ℕ) : Type 0 where
   pub few : count < 2 ^ 32
   pub hex : IsHex word
 
--- memory is needed to read the octets to send, and to keep an event
-abbrev pub WantsMemory : List ℕ → Type 0
-WantsMemory line = IsSendRead line ⊎ ((e : WorldEvent) × (line ≡ world_spelling e) × IsWorldEvent e)
+-- memory is needed to read the octets to send, and those of what a stranger sends, and to keep an event
+abbrev pub WantsMemory : Bool → List ℕ → Type 0
+WantsMemory strangers line =
+    IsSendRead line ⊎ ((strangers ≡ true) × (words : List ℕ) × (line ≡ codes "out " ++ words) × IsTextRead words)
+    ⊎ ((e : WorldEvent) × (line ≡ world_spelling e) × IsWorldEvent strangers e)

@@ -11,11 +11,9 @@
 mod event;
 mod events;
 pub mod law;
-mod mixed;
 mod request;
 mod services;
 mod verb;
 
-pub use event::{MixedWorldEvent, WorldEvent};
+pub use event::WorldEvent;
 pub use events::read_world_script;
-pub use mixed::read_mixed_script;

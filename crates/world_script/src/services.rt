@@ -1,8 +1,8 @@
 //! Lines of what runs on a host beside its program: servers and users of initial connections, and terminals.
 
-ghost use Rattle.std.specs.Prelude.{◌≡◌, ◌++◌, codes, IfOk, IfErr};
-ghost use Rattle.script.specs.Spelling.{ReadsAs};
-ghost use Rattle.world_script.specs.WorldSpelling.{IsWorldEvent, WantsMemory, world_spelling};
+ghost use Rattle.std.specs.Prelude.{Bool, ◌++◌, codes, IfOk, IfErr};
+ghost use Rattle.world_script.specs.Steps.{ReadsAnywhere};
+ghost use Rattle.world_script.specs.WorldSpelling.{WantsMemory};
 
 use crate::event::WorldEvent;
 use crate::request::read_two;
@@ -13,7 +13,7 @@ use terminal::TerminalFault;
 
 /// Reads `HOST LISTEN BASE`: a server of initial connections begins.
 pub(crate) fn read_server(words: &[u8]) -> Option<WorldEvent>
-    ensures { ReadsAs world_spelling IsWorldEvent (codes "server " ++ words.now) result }
+    ensures { ReadsAnywhere (codes "server " ++ words.now) result }
 {
     let (host, sockets) = cut(words, b' ')?;
     let host = read_host(host)?;
@@ -23,7 +23,7 @@ pub(crate) fn read_server(words: &[u8]) -> Option<WorldEvent>
 
 /// Reads `HOST PEER LISTEN OWN`: a user of an initial connection begins.
 pub(crate) fn read_user(words: &[u8]) -> Option<WorldEvent>
-    ensures { ReadsAs world_spelling IsWorldEvent (codes "user " ++ words.now) result }
+    ensures { ReadsAnywhere (codes "user " ++ words.now) result }
 {
     let (host, rest) = cut(words, b' ')?;
     let host = read_host(host)?;
@@ -43,8 +43,8 @@ pub(crate) fn read_user(words: &[u8]) -> Option<WorldEvent>
 ///
 /// Errors: `AllocError`, only for a text that may be typed.
 pub(crate) fn read_typed(alloc: Global, words: &[u8]) -> Result<Option<WorldEvent>, AllocError>
-    ensures read { IfOk result (ReadsAs world_spelling IsWorldEvent (codes "type " ++ words.now)) }
-    ensures memory { IfErr result (λ _. WantsMemory (codes "type " ++ words.now)) }
+    ensures read { IfOk result (ReadsAnywhere (codes "type " ++ words.now)) }
+    ensures memory { IfErr result (λ _. (strangers : Bool) → WantsMemory strangers (codes "type " ++ words.now)) }
 {
     let Some((host, text)) = cut(words, b' ') else {
         return Ok(None);

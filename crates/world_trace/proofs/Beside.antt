@@ -9,7 +9,6 @@ use Rattle.world_replay.proofs.lemmas.Gained.{HaveGains, replays_show}
 use Rattle.world_replay.specs.Kinds.{HappensBy, mixed_kind}
 use Rattle.world_replay.specs.Output.{Shown, crossings_of, output}
 use Rattle.world_replay.specs.WorkedMixed.{ShowsOnly}
-use Rattle.world_script.specs.declared.event.MixedWorldEvent.TheVariants as mixed
 use Rattle.world_script.specs.declared.event.WorldEvent.TheVariants as world
 use Rattle.world_trace.specs.Texts.{event_text, line_of}
 use Rattle.world_trace.specs.Traces.{change_of}
@@ -18,16 +17,16 @@ use Rattle.world_trace.proofs.Telling.{crossings_gained}
 
 -- what crossed is what the lines say that crossed
 crossed_shown : (calls : Calls Seen) (e : Event) (new : MixedState Seen) (lines : List Shown)
-    (h : HappensBy (mixed_kind calls) beside_third (mixed.Happen e) new lines)
+    (h : HappensBy (mixed_kind calls) beside_third (world.Happen e) new lines)
     → h.gains.crossings ≡ crossings_of lines
 crossed_shown calls e new lines h =
     let said : HaveGains beside_third.world.kept new.world.kept lines =
-    replays_show (mixed_kind calls) beside_third (mixed.Happen e ∷ []) new lines
+    replays_show (mixed_kind calls) beside_third (world.Happen e ∷ []) new lines
     (new, lines, [], h, (refl, refl), sym (append-nil lines)) in
     sym (crossings_gained [] new.world.kept.book.crossings h.gains.crossings h.gains.crossed)
     ∙ crossings_gained [] new.world.kept.book.crossings (crossings_of lines) said.crossed
 
-pub traces_only : (calls : Calls Seen) (e : Event) (shows : List Shown) → ShowsOnly calls (mixed.Happen e) shows
+pub traces_only : (calls : Calls Seen) (e : Event) (shows : List Shown) → ShowsOnly calls (world.Happen e) shows
     → TracesOnly calls e (crossings_of shows) (output Sizes shows)
 traces_only calls e shows only members spot new lines (shown, happens, is) =
     let same : shown ≡ shows = only new shown happens in

@@ -32,7 +32,7 @@ abbrev IsFit : Event → Type 0
 IsFit (event.Net e) = IsNetEvent e
 IsFit e = Unit {0}
 
-fit_script : (e : Event) → IsWorldEvent (script.Happen e) → IsFit e
+fit_script : (e : Event) → IsWorldEvent false (script.Happen e) → IsFit e
 fit_script (event.Net e) valid = valid
 fit_script event.Quiet valid = tt
 fit_script (event.Offer h) valid = tt
@@ -58,7 +58,7 @@ all_fit : (events : List Event) → All IsOfCalm events → All IsFit events
 all_fit [] calm = All-nil IsFit
 all_fit (e ∷ events) calm = All-cons IsFit e events (fit_calm e (All-head IsOfCalm e events calm)) (all_fit events (All-tail IsOfCalm e events calm))
 
-course_fit : (e : WorldEvent) (events : List Event) → IsWorldEvent e → IsCourse e events → All IsFit events
+course_fit : (e : WorldEvent) (events : List Event) → IsWorldEvent false e → IsCourse e events → All IsFit events
 course_fit (script.Happen e) events valid course = subst (All IsFit) (sym course) (All-cons IsFit e [] (fit_script e valid) (All-nil IsFit))
 course_fit (script.Calm rounds) events valid course = all_fit events course.0
 
@@ -157,11 +157,11 @@ module _ {C : Type 0} (calls : Calls C) (Holds : C → Type 0) (keeps : Keeps ca
   scripts_said [] old new drives h said = subst Said h.0 said
   scripts_said (e ∷ events) old new drives (mid, first, rest, (es, course, one), more, all) said = all_said es old mid first one (scripts_said events mid new rest more said)
 
-  scripts_hold : (events : List WorldEvent) (old new : WorldState C) (drives : List Drive) → All IsWorldEvent events → Said new → InTurn (IsDrivenIn calls) old events new drives → Holds old.carrier → Holds new.carrier
+  scripts_hold : (events : List WorldEvent) (old new : WorldState C) (drives : List Drive) → All (IsWorldEvent false) events → Said new → InTurn (IsDrivenIn calls) old events new drives → Holds old.carrier → Holds new.carrier
   scripts_hold [] old new drives valid said h holds = subst (λ (w : WorldState C). Holds w.carrier) (sym h.0) holds
   scripts_hold (e ∷ events) old new drives valid said (mid, first, rest, (es, course, one), more, all) holds =
-      scripts_hold events mid new rest (All-tail IsWorldEvent e events valid) said more
-      (all_hold es old mid first (course_fit e es (All-head IsWorldEvent e events valid) course) (scripts_said events mid new rest more said) one holds)
+      scripts_hold events mid new rest (All-tail (IsWorldEvent false) e events valid) said more
+      (all_hold es old mid first (course_fit e es (All-head (IsWorldEvent false) e events valid) course) (scripts_said events mid new rest more said) one holds)
 
   -- it holds of the carrier of each world that a replay comes to, if it holds at the opening
   pub reached_holds : (opening : C) (w : WorldState C) → IsReached calls opening w → Holds opening → Holds w.carrier

@@ -19,8 +19,7 @@ use Rattle.world_replay.specs.Kinds.{BreaksOffBy, EventGivesAmong, HappensBy, Ma
 use Rattle.world_replay.specs.Kinds.{mixed_kind}
 use Rattle.world_replay.specs.Output.{Shown, Writes, output}
 use Rattle.world_replay.proofs.lemmas.{on_either}
-use Rattle.world_script.specs.declared.event.MixedWorldEvent.{MixedWorldEvent}
-use Rattle.world_script.specs.declared.event.MixedWorldEvent.TheVariants as mixed
+use Rattle.world_script.specs.declared.event.WorldEvent.{WorldEvent}
 use Rattle.world_script.specs.declared.event.WorldEvent.TheVariants as world
 use Rattle.world_trace.specs.MixedSteps.{HasPassedMixed, MixedEnds, EventEndsAmong, ShowsMixed, mixed_reach}
 use Rattle.world_trace.specs.MixedTraces.{StopsMixed, TellsMixed}
@@ -38,24 +37,24 @@ use Rattle.world_trace.proofs.Telling.{failed_by, last_one, line_by, one_line, o
 -- whichever fault ended it
 pub ended_mixed : {C : Type 0} (calls : Calls C) (old new : MixedState C) (e : Event) (f : ReplayFault)
     → (failed_by f ≡ Err fault.OutOfMemory → (lines : List Shown)
-    × RunsOutBy (mixed_kind calls) old (mixed.Happen e ∷ []) new lines)
+    × RunsOutBy (mixed_kind calls) old (world.Happen e ∷ []) new lines)
     → (failed_by f ≡ Err fault.CannotWrite → (lines : List Shown)
-    × BreaksOffBy (mixed_kind calls) old (mixed.Happen e ∷ []) new lines)
+    × BreaksOffBy (mixed_kind calls) old (world.Happen e ∷ []) new lines)
     → StopsMixed calls old e new []
 ended_mixed calls old new e fault.OutOfMemory memory failed =
     let w = memory refl in
-    let (own, stopped) = last_one (HappensBy (mixed_kind calls)) (StopsBy (mixed_kind calls)) old new (mixed.Happen e)
+    let (own, stopped) = last_one (HappensBy (mixed_kind calls)) (StopsBy (mixed_kind calls)) old new (world.Happen e)
     w.0 w.1 in
     inr (refl, (stopped.outcome, stopped.gives))
 ended_mixed calls old new e fault.CannotWrite memory failed =
     let w = failed refl in
-    let (own, may) = last_one (HappensBy (mixed_kind calls)) (MayDoBy (mixed_kind calls)) old new (mixed.Happen e) w.0
+    let (own, may) = last_one (HappensBy (mixed_kind calls)) (MayDoBy (mixed_kind calls)) old new (world.Happen e) w.0
     w.1 in
     inr (
       refl,
       (
         may.outcome,
-        subst (λ (x : MixedWorldEvent). EventGivesAmong calls old x may.outcome new) may.begins
+        subst (λ (x : WorldEvent). EventGivesAmong calls old x may.outcome new) may.begins
             may.gives,
       ),
     )
@@ -81,7 +80,7 @@ tells_mixed calls members spot old new e p a b h written =
 pub calm_ends : {C : Type 0} (calls : Calls C) (members : C → AllParts) (spot : Spot) (rounds : ℕ)
     (old new : MixedState C) (r : Result (Unit {0}) ReplayFault) (a b : Option (List ℕ))
     → EventEnds calls members spot old.world (world.Calm rounds) r new.world a b → new.strangers ≡ old.strangers
-    → EventEndsAmong calls members spot old (mixed.Calm rounds) r new a b
+    → EventEndsAmong calls members spot old (world.Calm rounds) r new a b
 calm_ends calls members spot rounds old new (Ok done) a b h same =
     record { shown = h.shown; is_shown = (h.is_shown, same); written = h.written }
 calm_ends calls members spot rounds old new (Err fault.OutOfMemory) a b h same =
@@ -90,7 +89,7 @@ calm_ends calls members spot rounds old new (Err fault.CannotWrite) a b (lines, 
 
 pub mixed_ends : {C : Type 0} (calls : Calls C) (members : C → AllParts) (spot : Spot) (e : Event)
     (old new : MixedState C) (r : Result (Unit {0}) ReplayFault) (a b : Option (List ℕ))
-    → MixedEnds calls members spot old e r new a b → EventEndsAmong calls members spot old (mixed.Happen e) r new a b
+    → MixedEnds calls members spot old e r new a b → EventEndsAmong calls members spot old (world.Happen e) r new a b
 mixed_ends calls members spot e old new (Ok done) a b h = h
 mixed_ends calls members spot e old new (Err fault.OutOfMemory) a b h = h
 mixed_ends calls members spot e old new (Err fault.CannotWrite) a b h = h

@@ -25,7 +25,7 @@ use Rattle.trace.specs.declared.element.Spot.{Spot}
 use Rattle.world_replay.specs.Output.{Shown}
 use Rattle.world_replay.specs.Replay.{EventGives, Happens, MayStep, Replays}
 use Rattle.world_script.specs.WorldSpelling.{IsWorldEvent}
-use Rattle.world_script.specs.declared.event.MixedWorldEvent.TheVariants as mixed
+use Rattle.world_script.specs.declared.event.WorldEvent.TheVariants as script
 use Rattle.world_script.specs.declared.event.WorldEvent.TheVariants.{Calm}
 use Rattle.world_script.specs.declared.event.WorldEvent.{WorldEvent}
 use Rattle.world_trace.specs.Lasting.{Lasts}
@@ -136,7 +136,7 @@ pub record WorkedEvents {C : Type 0} (calls : Calls C) : Type 0 where
 
 -- A replay comes to a world by events that a script may ask for, and all that crossed there can be named.
 pub record WorkedReached {C : Type 0} (calls : Calls C) : Type 0 where
-  pub events : (opening : C) (w : WorldState C) (h : IsReached calls opening w) → All IsWorldEvent h.script
+  pub events : (opening : C) (w : WorldState C) (h : IsReached calls opening w) → All (IsWorldEvent false) h.script
   pub said : (opening : C) (w : WorldState C) → IsReached calls opening w → All IsSaid w.kept.book.crossings
 
 -- What is written of a world with strangers, and what is left of it where its trace ends early.
@@ -153,7 +153,7 @@ pub record WorkedAmong {C : Type 0} (calls : Calls C) : Type 0 where
   -- no stranger comes or goes in a calm
   pub calm :
       (members : C → AllParts) (spot : Spot) (old new : MixedState C) (rounds : ℕ) (lines : List (List ℕ)) →
-      TellsMixedAt calls members spot old (mixed.Calm rounds) new lines → new.strangers ≡ old.strangers
+      TellsMixedAt calls members spot old (script.Calm rounds) new lines → new.strangers ≡ old.strangers
   -- where memory ran out or a write failed the event has no line, and the world is as before it or as it went
   pub memory :
       (old new : MixedState C) (e : Event) (lines : List (List ℕ)) → StopsMixed calls old e new lines →

@@ -12,8 +12,7 @@ use Rattle.trace.specs.declared.all_parts.AllParts.{AllParts}
 use Rattle.trace.specs.declared.element.Spot.{Spot}
 use Rattle.world_replay.specs.Kinds.{HappensBy, mixed_kind}
 use Rattle.world_replay.specs.Output.{Shown, output}
-use Rattle.world_script.specs.declared.event.MixedWorldEvent.{MixedWorldEvent}
-use Rattle.world_script.specs.declared.event.MixedWorldEvent.TheVariants as mixed
+use Rattle.world_script.specs.declared.event.WorldEvent.{WorldEvent}
 use Rattle.world_trace.specs.MixedTraces.{MayTellMixed, MixedEndsAt, StopsMixed, TellsMixed, TellsMixedAt}
 use Rattle.world_trace.specs.MixedTraces.{stranger_text}
 use Rattle.world_trace.specs.Steps.{AreChanges, EndsAs, at_one, is_of_network}
@@ -51,7 +50,7 @@ mixed_reach e = if is_of_network e then reach.All else reach.At (at_one e)
 
 -- it happened, and a replay prints this text for it
 abbrev pub ShowsMixed : {C : Type 0} → Calls C → MixedState C → Event → MixedState C → List ℕ → Type 0
-ShowsMixed calls old e new text = (lines : List Shown) × HappensBy (mixed_kind calls) old (mixed.Happen e) new lines
+ShowsMixed calls old e new text = (lines : List Shown) × HappensBy (mixed_kind calls) old (world.Happen e) new lines
     × (text ≡ output Sizes lines)
 
 -- and these are the texts of its line, with this many crossings in the book before it
@@ -72,7 +71,7 @@ MixedEnds calls members spot old e r new before after = EndsAs (TellsMixed calls
     (MayTellMixed calls) old e r new before after
 
 -- any event
-abbrev pub EventEndsAmong : {C : Type 0} → Calls C → (C → AllParts) → Spot → MixedState C → MixedWorldEvent
+abbrev pub EventEndsAmong : {C : Type 0} → Calls C → (C → AllParts) → Spot → MixedState C → WorldEvent
     → Result (Unit {0}) ReplayFault → MixedState C → Option (List ℕ) → Option (List ℕ) → Type 0
 EventEndsAmong calls members spot old e r new before after =
     EndsAs (TellsMixedAt calls members spot) (MixedEndsAt calls members (StopsOne calls) (StopsMixed calls) spot)

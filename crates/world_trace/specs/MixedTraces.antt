@@ -17,8 +17,7 @@ use Rattle.trace.specs.declared.all_parts.AllParts.{AllParts}
 use Rattle.trace.specs.declared.element.Spot.{Spot}
 use Rattle.world_replay.specs.Kinds.{HappensBy, mixed_kind}
 use Rattle.world_replay.specs.Output.{Shown, output}
-use Rattle.world_script.specs.declared.event.MixedWorldEvent.{MixedWorldEvent}
-use Rattle.world_script.specs.declared.event.MixedWorldEvent.TheVariants as mixed
+use Rattle.world_script.specs.declared.event.WorldEvent.{WorldEvent}
 use Rattle.world_script.specs.declared.event.WorldEvent.TheVariants as world
 use Rattle.world_trace.specs.Texts.{event_text, line_of, opening_text}
 use Rattle.world_trace.specs.Traces.{EndsAt, MayTell, StopsOne, TellsAt, change_of, state_of}
@@ -41,7 +40,7 @@ mixed_opening members t s = opening_text t (state_of members s.world ++ foreign_
 -- an event that is no calm happens as in a replay and has one line, with what of the state is other than before
 abbrev pub TellsMixed : {C : Type 0} → Calls C → (C → AllParts) → Spot → Happening (MixedState C) Event (List ℕ)
 TellsMixed calls members spot old e new lines =
-    (shown : List Shown) × (h : HappensBy (mixed_kind calls) old (mixed.Happen e) new shown)
+    (shown : List Shown) × (h : HappensBy (mixed_kind calls) old (world.Happen e) new shown)
     × (lines ≡ line_of spot 0 (event_text (world.Happen e)) h.gains.crossings (output Sizes shown)
     (change_of members old.world new.world) ∷ [])
 
@@ -56,16 +55,16 @@ StopsMixed calls old e new lines = ((lines ≡ []) × (new ≡ old)) ⊎ MayTell
 
 -- a calm is that of the hosts with programs: strangers have no turn, and stay strangers
 abbrev pub TellsMixedAt : {C : Type 0} → Calls C → (C → AllParts) → Spot
-    → Happening (MixedState C) MixedWorldEvent (List ℕ)
-TellsMixedAt calls members spot old (mixed.Happen e) new lines = TellsMixed calls members spot old e new lines
-TellsMixedAt calls members spot old (mixed.Calm rounds) new lines =
+    → Happening (MixedState C) WorldEvent (List ℕ)
+TellsMixedAt calls members spot old (world.Happen e) new lines = TellsMixed calls members spot old e new lines
+TellsMixedAt calls members spot old (world.Calm rounds) new lines =
     TellsAt calls members spot old.world (world.Calm rounds) new.world lines × (new.strangers ≡ old.strangers)
 
 -- the events of a calm before one had their lines, and that one went as is said. So did an event that is no calm
 abbrev pub MixedEndsAt : {C : Type 0} → Calls C → (C → AllParts) → Happening (WorldState C) Event (List ℕ)
-    → Happening (MixedState C) Event (List ℕ) → Spot → Happening (MixedState C) MixedWorldEvent (List ℕ)
-MixedEndsAt calls members Goes GoesMixed spot old (mixed.Happen e) new lines = GoesMixed old e new lines
-MixedEndsAt calls members Goes GoesMixed spot old (mixed.Calm rounds) new lines =
+    → Happening (MixedState C) Event (List ℕ) → Spot → Happening (MixedState C) WorldEvent (List ℕ)
+MixedEndsAt calls members Goes GoesMixed spot old (world.Happen e) new lines = GoesMixed old e new lines
+MixedEndsAt calls members Goes GoesMixed spot old (world.Calm rounds) new lines =
     EndsAt calls members Goes spot old.world (world.Calm rounds) new.world lines × (new.strangers ≡ old.strangers)
 
 -- an event with where it is
@@ -84,23 +83,23 @@ abbrev pub AllEnd : {S E : Type 0} → (Spot → Happening S E (List ℕ)) → (
 AllEnd Tells Goes old events new lines =
     EndsInTurn (AtSpot Tells) (AtSpot Goes) old (numbered_from 1 events) new lines
 
-abbrev pub TracesMixed : {C : Type 0} → Calls C → (C → AllParts) → MixedState C → List (ℕ × MixedWorldEvent)
+abbrev pub TracesMixed : {C : Type 0} → Calls C → (C → AllParts) → MixedState C → List (ℕ × WorldEvent)
     → MixedState C → List (List ℕ) → Type 0
 TracesMixed calls members old events new lines = AllTell (TellsMixedAt calls members) old events new lines
 
 abbrev pub MixedTraceEnds : {C : Type 0} → Calls C → (C → AllParts) → Happening (WorldState C) Event (List ℕ)
-    → Happening (MixedState C) Event (List ℕ) → MixedState C → List (ℕ × MixedWorldEvent) → MixedState C
+    → Happening (MixedState C) Event (List ℕ) → MixedState C → List (ℕ × WorldEvent) → MixedState C
     → List (List ℕ) → Type 0
 MixedTraceEnds calls members Goes GoesMixed old events new lines =
     AllEnd (TellsMixedAt calls members) (MixedEndsAt calls members Goes GoesMixed) old events new lines
 
 -- memory ran out in one of the events, or for its line; a write failed for the line of one of them
-abbrev pub MixedTraceStops : {C : Type 0} → Calls C → (C → AllParts) → MixedState C → List (ℕ × MixedWorldEvent)
+abbrev pub MixedTraceStops : {C : Type 0} → Calls C → (C → AllParts) → MixedState C → List (ℕ × WorldEvent)
     → MixedState C → List (List ℕ) → Type 0
 MixedTraceStops calls members old events new lines = MixedTraceEnds calls members (StopsOne calls) (StopsMixed calls)
     old events new lines
 
-abbrev pub MixedTraceFails : {C : Type 0} → Calls C → (C → AllParts) → MixedState C → List (ℕ × MixedWorldEvent)
+abbrev pub MixedTraceFails : {C : Type 0} → Calls C → (C → AllParts) → MixedState C → List (ℕ × WorldEvent)
     → MixedState C → Type 0
 MixedTraceFails calls members old events new = (others : List (List ℕ))
     × MixedTraceEnds calls members (MayTell calls) (MayTellMixed calls) old events new others
@@ -114,12 +113,12 @@ AfterMixedOpening members t opening AreLines lines = (others : List (List ℕ))
     × (lines ≡ mixed_opening members t opening ∷ others) × AreLines others
 
 abbrev pub WritesMixed : {C : Type 0} → Calls C → (C → AllParts) → TopologyFields → MixedState C
-    → List (ℕ × MixedWorldEvent) → MixedState C → Option (List ℕ) → Option (List ℕ) → Type 0
+    → List (ℕ × WorldEvent) → MixedState C → Option (List ℕ) → Option (List ℕ) → Type 0
 WritesMixed calls members t old events new before after = WritesTrace
     (AfterMixedOpening members t old (TracesMixed calls members old events new)) before after
 
 -- memory ran out in one of the events, or for its line: those before it have theirs
 abbrev pub WritesMixedPart : {C : Type 0} → Calls C → (C → AllParts) → TopologyFields → MixedState C
-    → List (ℕ × MixedWorldEvent) → MixedState C → Option (List ℕ) → Option (List ℕ) → Type 0
+    → List (ℕ × WorldEvent) → MixedState C → Option (List ℕ) → Option (List ℕ) → Type 0
 WritesMixedPart calls members t old events new before after = WritesTrace
     (AfterMixedOpening members t old (MixedTraceStops calls members old events new)) before after

@@ -31,7 +31,7 @@ IsSaid c = Unit {0}
 -- as their types have
 pub record IsReached {C : Type 0} (calls : Calls C) (opening : C) (w : WorldState C) : Type 0 where
   pub script : List WorldEvent
-  pub valid : All IsWorldEvent script
+  pub valid : All (IsWorldEvent false) script
   pub lines : List Shown
   pub replays : Replays (shown calls) (opening_world calls opening) script w lines
   pub numbers : AreNumbersTold w

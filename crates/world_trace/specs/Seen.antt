@@ -12,7 +12,6 @@ use Rattle.trace.specs.declared.all_parts.AllParts.{AllParts}
 use Rattle.trace.specs.declared.element.Spot.{Spot}
 use Rattle.world_replay.specs.Kinds.{mixed_rounds}
 use Rattle.world_replay.specs.Replay.{rounds_in}
-use Rattle.world_script.specs.declared.event.MixedWorldEvent.{MixedWorldEvent}
 use Rattle.world_script.specs.declared.event.WorldEvent.{WorldEvent}
 use Rattle.world_trace.specs.MixedTraces.{AtSpot, TellsMixedAt, mixed_opening}
 use Rattle.world_trace.specs.Texts.{opening_text}
@@ -47,7 +46,7 @@ WorldIsSeen calls members contents flushed t events old new =
     (EventsAreSeen calls members (λ w. w) rounds_in (TellsAt calls members) contents flushed events) old new
 
 abbrev pub MixedIsSeen : {C W : Type 0} → Calls C → (C → AllParts) → (W → Option (List ℕ)) → (W → Bool)
-    → TopologyFields → List (ℕ × MixedWorldEvent) → MixedState C × W → MixedState C × W → Type 0
+    → TopologyFields → List (ℕ × WorldEvent) → MixedState C × W → MixedState C × W → Type 0
 MixedIsSeen calls members contents flushed t events old new =
     SeenAfter (mixed_opening members t old.0) contents
     (EventsAreSeen calls members (λ s. s.world) mixed_rounds (TellsMixedAt calls members) contents flushed events) old new

@@ -25,7 +25,7 @@ use std::alloc::{AllocError, Global};
 use topology::Topology;
 use trace::{Inspect, Spot, print_network};
 use world_replay::replay_mixed_events;
-use world_script::MixedWorldEvent;
+use world_script::WorldEvent;
 
 /// Traces a world some of whose hosts are strangers, as [`crate::trace_world`] does one without. The first line also
 /// says who they are. A message of a stranger and its taking have a line each, by which parts of the carrier change;
@@ -37,7 +37,7 @@ pub fn trace_mixed_world<C: Inspect, W: Output>(
     alloc: Global,
     network: &Topology,
     world: &mut MixedWorld<C>,
-    events: Vec<(usize, MixedWorldEvent)>,
+    events: Vec<(usize, WorldEvent)>,
     writer: &mut W,
 ) -> Result<(), ReplayFault>
     requires whole { W.failed writer.old ≡ false }
@@ -111,7 +111,7 @@ pub(crate) fn trace_mixed_event<C: Inspect, W: Output>(
     alloc: Global,
     world: &mut MixedWorld<C>,
     spot: Spot,
-    event: MixedWorldEvent,
+    event: WorldEvent,
     known: &mut Option<Texts>,
     notes: &mut C::Notes,
     writer: &mut W,
@@ -124,10 +124,10 @@ pub(crate) fn trace_mixed_event<C: Inspect, W: Output>(
     ensures failed { TellsCannotWrite result (W.failed writer.new) }
 {
     match event {
-        MixedWorldEvent::Calm(rounds) => {
+        WorldEvent::Calm(rounds) => {
             trace_calm(alloc, world, spot, rounds, known, notes, writer)
         }
-        MixedWorldEvent::Happen(event) => {
+        WorldEvent::Happen(event) => {
             trace_mixed(alloc, world, spot, event, known, notes, writer)
         }
     }
@@ -214,7 +214,7 @@ fn happen<C: Inspect>(
     ensures shown { IfOk result (λ text. ShowsMixed (shown C.calls) world.old event world.new text.items) }
     ensures memory { IfErr result (λ _. StopsMixed (shown C.calls) world.old event world.new []) }
 {
-    let events = vec![in alloc; MixedWorldEvent::Happen(event)]?;
+    let events = vec![in alloc; WorldEvent::Happen(event)]?;
     let mut printer = Printer::new(Vec::new(alloc));
     match replay_mixed_events(world, events, Detail::Sizes, &mut printer) {
         Ok(()) => Ok(printer.into_inner()),

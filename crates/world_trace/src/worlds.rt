@@ -26,7 +26,7 @@ use replay::{Detail, Output, ReplayFault};
 use std::alloc::Global;
 use trace::{Inspect, Spot};
 use world_replay::{has_calmed, replay_in_calm, replay_mixed_in_calm};
-use world_script::{MixedWorldEvent, WorldEvent};
+use world_script::WorldEvent;
 
 /// A world that is traced: what is shown of it, and how a calm passes in it.
 pub(crate) trait Traced<C: Inspect> {
@@ -196,7 +196,7 @@ impl<C: Inspect> Scripted<C> for World<C> {
 }
 
 impl<C: Inspect> Scripted<C> for MixedWorld<C> {
-    type Event = MixedWorldEvent;
+    type Event = WorldEvent;
 
     ghost rounds = { mixed_rounds };
 
@@ -210,7 +210,7 @@ impl<C: Inspect> Scripted<C> for MixedWorld<C> {
         &mut self,
         alloc: Global,
         spot: Spot,
-        event: MixedWorldEvent,
+        event: WorldEvent,
         known: &mut Option<Texts>,
         notes: &mut C::Notes,
         writer: &mut W,

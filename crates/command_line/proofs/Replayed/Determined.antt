@@ -2,7 +2,7 @@
 use Rattle.command_line.proofs.Common.{◌≡◌, inl, inr, ℕ, Bool, List, [], ◌++◌, Some, codes, sym, ap, ap₂}
 use Rattle.command_line.proofs.Common.{subst, ◌∙◌, shown, Life, Calls, AreSettled, Detail, CarrierKind, plain_calls}
 use Rattle.command_line.proofs.Common.{subnet_calls, plain_of, subnet_of, WritesWorld, book_text, plain_settled}
-use Rattle.command_line.proofs.Common.{subnet_settled, parted_once, MixedFields, MixedWorldEvent, ReplaysEither}
+use Rattle.command_line.proofs.Common.{subnet_settled, parted_once, MixedFields, WorldEvent, ReplaysEither}
 use Rattle.command_line.proofs.Common.{StopsEither, MixedReplaysOn, MixedReplaysOver, MixedEndsOn, Host, Describes}
 use Rattle.command_line.proofs.Common.{TopologyFields, IsInput, log_text, world_book}
 use Rattle.book_log.specs.Log.{strangers_text}
@@ -16,8 +16,8 @@ use Rattle.topology.specs.declared.network.CarrierKind.TheVariants as kind
 use Rattle.world_replay.proofs.lemmas.News as shown_lines
 use Rattle.world_replay.proofs.lemmas.{mixed_first_part, one_mixed_replay}
 use Rattle.world_replay.specs.Output as lines
-use Rattle.world_script.proofs.lemmas.{mixed_asked_once}
-use Rattle.world_script.specs.Mixed.{AskForMixed}
+use Rattle.world_script.proofs.lemmas.{world_asked_once}
+use Rattle.world_script.specs.WorldScript.{AskFor}
 use Rattle.command_line.specs.Events.{Asked}
 use Rattle.command_line.specs.Joins.{PrintTheSame, printed}
 use Rattle.command_line.specs.Mixed.{IsMixedInput, MixedEndsOver, MixedReplaysInput, MixedShowsFrom, MixedStopsFrom}
@@ -29,27 +29,27 @@ use Rattle.command_line.proofs.Once.{begins, first_part, one_output}
 -- ---- the input
 
 -- octets are one input among strangers
-pub record OneMixed (network other : MixedFields) (events others : List MixedWorldEvent) : Type 0 where
+pub record OneMixed (network other : MixedFields) (events others : List WorldEvent) : Type 0 where
   pub same_network : network ≡ other
   pub same_events : events ≡ others
 
-pub mixed_once : (octets : List ℕ) (network other : MixedFields) (events others : List MixedWorldEvent)
+pub mixed_once : (octets : List ℕ) (network other : MixedFields) (events others : List WorldEvent)
     → IsMixedInput octets network events → IsMixedInput octets other others → OneMixed network other events others
 mixed_once octets network other events others p q =
     let same : SameInput p.document p.script q.document q.script =
     parted_once octets p.document p.script q.document q.script p.parted q.parted in
     let moved : mixed_in q.document ≡ Some network =
     subst (λ (text : List ℕ). mixed_in text ≡ Some network) same.topologies p.described in
-    let asked : AskForMixed events (lines_of q.script) =
-    subst (λ (ls : List (List ℕ)). AskForMixed events ls) same.scripts p.asked in
+    let asked : AskFor true events (lines_of q.script) =
+    subst (λ (ls : List (List ℕ)). AskFor true events ls) same.scripts p.asked in
     record {
       same_network = same_Some network other (sym moved ∙ q.described);
-      same_events = mixed_asked_once events others (lines_of q.script) asked q.asked;
+      same_events = world_asked_once true events others (lines_of q.script) asked q.asked;
     }
 
 -- and none without strangers
 pub not_both : (octets : List ℕ) (network : TopologyFields) (other : MixedFields) (events : Asked)
-    (others : List MixedWorldEvent) → IsInput octets network events → IsMixedInput octets other others → ⊥
+    (others : List WorldEvent) → IsInput octets network events → IsMixedInput octets other others → ⊥
 not_both octets network other events others p q =
     let same : SameInput p.document p.script q.document q.script =
     parted_once octets p.document p.script q.document q.script p.parted q.parted in
@@ -59,7 +59,7 @@ not_both octets network other events others p q =
 -- ---- a whole replay
 
 shown_once : {C : Type 0} (calls : Calls C) → AreSettled calls → (strangers : List Host) (opening : C)
-    (events : List MixedWorldEvent) (lives others : List Life) (shows more : List lines.Shown)
+    (events : List WorldEvent) (lives others : List Life) (shows more : List lines.Shown)
     → MixedShowsFrom calls strangers opening events lives shows
     → MixedShowsFrom calls strangers opening events others more → (lives ≡ others) × (shows ≡ more)
 shown_once {C} calls settled strangers opening events lives others shows more h k =
@@ -76,7 +76,7 @@ record PrintBoth (book other : Bool) (detail more : Detail) (before one two : Li
   second : two ≡ before ++ printed other more shown lives
 
 both_from : {C : Type 0} (calls : Calls C) → AreSettled calls → (strangers : List Host) (opening : C)
-    (events : List MixedWorldEvent) (book other : Bool) (detail more : Detail) (before one two : List ℕ)
+    (events : List WorldEvent) (book other : Bool) (detail more : Detail) (before one two : List ℕ)
     → WritesWorld book detail (MixedShowsFrom calls strangers opening events) (Some before) (Some one)
     → WritesWorld other more (MixedShowsFrom calls strangers opening events) (Some before) (Some two)
     → PrintBoth book other detail more before one two
@@ -91,7 +91,7 @@ both_from calls settled strangers opening events book other detail more before o
           (sym same.0) (sym same.1);
     }
 
-both_over : (carrier : CarrierKind) (t : MixedFields) (events : List MixedWorldEvent) (book other : Bool)
+both_over : (carrier : CarrierKind) (t : MixedFields) (events : List WorldEvent) (book other : Bool)
     (detail more : Detail) (before one two : List ℕ)
     → MixedReplaysOver carrier t book detail events (Some before) (Some one)
     → MixedReplaysOver carrier t other more events (Some before) (Some two)
@@ -110,7 +110,7 @@ both_printed book other detail more input before one two h k =
     mixed_once input h.network k.network h.events k.events h.input k.input in
     let moved : MixedReplaysOn k.network book detail k.events (Some before) (Some one) =
     subst (λ (t : MixedFields). MixedReplaysOn t book detail k.events (Some before) (Some one)) same.same_network
-    (subst (λ (events : List MixedWorldEvent). MixedReplaysOn h.network book detail events (Some before) (Some one))
+    (subst (λ (events : List WorldEvent). MixedReplaysOn h.network book detail events (Some before) (Some one))
     same.same_events h.replayed) in
     both_over k.network.network.carrier k.network k.events book other detail more before one two moved k.replayed
 
@@ -143,7 +143,7 @@ either_options book other detail more input one two (inr h) (inl k) =
 -- ---- the first part of a replay
 
 front_from : {C : Type 0} (calls : Calls C) → AreSettled calls → (strangers : List Host) (opening : C)
-    (events : List MixedWorldEvent) (book : Bool) (detail : Detail) (before part whole : List ℕ)
+    (events : List WorldEvent) (book : Bool) (detail : Detail) (before part whole : List ℕ)
     → lines.Writes detail (MixedStopsFrom calls strangers opening events) (Some before) (Some part)
     → WritesWorld book detail (MixedShowsFrom calls strangers opening events) (Some before) (Some whole)
     → (rest : List ℕ) × (whole ≡ part ++ rest)
@@ -157,7 +157,7 @@ front_from calls settled strangers opening events book detail before part whole 
     begins before part whole (lines.output detail h.shown) (lines.output detail starts.0) end h.written
     (k.written ∙ ap (λ (xs : List ℕ). before ++ (xs ++ end)) all)
 
-front_over : (carrier : CarrierKind) (t : MixedFields) (events : List MixedWorldEvent) (book : Bool) (detail : Detail)
+front_over : (carrier : CarrierKind) (t : MixedFields) (events : List WorldEvent) (book : Bool) (detail : Detail)
     (before part whole : List ℕ) → MixedEndsOver carrier t detail events (Some before) (Some part)
     → MixedReplaysOver carrier t book detail events (Some before) (Some whole)
     → (rest : List ℕ) × (whole ≡ part ++ rest)
@@ -174,7 +174,7 @@ mixed_part book detail input before part whole h k =
     mixed_once input h.network k.network h.events k.events h.input k.input in
     let moved : MixedEndsOn k.network detail k.events (Some before) (Some part) =
     subst (λ (t : MixedFields). MixedEndsOn t detail k.events (Some before) (Some part)) same.same_network
-    (subst (λ (events : List MixedWorldEvent). MixedEndsOn h.network detail events (Some before) (Some part))
+    (subst (λ (events : List WorldEvent). MixedEndsOn h.network detail events (Some before) (Some part))
     same.same_events h.stopped) in
     front_over k.network.network.carrier k.network k.events book detail before part whole moved k.replayed
 
@@ -191,7 +191,7 @@ either_part book detail input before part whole (inr h) (inl k) =
 -- ---- a log
 
 log_from : {C : Type 0} (calls : Calls C) → AreSettled calls → (strangers : List Host) (opening : C)
-    (events : List MixedWorldEvent) (before after other : List ℕ)
+    (events : List WorldEvent) (before after other : List ℕ)
     → MixedLogsFrom calls strangers opening events (Some before) (Some after)
     → MixedLogsFrom calls strangers opening events (Some before) (Some other) → after ≡ other
 log_from {C} calls settled strangers opening events before after other h k =
@@ -202,7 +202,7 @@ log_from {C} calls settled strangers opening events before after other h k =
     ∙ ap (λ (s : MixedState C). before ++ (strangers_text strangers ++ log_text (world_book s.world.kept))) one.0
     ∙ sym k.written
 
-log_over : (carrier : CarrierKind) (t : MixedFields) (events : List MixedWorldEvent) (before after other : List ℕ)
+log_over : (carrier : CarrierKind) (t : MixedFields) (events : List WorldEvent) (before after other : List ℕ)
     → MixedLogsOver carrier t events (Some before) (Some after)
     → MixedLogsOver carrier t events (Some before) (Some other) → after ≡ other
 log_over kind.Plain t events before after other h k =
@@ -217,7 +217,7 @@ mixed_log input before after other h k =
     mixed_once input h.network k.network h.events k.events h.input k.input in
     let moved : MixedLogsOn k.network k.events (Some before) (Some after) =
     subst (λ (t : MixedFields). MixedLogsOn t k.events (Some before) (Some after)) same.same_network
-    (subst (λ (events : List MixedWorldEvent). MixedLogsOn h.network events (Some before) (Some after))
+    (subst (λ (events : List WorldEvent). MixedLogsOn h.network events (Some before) (Some after))
     same.same_events h.logged) in
     log_over k.network.network.carrier k.network k.events before after other moved k.logged
 

@@ -2,7 +2,7 @@
 use Rattle.command_line.proofs.Common.{◌≡◌, ◌⊎◌, ◌<◌, inl, inr, ℕ, Bool, true, false, List, Option, Some, None, Result}
 use Rattle.command_line.proofs.Common.{Ok, Err, IfSome, IfErr, MatchResult, OnOk, refl, sym, subst, ◌∙◌, false≢true}
 use Rattle.command_line.proofs.Common.{Keeps, IsReplayFault, IsInputFault, IsInput, ReplaysOn, ScriptFault}
-use Rattle.command_line.proofs.Common.{Detail, TopologyFields, on_ok, MixedFields, MixedWorldEvent, IsEitherFault}
+use Rattle.command_line.proofs.Common.{Detail, TopologyFields, on_ok, MixedFields, WorldEvent, IsEitherFault}
 use Rattle.command_line.proofs.Common.{IsEitherInput, ReplaysEither, StopsEither}
 use Rattle.command_line.specs.Either.{RanEither, RanEitherInPart}
 use Rattle.command_line.proofs.Common.{IsMixedFault, MixedEndsOn, MixedReplaysOn}
@@ -100,14 +100,14 @@ mixed_read octets (Err fault.CannotRead) read known = absurd known
 mixed_read octets (Err fault.BadOptions) read known = absurd known
 mixed_read octets (Err (fault.BadLine number)) read known = absurd known
 
-pub mixed_replayed : (octets : List ℕ) (network : MixedFields) (events : List MixedWorldEvent) (book : Bool)
+pub mixed_replayed : (octets : List ℕ) (network : MixedFields) (events : List WorldEvent) (book : Bool)
     (detail : Detail) (r : Result (Unit {0}) ScriptFault) (a b : Option (List ℕ)) → IsMixedInput octets network events
     → OnOk r (MixedReplaysOn network book detail events a b) → OnOk r (MixedReplaysInput book detail octets a b)
 mixed_replayed octets network events book detail r a b read h =
     on_ok r (λ (k : MixedReplaysOn network book detail events a b).
     record { network = network; events = events; input = read; replayed = k }) h
 
-pub mixed_stopped : (octets : List ℕ) (network : MixedFields) (events : List MixedWorldEvent) (detail : Detail)
+pub mixed_stopped : (octets : List ℕ) (network : MixedFields) (events : List WorldEvent) (detail : Detail)
     (a b : Option (List ℕ)) → IsMixedInput octets network events
     → Keeps a b ⊎ MixedEndsOn network detail events a b → Keeps a b ⊎ MixedStopsInput detail octets a b
 mixed_stopped octets network events detail a b read (inl kept) = inl kept

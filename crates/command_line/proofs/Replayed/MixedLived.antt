@@ -1,6 +1,6 @@
 -- After any replay among strangers, the lives of a world's book are those that its crossings and notices make.
 use Rattle.command_line.proofs.Common.{ℕ, List, [], ◌∷◌, None, Some, Option, Result, sym, subst, inl, inr, Calls}
-use Rattle.command_line.proofs.Common.{Crossing, Host, WorldState, Event, MixedWorldEvent}
+use Rattle.command_line.proofs.Common.{Crossing, Host, WorldState, Event, WorldEvent}
 use Rattle.std.proofs.Common.{Ok, Err, length}
 use Rattle.interface.specs.Calls.{crossing_of, step_crossings}
 use Rattle.interface.specs.declared.carrier.CarrierFault.{CarrierFault}
@@ -27,7 +27,7 @@ use Rattle.net_sim.specs.declared.event.WorldFault.TheVariants.{NoProgram}
 use Rattle.world_replay.proofs.lemmas.{on_either}
 use Rattle.world_replay.specs.Kinds.{EventGivesAmong, ReplaysBy, RunsOutBy, mixed_kind}
 use Rattle.world_replay.specs.Output.{Shown}
-use Rattle.world_script.specs.declared.event.MixedWorldEvent.TheVariants as mixed
+use Rattle.world_script.specs.declared.event.WorldEvent.TheVariants as script
 use Rattle.command_line.specs.Lived.{AreLived}
 use Rattle.command_line.proofs.Lived.{Lived, all_lived, asked_lived, crossed_lived, kept_lived}
 
@@ -135,29 +135,29 @@ module _ {C : Type 0} (calls : Calls C) where
       (λ s f. of_world (StepGives calls old.world (Out m)) old r new (λ q w t. step (Out m) old.world q w t) f) g
   event e old r new g = ask e old r new g
 
-  one : (e : MixedWorldEvent) (old : MixedState C) (r : Answered) (new : MixedState C) → EventGivesAmong calls old e r new
+  one : (e : WorldEvent) (old : MixedState C) (r : Answered) (new : MixedState C) → EventGivesAmong calls old e r new
       → Lived old.world.kept → Lived new.world.kept
-  one (mixed.Happen e) old r new h = on_either old.world.stopped (λ s g. refused _ old r new g)
+  one (script.Happen e) old r new h = on_either old.world.stopped (λ s g. refused _ old r new g)
       (λ s g. event e old r new g) h
-  one (mixed.Calm rounds) old r new h =
+  one (script.Calm rounds) old r new h =
       of_world (CalmGives calls rounds old.world) old r new (λ q w t. calm rounds old.world q w t) h
 
   -- ---- several
 
-  all : (events : List MixedWorldEvent) (old new : MixedState C) (shows : List Shown)
+  all : (events : List WorldEvent) (old new : MixedState C) (shows : List Shown)
       → ReplaysBy (mixed_kind calls) old events new shows → Lived old.world.kept → Lived new.world.kept
   all [] old new shows h l = subst (λ (s : MixedState C). Lived s.world.kept) (sym h.0) l
   all (e ∷ events) old new shows (mid, first, rest, happens, turn, lines) l =
       all events mid new rest turn (one e old happens.outcome mid happens.gives l)
 
   -- from a world's opening, to the end of a script or to where memory ran out
-  pub replayed_lived : (c : C) (named : List Host) (events : List MixedWorldEvent) (last : MixedState C)
+  pub replayed_lived : (c : C) (named : List Host) (events : List WorldEvent) (last : MixedState C)
       (shows : List Shown) → ReplaysBy (mixed_kind calls) (opening_mixed calls c named) events last shows
       → AreLived last.world.kept.book.crossings last.world.kept.book.notices last.world.kept.book.lives
   replayed_lived c named events last shows h =
       (all events (opening_mixed calls c named) last shows h (kept_lived [])).lived
 
-  pub stopped_lived : (c : C) (named : List Host) (events : List MixedWorldEvent) (last : MixedState C)
+  pub stopped_lived : (c : C) (named : List Host) (events : List WorldEvent) (last : MixedState C)
       (shows : List Shown) → RunsOutBy (mixed_kind calls) (opening_mixed calls c named) events last shows
       → AreLived last.world.kept.book.crossings last.world.kept.book.notices last.world.kept.book.lives
   stopped_lived c named events last shows h =

@@ -1,7 +1,7 @@
 -- What `--log` writes among strangers, and of an input of either kind.
 use Rattle.command_line.proofs.Common.{◌≡◌, inl, inr, ℕ, List, ◌++◌, Option, Result, OnOk, subst, sym, Appends, Calls}
 use Rattle.command_line.proofs.Common.{AreFated, Detail, Host, log_text, shown, subnet_calls, subnet_of, CarrierKind}
-use Rattle.command_line.proofs.Common.{TopologyFields, MixedFields, MixedWorldEvent, ScriptFault, IsInput, LogsOn, None}
+use Rattle.command_line.proofs.Common.{TopologyFields, MixedFields, WorldEvent, ScriptFault, IsInput, LogsOn, None}
 use Rattle.command_line.proofs.Common.{on_ok, world_book}
 use Rattle.book_log.specs.Log.{IsBook, strangers_text}
 use Rattle.interface.specs.Host.{InOrder}
@@ -23,7 +23,7 @@ use Rattle.command_line.proofs.Replayed.Strangers.{subnet_named}
 -- ---- over a carrier
 
 pub logs_among : {C : Type 0} (calls : Calls C) (strangers : List Host) (carrier : C) (opening last : MixedState C)
-    (events : List MixedWorldEvent) (detail : Detail) (k : Kept) (x y before after : Option (List ℕ))
+    (events : List WorldEvent) (detail : Detail) (k : Kept) (x y before after : Option (List ℕ))
     → absent_in (calls.seen carrier).hosts strangers ≡ None → ArePicked (calls.seen carrier).hosts strangers
     → InOrder (calls.seen carrier).hosts → opening ≡ opening_mixed (shown calls) carrier strangers
     → IsLawfulAmong (strange_in last) calls.seen (calls.seen last.world.carrier).hosts last.world
@@ -56,7 +56,7 @@ logs_among {C} calls strangers carrier opening last events detail k x y before a
     }
 
 pub subnet_logged : {A E : Type 0} (t : MixedFields) (k : subnet.Kept) (named : List Host)
-    (events : List MixedWorldEvent) (a b : Option (List ℕ)) (r : Result A E) → t.network.carrier ≡ kind.Subnet
+    (events : List WorldEvent) (a b : Option (List ℕ)) (r : Result A E) → t.network.carrier ≡ kind.Subnet
     → k ≡ subnet_of t.network → named ≡ t.strangers → OnOk r (MixedLogsFrom subnet_calls named k events a b)
     → OnOk r (MixedLogsOn t events a b)
 subnet_logged t k named events a b r is at same h =
@@ -65,7 +65,7 @@ subnet_logged t k named events a b r is at same h =
 
 -- ---- of an input, and of octets of either kind
 
-pub mixed_logged : (octets : List ℕ) (network : MixedFields) (events : List MixedWorldEvent)
+pub mixed_logged : (octets : List ℕ) (network : MixedFields) (events : List WorldEvent)
     (r : Result (Unit {0}) ScriptFault) (a b : Option (List ℕ)) → IsMixedInput octets network events
     → OnOk r (MixedLogsOn network events a b) → OnOk r (MixedLogsInput octets a b)
 mixed_logged octets network events r a b read h = on_ok r (λ (k : MixedLogsOn network events a b).

@@ -1,7 +1,7 @@
 -- What a replay among strangers prints is one book.
 use Rattle.command_line.proofs.Common.{◌≡◌, ◌∙◌, ℕ, Bool, true, false, List, [], ◌∷◌, Option, refl, sym, subst}
 use Rattle.command_line.proofs.Common.{inl, inr, AreLived, CarrierKind, Calls, Crossing, Detail, Host, Life}
-use Rattle.command_line.proofs.Common.{MixedFields, MixedWorldEvent, ShowsBook, Told, WorldState, plain_calls, plain_of}
+use Rattle.command_line.proofs.Common.{MixedFields, WorldEvent, ShowsBook, Told, WorldState, plain_calls, plain_of}
 use Rattle.command_line.proofs.Common.{map, shown, subnet_calls, subnet_of, ungranted}
 use Rattle.std.proofs.Common.{◌&&◌, ◌==◌}
 use Rattle.std.proofs.lemmas.Bool.{false≢true}
@@ -71,7 +71,7 @@ stays : {C : Type 0} (calls : Calls C) (opening : C) (named : List Host) (last :
 stays calls opening named last same =
     one_test (strange_in last) (picked calls opening named) (picked_stay calls opening named last same)
 
-printed_from : {C : Type 0} (calls : Calls C) (opening : C) (named : List Host) (events : List MixedWorldEvent)
+printed_from : {C : Type 0} (calls : Calls C) (opening : C) (named : List Host) (events : List WorldEvent)
     (book : Bool) (detail : Detail) (a b : Option (List ℕ))
     → WritesWorld book detail (MixedShowsFrom calls named opening events) a b
     → PrintsBookAmong (picked calls opening named) book detail a b
@@ -90,7 +90,7 @@ printed_from {C} calls opening named events book detail a b r =
       written = r.written;
     }
 
-part_from : {C : Type 0} (calls : Calls C) (opening : C) (named : List Host) (events : List MixedWorldEvent)
+part_from : {C : Type 0} (calls : Calls C) (opening : C) (named : List Host) (events : List WorldEvent)
     (detail : Detail) (a b : Option (List ℕ)) → MixedWritesPart detail calls named opening events a b
     → PrintsPartAmong (picked calls opening named) detail a b
 part_from {C} calls opening named events detail a b r =
@@ -110,7 +110,7 @@ part_from {C} calls opening named events detail a b r =
 
 -- ---- over the carrier that a topology names
 
-printed_over : (carrier : CarrierKind) (t : MixedFields) (book : Bool) (detail : Detail) (events : List MixedWorldEvent)
+printed_over : (carrier : CarrierKind) (t : MixedFields) (book : Bool) (detail : Detail) (events : List WorldEvent)
     (a b : Option (List ℕ)) → MixedReplaysOver carrier t book detail events a b
     → PrintsBookAmong (are_strange t) book detail a b
 printed_over kind.Plain t book detail events a b r =
@@ -123,7 +123,7 @@ pub printed_among : (book : Bool) (detail : Detail) (a b : Option (List ℕ)) (h
 printed_among book detail a b h =
     printed_over h.network.network.carrier h.network book detail h.events a b h.replayed
 
-part_over : (carrier : CarrierKind) (t : MixedFields) (detail : Detail) (events : List MixedWorldEvent)
+part_over : (carrier : CarrierKind) (t : MixedFields) (detail : Detail) (events : List WorldEvent)
     (a b : Option (List ℕ)) → MixedEndsOver carrier t detail events a b
     → PrintsPartAmong (are_strange t) detail a b
 part_over kind.Plain t detail events a b r =

@@ -4,7 +4,7 @@ use Rattle.command_line.proofs.Common.{OnOk, sym, subst, refl, Appends, Keeps, C
 use Rattle.command_line.proofs.Common.{codes, shown, CarrierKind, ScriptFault, subnet_calls, subnet_of, IsUtf8}
 use Rattle.command_line.proofs.Common.{All, appends_more, IsParted, MixedFields, hosts_of}
 use Rattle.std.proofs.lemmas.List.Elements.{All-head, All-tail}
-use Rattle.command_line.proofs.Common.{MixedWorldEvent, IsMixedFault, MixedEndsOn, MixedReplaysOn, MixedReplaysOver}
+use Rattle.command_line.proofs.Common.{WorldEvent, IsMixedFault, MixedEndsOn, MixedReplaysOn, MixedReplaysOver}
 use Rattle.command_line.proofs.Common.{WritesWorld, IsNetworkFault}
 use Rattle.interface.specs.Host.{is_host}
 use Rattle.mixed_worlds.specs.Laws.{KeepsAmong, KeepsToward}
@@ -50,7 +50,7 @@ strangers_there t hosts named at same there =
 -- ---- what is written
 
 pub mixed_writes_all : {C : Type 0} (calls : Calls C) (strangers : List Host) (carrier : C)
-    (opening last : MixedState C) (events : List MixedWorldEvent) (lives : List Life) (book : Bool) (detail : Detail)
+    (opening last : MixedState C) (events : List WorldEvent) (lives : List Life) (book : Bool) (detail : Detail)
     (a b c : Option (List ℕ)) → opening ≡ opening_mixed (shown calls) carrier strangers
     → lines.Writes detail (ReplaysBy (mixed_kind (shown calls)) opening events last) a b
     → KeepsAmong (strange_in last) (calls.seen last.world.carrier).hosts last.world
@@ -78,7 +78,7 @@ mixed_writes_all {C} calls strangers carrier opening last events lives book deta
     }
 
 pub mixed_writes_part : {C : Type 0} (calls : Calls C) (strangers : List Host) (carrier : C)
-    (opening last : MixedState C) (events : List MixedWorldEvent) (detail : Detail) (a b : Option (List ℕ))
+    (opening last : MixedState C) (events : List WorldEvent) (detail : Detail) (a b : Option (List ℕ))
     → opening ≡ opening_mixed (shown calls) carrier strangers
     → lines.Writes detail (RunsOutBy (mixed_kind (shown calls)) opening events last) a b
     → KeepsAmong (strange_in last) (calls.seen last.world.carrier).hosts last.world
@@ -104,7 +104,7 @@ mixed_writes_part {C} calls strangers carrier opening last events detail a b is 
 
 -- ---- over the carrier that a topology names
 
-pub mixed_over_part : (carrier : CarrierKind) (t : MixedFields) (detail : Detail) (events : List MixedWorldEvent)
+pub mixed_over_part : (carrier : CarrierKind) (t : MixedFields) (detail : Detail) (events : List WorldEvent)
     (a b : Option (List ℕ)) → t.network.carrier ≡ carrier → (Keeps a b ⊎ MixedEndsOver carrier t detail events a b)
     → Keeps a b ⊎ MixedEndsOn t detail events a b
 mixed_over_part carrier t detail events a b is (inl kept) = inl kept
@@ -112,7 +112,7 @@ mixed_over_part carrier t detail events a b is (inr h) =
     inr (subst (λ (k : CarrierKind). MixedEndsOver k t detail events a b) (sym is) h)
 
 pub mixed_over_all : {A E : Type 0} (carrier : CarrierKind) (t : MixedFields) (book : Bool) (detail : Detail)
-    (events : List MixedWorldEvent) (a b : Option (List ℕ)) (r : Result A E) → t.network.carrier ≡ carrier
+    (events : List WorldEvent) (a b : Option (List ℕ)) (r : Result A E) → t.network.carrier ≡ carrier
     → OnOk r (MixedReplaysOver carrier t book detail events a b) → OnOk r (MixedReplaysOn t book detail events a b)
 mixed_over_all carrier t book detail events a b r is h =
     subst (λ (k : CarrierKind). OnOk r (MixedReplaysOver k t book detail events a b)) (sym is) h
@@ -123,7 +123,7 @@ pub subnet_named : (t : MixedFields) (k : Kept) (named : List Host) (F : List Ho
 subnet_named t k named F at same h = subst (λ (hosts : List Host). F hosts (subnet_of t.network)) same
     (subst (λ (x : Kept). F named x) at h)
 
-pub subnet_part : (t : MixedFields) (k : Kept) (named : List Host) (detail : Detail) (events : List MixedWorldEvent)
+pub subnet_part : (t : MixedFields) (k : Kept) (named : List Host) (detail : Detail) (events : List WorldEvent)
     (a b : Option (List ℕ)) → t.network.carrier ≡ kind.Subnet → k ≡ subnet_of t.network → named ≡ t.strangers
     → Keeps a b ⊎ lines.Writes detail (MixedStopsFrom subnet_calls named k events) a b
     → Keeps a b ⊎ MixedEndsOn t detail events a b
@@ -133,7 +133,7 @@ subnet_part t k named detail events a b is at same h =
     (λ hosts x. Keeps a b ⊎ lines.Writes detail (MixedStopsFrom subnet_calls hosts x events) a b) at same h)
 
 pub subnet_all : {A E : Type 0} (t : MixedFields) (k : Kept) (named : List Host) (book : Bool) (detail : Detail)
-    (events : List MixedWorldEvent) (a b : Option (List ℕ)) (r : Result A E) → t.network.carrier ≡ kind.Subnet
+    (events : List WorldEvent) (a b : Option (List ℕ)) (r : Result A E) → t.network.carrier ≡ kind.Subnet
     → k ≡ subnet_of t.network → named ≡ t.strangers
     → OnOk r (WritesWorld book detail (MixedShowsFrom subnet_calls named k events) a b)
     → OnOk r (MixedReplaysOn t book detail events a b)

@@ -1,12 +1,11 @@
 -- An input of either kind leaves its trace no choice.
-use Rattle.simulator.proofs.Common.{◌≡◌, inl, inr, ℕ, List, [], ◌∷◌, ◌++◌, Some, sym, ap, ap₂, subst, ◌∙◌, HappensOnce, ShowsFront, text_of, Calls, AreSettled, ends_front, in_turn_once, parted_once, CarrierKind, shown, SameGains, gains_once, shown_settled, StopsOne, change_of, Spot, asking_from, numbered_from, AllParts, plain_inside, plain_calls, subnet_calls, subnet_inside, plain_of, subnet_of, subnet_settled, plain_settled, MixedFields, MixedWorldEvent, Sizes, Crossing, MixedState, opening_mixed, Shown, IsMixedScripted, MixedTraceEndsFrom, MixedTraceEndsOn, MixedTraceEndsOver, MixedTraceStops, MixedTracesFrom, MixedTracesInput, MixedTracesOn, MixedTracesOver, TraceStopsEither, TracesEither}
+use Rattle.simulator.proofs.Common.{◌≡◌, inl, inr, ℕ, List, [], ◌∷◌, ◌++◌, Some, sym, ap, ap₂, subst, ◌∙◌, HappensOnce, ShowsFront, text_of, Calls, AreSettled, ends_front, in_turn_once, parted_once, CarrierKind, shown, SameGains, gains_once, shown_settled, StopsOne, change_of, Spot, asking_from, numbered_from, AllParts, plain_inside, plain_calls, subnet_calls, subnet_inside, plain_of, subnet_of, subnet_settled, plain_settled, MixedFields, WorldEvent, Sizes, Crossing, MixedState, opening_mixed, Shown, IsMixedScripted, MixedTraceEndsFrom, MixedTraceEndsOn, MixedTraceEndsOver, MixedTraceStops, MixedTracesFrom, MixedTracesInput, MixedTracesOn, MixedTracesOver, TraceStopsEither, TracesEither}
 use Rattle.std.proofs.Common.{zip}
 use Rattle.net_sim.specs.declared.event.Event.{Event}
 use Rattle.topology.specs.declared.network.CarrierKind.TheVariants as kind
 use Rattle.world_replay.proofs.lemmas as replays
 use Rattle.world_replay.proofs.lemmas.{same_state}
 use Rattle.world_replay.specs.Output.{output}
-use Rattle.world_script.specs.declared.event.MixedWorldEvent.TheVariants as mixed
 use Rattle.world_script.specs.declared.event.WorldEvent.TheVariants as worlds
 use Rattle.world_trace.specs.MixedTraces.{AtSpot, MixedEndsAt, StopsMixed, TellsMixed, TellsMixedAt, mixed_opening}
 use Rattle.world_trace.specs.Texts.{event_text, line_of}
@@ -20,7 +19,7 @@ module _ {C : Type 0} (calls : Calls C) (members : C → AllParts) (settled : Ar
   told_once : (spot : Spot) → HappensOnce (TellsMixed calls members spot)
   told_once spot old e new other lines more (shows, h, is) (others, k, are) =
       let one : (new ≡ other) × (shows ≡ others) =
-      replays.happens_once calls settled old (mixed.Happen e) new other shows others h k in
+      replays.happens_once calls settled old (worlds.Happen e) new other shows others h k in
       let gains : SameGains h.gains k.gains =
       gains_once old.world.kept new.world.kept other.world.kept h.gains k.gains
       (ap (λ (s : MixedState C). s.world.kept) one.0) in
@@ -32,8 +31,8 @@ module _ {C : Type 0} (calls : Calls C) (members : C → AllParts) (settled : Ar
       )
 
   tells_once : HappensOnce (AtSpot (TellsMixedAt calls members))
-  tells_once old (spot, mixed.Happen e) new other lines more h k = told_once spot old e new other lines more h k
-  tells_once old (spot, mixed.Calm rounds) new other lines more (h, same) (k, alike) =
+  tells_once old (spot, worlds.Happen e) new other lines more h k = told_once spot old e new other lines more h k
+  tells_once old (spot, worlds.Calm rounds) new other lines more (h, same) (k, alike) =
       let one : (new.world ≡ other.world) × (lines ≡ more) =
       at_once calls members settled old.world (spot, worlds.Calm rounds) new.world other.world lines more h k in
       (same_state calls settled new other one.0 (same ∙ sym alike), one.1)
@@ -46,13 +45,13 @@ module _ {C : Type 0} (calls : Calls C) (members : C → AllParts) (settled : Ar
 
   tells_front : ShowsFront (AtSpot (MixedEndsAt calls members (StopsOne calls) (StopsMixed calls)))
       (AtSpot (TellsMixedAt calls members))
-  tells_front old (spot, mixed.Happen e) new other part whole h k = no_line old e new part whole h
-  tells_front old (spot, mixed.Calm rounds) new other part whole h k =
+  tells_front old (spot, worlds.Happen e) new other part whole h k = no_line old e new part whole h
+  tells_front old (spot, worlds.Calm rounds) new other part whole h k =
       at_front calls members settled old.world (spot, worlds.Calm rounds) new.world other.world part whole h.0 k.0
 
   -- ---- of a network
 
-  from_once : (t : MixedFields) (opening : C) (events : List (ℕ × MixedWorldEvent)) (before after other : List ℕ)
+  from_once : (t : MixedFields) (opening : C) (events : List (ℕ × WorldEvent)) (before after other : List ℕ)
       → MixedTracesFrom calls members t opening events (Some before) (Some after)
       → MixedTracesFrom calls members t opening events (Some before) (Some other) → after ≡ other
   from_once t opening events before after other h k =
@@ -66,7 +65,7 @@ module _ {C : Type 0} (calls : Calls C) (members : C → AllParts) (settled : Ar
       lines ∙ ap (λ (ls : List (List ℕ)). mixed_opening members t.network begins ∷ ls) one.1 ∙ sym are in
       h.traced.written ∙ ap (λ (ls : List (List ℕ)). before ++ text_of (λ line. line) ls) same ∙ sym k.traced.written
 
-  from_front : (t : MixedFields) (opening : C) (events : List (ℕ × MixedWorldEvent)) (before part whole : List ℕ)
+  from_front : (t : MixedFields) (opening : C) (events : List (ℕ × WorldEvent)) (before part whole : List ℕ)
       → MixedTraceEndsFrom calls members t opening events (Some before) (Some part)
       → MixedTracesFrom calls members t opening events (Some before) (Some whole)
       → (rest : List ℕ) × (whole ≡ part ++ rest)
@@ -82,7 +81,7 @@ module _ {C : Type 0} (calls : Calls C) (members : C → AllParts) (settled : Ar
       (are ∙ ap (λ (ls : List (List ℕ)). mixed_opening members t.network begins ∷ ls) starts.1
       ∙ ap (λ (ls : List (List ℕ)). ls ++ starts.0) (sym lines))
 
-over_once : (carrier : CarrierKind) (t : MixedFields) (lines : List ℕ) (events : List MixedWorldEvent)
+over_once : (carrier : CarrierKind) (t : MixedFields) (lines : List ℕ) (events : List WorldEvent)
     (before after other : List ℕ) → MixedTracesOver carrier t lines events (Some before) (Some after)
     → MixedTracesOver carrier t lines events (Some before) (Some other) → after ≡ other
 over_once kind.Plain t lines events before after other h k =
@@ -92,7 +91,7 @@ over_once kind.Subnet t lines events before after other h k =
     from_once (shown subnet_calls) subnet_inside.members (shown_settled subnet_calls subnet_settled) t
     (subnet_of t.network) (zip lines events) before after other h k
 
-over_front : (carrier : CarrierKind) (t : MixedFields) (lines : List ℕ) (events : List MixedWorldEvent)
+over_front : (carrier : CarrierKind) (t : MixedFields) (lines : List ℕ) (events : List WorldEvent)
     (before part whole : List ℕ) → MixedTraceEndsOver carrier t lines events (Some before) (Some part)
     → MixedTracesOver carrier t lines events (Some before) (Some whole) → (rest : List ℕ) × (whole ≡ part ++ rest)
 over_front kind.Plain t lines events before part whole h k =
@@ -106,7 +105,7 @@ over_front kind.Subnet t lines events before part whole h k =
 
 -- its lines
 lines_once : (octets : List ℕ) (network other : MixedFields) (lines more : List ℕ)
-    (events asked : List MixedWorldEvent) → IsMixedScripted octets network lines events
+    (events asked : List WorldEvent) → IsMixedScripted octets network lines events
     → IsMixedScripted octets other more asked → lines ≡ more
 lines_once octets network other lines more events asked h k =
     let scripts =
@@ -122,7 +121,7 @@ mixed_trace input before after other h k =
     lines_once input h.network k.network h.lines k.lines h.events k.events h.input k.input in
     let moved : MixedTracesOn k.network k.lines k.events (Some before) (Some after) =
     subst (λ (t : MixedFields). MixedTracesOn t k.lines k.events (Some before) (Some after)) same.same_network
-    (subst (λ (events : List MixedWorldEvent). MixedTracesOn h.network k.lines events (Some before) (Some after))
+    (subst (λ (events : List WorldEvent). MixedTracesOn h.network k.lines events (Some before) (Some after))
     same.same_events
     (subst (λ (ns : List ℕ). MixedTracesOn h.network ns h.events (Some before) (Some after)) lines h.traced)) in
     over_once k.network.network.carrier k.network k.lines k.events before after other moved k.traced
@@ -136,7 +135,7 @@ mixed_front input before part whole h k =
     lines_once input h.network k.network h.lines k.lines h.events k.events h.input k.input in
     let moved : MixedTraceEndsOn k.network k.lines k.events (Some before) (Some part) =
     subst (λ (t : MixedFields). MixedTraceEndsOn t k.lines k.events (Some before) (Some part)) same.same_network
-    (subst (λ (events : List MixedWorldEvent). MixedTraceEndsOn h.network k.lines events (Some before) (Some part))
+    (subst (λ (events : List WorldEvent). MixedTraceEndsOn h.network k.lines events (Some before) (Some part))
     same.same_events
     (subst (λ (ns : List ℕ). MixedTraceEndsOn h.network ns h.events (Some before) (Some part)) lines h.stopped)) in
     over_front k.network.network.carrier k.network k.lines k.events before part whole moved k.traced

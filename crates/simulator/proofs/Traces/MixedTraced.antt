@@ -1,6 +1,6 @@
 -- What `--trace` writes among strangers, and of an input of either kind.
-use Rattle.simulator.proofs.Common.{◌≡◌, ◌⊎◌, inl, inr, ℕ, List, Option, Result, OnOk, ap, subst, sym, ◌∙◌, Calls, Keeps, text_of, asking_from, parted_once, CarrierKind, IsScriptOf, IsScripted, ScriptFault, TopologyFields, TracesOn, on_ok, length, MixedState, opening_mixed, MixedFields, event_lines, AllParts, MixedWorldEvent, Asked, IsMixedScripted, MixedTraceEndsFrom, MixedTraceEndsOn, MixedTraceEndsOver, MixedTraceStops, MixedTracesFrom, MixedTracesInput, MixedTracesOn, MixedTracesOver, TraceStopsEither, TracedEither, TracesEither, EndsOn, stays}
-use Rattle.world_script.specs.Mixed.{IsEventAmong, mixed_spelling}
+use Rattle.simulator.proofs.Common.{◌≡◌, ◌⊎◌, inl, inr, ℕ, List, Option, Result, OnOk, ap, subst, sym, ◌∙◌, Calls, Keeps, text_of, asking_from, parted_once, CarrierKind, IsScriptOf, IsScripted, ScriptFault, TopologyFields, TracesOn, on_ok, length, MixedState, opening_mixed, MixedFields, event_lines, AllParts, WorldEvent, Asked, IsMixedScripted, MixedTraceEndsFrom, MixedTraceEndsOn, MixedTraceEndsOver, MixedTraceStops, MixedTracesFrom, MixedTracesInput, MixedTracesOn, MixedTracesOver, TraceStopsEither, TracedEither, TracesEither, EndsOn, stays}
+use Rattle.world_script.specs.WorldSpelling.{IsWorldEvent, world_spelling}
 use Rattle.world_trace.specs.MixedTraces.{WritesMixed, WritesMixedPart}
 use Rattle.command_line.specs.Mixed.{IsMixedInput}
 use Rattle.simulator.specs.MixedTraced.{TracedEitherInPart}
@@ -10,7 +10,7 @@ use Rattle.simulator.proofs.Traces.Traced.{as_many}
 
 -- a trace that was written stays where it is handed on
 pub flushed_mixed : {C : Type 0} (calls : Calls C) (members : C → AllParts) (t : MixedFields) (opening : C)
-    (first last : MixedState C) (events : List (ℕ × MixedWorldEvent)) (a b c : Option (List ℕ))
+    (first last : MixedState C) (events : List (ℕ × WorldEvent)) (a b c : Option (List ℕ))
     → first ≡ opening_mixed calls opening t.strangers → WritesMixed calls members t.network first events last a b
     → Keeps b c → MixedTracesFrom calls members t opening events a c
 flushed_mixed {C} calls members t opening first last events a b c is w k =
@@ -21,7 +21,7 @@ flushed_mixed {C} calls members t opening first last events a b c is w k =
     }
 
 pub mixed_ends : {C : Type 0} (calls : Calls C) (members : C → AllParts) (t : MixedFields) (opening : C)
-    (first last : MixedState C) (events : List (ℕ × MixedWorldEvent)) (a b : Option (List ℕ))
+    (first last : MixedState C) (events : List (ℕ × WorldEvent)) (a b : Option (List ℕ))
     → first ≡ opening_mixed calls opening t.strangers → WritesMixedPart calls members t.network first events last a b
     → MixedTraceEndsFrom calls members t opening events a b
 mixed_ends {C} calls members t opening first last events a b is w =
@@ -29,20 +29,20 @@ mixed_ends {C} calls members t opening first last events a b is w =
 
 -- ---- of an input, and of octets of either kind
 
-pub mixed_fit : (octets script : List ℕ) (network : MixedFields) (events : List MixedWorldEvent)
+pub mixed_fit : (octets script : List ℕ) (network : MixedFields) (events : List WorldEvent)
     → IsMixedInput octets network events → IsScriptOf octets script → length (event_lines script) ≡ length events
 mixed_fit octets script network events input parted =
     let same = parted_once octets parted.document script input.document input.script parted.parted input.parted in
-    ap (λ ls. length (asking_from 1 ls)) same.scripts ∙ as_many mixed_spelling IsEventAmong events _ input.asked
+    ap (λ ls. length (asking_from 1 ls)) same.scripts ∙ as_many world_spelling (IsWorldEvent true) events _ input.asked
 
-pub mixed_traced : (octets lines : List ℕ) (network : MixedFields) (events : List MixedWorldEvent)
+pub mixed_traced : (octets lines : List ℕ) (network : MixedFields) (events : List WorldEvent)
     (r : Result (Unit {0}) ScriptFault) (a b : Option (List ℕ)) → IsMixedScripted octets network lines events
     → OnOk r (MixedTracesOn network lines events a b) → OnOk r (MixedTracesInput octets a b)
 mixed_traced octets lines network events r a b read h =
     on_ok r (λ (k : MixedTracesOn network lines events a b).
     record { network = network; lines = lines; events = events; input = read; traced = k }) h
 
-pub mixed_stopped : (octets lines : List ℕ) (network : MixedFields) (events : List MixedWorldEvent)
+pub mixed_stopped : (octets lines : List ℕ) (network : MixedFields) (events : List WorldEvent)
     (a b : Option (List ℕ)) → IsMixedScripted octets network lines events
     → Keeps a b ⊎ MixedTraceEndsOn network lines events a b → Keeps a b ⊎ MixedTraceStops octets a b
 mixed_stopped octets lines network events a b read (inl kept) = inl kept
@@ -87,12 +87,12 @@ any_stopped octets a b (inr (inr h)) =
 -- ---- over the carrier that a topology names
 
 pub mixed_over : {A E : Type 0} (carrier : CarrierKind) (t : MixedFields) (lines : List ℕ)
-    (events : List MixedWorldEvent) (a b : Option (List ℕ)) (r : Result A E) → t.network.carrier ≡ carrier
+    (events : List WorldEvent) (a b : Option (List ℕ)) (r : Result A E) → t.network.carrier ≡ carrier
     → OnOk r (MixedTracesOver carrier t lines events a b) → OnOk r (MixedTracesOn t lines events a b)
 mixed_over carrier t lines events a b r is h =
     subst (λ (k : CarrierKind). OnOk r (MixedTracesOver k t lines events a b)) (sym is) h
 
-pub mixed_over_part : (carrier : CarrierKind) (t : MixedFields) (lines : List ℕ) (events : List MixedWorldEvent)
+pub mixed_over_part : (carrier : CarrierKind) (t : MixedFields) (lines : List ℕ) (events : List WorldEvent)
     (a b : Option (List ℕ)) → t.network.carrier ≡ carrier
     → Keeps a b ⊎ MixedTraceEndsOver carrier t lines events a b → Keeps a b ⊎ MixedTraceEndsOn t lines events a b
 mixed_over_part carrier t lines events a b is (inl kept) = inl kept

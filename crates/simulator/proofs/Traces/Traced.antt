@@ -68,7 +68,7 @@ asked_many : (raw : Bool) (events : Asked) (script : List ℕ) → AsksFor raw e
 asked_many true (Raw events) script asked = as_many spelling IsEvent events (lines_of script) asked
 asked_many true (World events) script asked = absurd asked
 asked_many false (Raw events) script asked = absurd asked
-asked_many false (World events) script asked = as_many world_spelling IsWorldEvent events (lines_of script) asked
+asked_many false (World events) script asked = as_many world_spelling (IsWorldEvent false) events (lines_of script) asked
 
 -- an input's script has a line for each event
 pub lines_fit : (octets script : List ℕ) (network : TopologyFields) (events : Asked) → IsInput octets network events → IsScriptOf octets script → length (event_lines script) ≡ asked_count events

@@ -8,8 +8,8 @@ use Rattle.net_sim.specs.WorkedMixed.{beside_third}
 use Rattle.net_sim.specs.declared.event.Event.{Event}
 use Rattle.net_sim.specs.declared.event.WorldFault.{WorldFault}
 use Rattle.topology.specs.Topology.{TopologyFields}
-use Rattle.world_script.specs.declared.event.MixedWorldEvent.{MixedWorldEvent}
-use Rattle.world_script.specs.declared.event.MixedWorldEvent.TheVariants as mixed
+use Rattle.world_script.specs.declared.event.WorldEvent.{WorldEvent}
+use Rattle.world_script.specs.declared.event.WorldEvent.TheVariants as script
 use Rattle.world_trace.specs.MixedTraces.{AfterMixedOpening, AllTell, MayTellMixed, MixedTraceFails, StopsMixed}
 use Rattle.world_trace.specs.MixedTraces.{TellsMixedAt}
 use Rattle.world_trace.specs.Texts.{opening_text}
@@ -29,13 +29,13 @@ row_counted old e new lines (mid, first, rest, goes, (later, second, others, mor
     let both : List (List ℕ) → List (List ℕ) → List (List ℕ) = λ xs ys. xs ++ ys in
     all ∙ ap₂ both goes (also ∙ ap₂ both more none)
 
-none_done : (done left : List (Spot × MixedWorldEvent)) (last : Spot × MixedWorldEvent) → [] ≡ done ++ last ∷ left → ⊥
+none_done : (done left : List (Spot × WorldEvent)) (last : Spot × WorldEvent) → [] ≡ done ++ last ∷ left → ⊥
 none_done [] left last e = absurd (cc)
 none_done (x ∷ done) left last e = absurd (cc)
 
 module _ {C : Type 0} (calls : Calls C) where
   pub row_calm : (members : C → AllParts) (spot : Spot) (old new : MixedState C) (rounds : ℕ) (lines : List (List ℕ))
-      → TellsMixedAt calls members spot old (mixed.Calm rounds) new lines → new.strangers ≡ old.strangers
+      → TellsMixedAt calls members spot old (script.Calm rounds) new lines → new.strangers ≡ old.strangers
   row_calm members spot old new rounds lines h = h.1
 
   pub row_memory : (old new : MixedState C) (e : Event) (lines : List (List ℕ)) → StopsMixed calls old e new lines

@@ -1,7 +1,7 @@
 -- What `--log` writes is kept, with strangers or without.
 use Rattle.command_line.proofs.Common.{◌≡◌, Bool, List, [], Some, map, sym, subst, inl, inr, ℕ, reverse-reverse, Calls}
 use Rattle.command_line.proofs.Common.{CarrierKind, ClosesWhole, Crossing, Fate, Host, Judged, Life, MixedFields}
-use Rattle.command_line.proofs.Common.{AreSuited, MixedWorldEvent, WorldState, kept, plain_calls, plain_of}
+use Rattle.command_line.proofs.Common.{AreSuited, WorldEvent, WorldState, kept, plain_calls, plain_of}
 use Rattle.command_line.proofs.Common.{subnet_calls, subnet_of, world_book}
 use Rattle.std.proofs.Common.{reverse}
 use Rattle.book_judge.proofs.lemmas.{made_twice, made_with, suited_with}
@@ -59,7 +59,7 @@ judged {C} strange hosts w among toward lists =
 pub one_test : (f g : Host → Bool) → ((h : Host) → f h ≡ g h) → f ≡ g
 one_test f g same = λ i. λ h. same h i
 
-kept_from : {C : Type 0} (calls : Calls C) (strangers : List Host) (opening : C) (events : List MixedWorldEvent)
+kept_from : {C : Type 0} (calls : Calls C) (strangers : List Host) (opening : C) (events : List WorldEvent)
     (octets : List ℕ) → MixedLogsFrom calls strangers opening events (Some []) (Some octets) → IsKeptLog octets
 kept_from calls strangers opening events octets h =
     let k : Kept = h.last.world.kept in
@@ -76,7 +76,7 @@ kept_from calls strangers opening events octets h =
           (judged (strange_in h.last) (calls.seen h.last.world.carrier).hosts h.last.world h.among h.toward h.lists));
     }
 
-kept_over : (carrier : CarrierKind) (t : MixedFields) (events : List MixedWorldEvent) (octets : List ℕ)
+kept_over : (carrier : CarrierKind) (t : MixedFields) (events : List WorldEvent) (octets : List ℕ)
     → MixedLogsOver carrier t events (Some []) (Some octets) → IsKeptLog octets
 kept_over kind.Plain t events octets h = kept_from plain_calls t.strangers (plain_of t.network) events octets h
 kept_over kind.Subnet t events octets h = kept_from subnet_calls t.strangers (subnet_of t.network) events octets h

@@ -1,6 +1,6 @@
 -- The strangers of a log are hosts that exist, in order.
 use Rattle.command_line.proofs.Common.{◌≡◌, Bool, true, false, List, [], ◌∷◌, None, refl, sym, subst, ◌∙◌, Host, All}
-use Rattle.command_line.proofs.Common.{Calls, MixedWorldEvent, shown}
+use Rattle.command_line.proofs.Common.{Calls, WorldEvent, shown}
 use Rattle.std.proofs.Common.{filter}
 use Rattle.std.proofs.lemmas.Bool.{le-leb, or_left, or_right}
 use Rattle.std.proofs.lemmas.List.Elements.{All-cons, All-nil}
@@ -59,7 +59,7 @@ pub all_hosts : (named : List Host) → ((h : Host) → is_host named h ≡ true
 all_hosts named addresses = each_named named (λ h there. address_host h (addresses h there))
 
 -- hosts that are picked out of a carrier's, and are strangers in a lawful world over it
-pub are_strangers : {C : Type 0} (calls : Calls C) (strangers : List Host) (carrier : C) (events : List MixedWorldEvent)
+pub are_strangers : {C : Type 0} (calls : Calls C) (strangers : List Host) (carrier : C) (events : List WorldEvent)
     (last : MixedState C) (shows : List Shown) → absent_in (calls.seen carrier).hosts strangers ≡ None
     → ArePicked (calls.seen carrier).hosts strangers → InOrder (calls.seen carrier).hosts
     → ReplaysBy (mixed_kind (shown calls)) (opening_mixed (shown calls) carrier strangers) events last shows

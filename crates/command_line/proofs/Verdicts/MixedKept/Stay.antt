@@ -1,6 +1,6 @@
 -- The strangers of a world are those that were named, whatever happens in it.
 use Rattle.command_line.proofs.Common.{◌≡◌, Bool, true, false, List, [], ◌∷◌, None, Some, Result, refl, sym, ap, ◌∙◌}
-use Rattle.command_line.proofs.Common.{inl, inr, Calls, Host, WorldState, Event, MixedWorldEvent, shown}
+use Rattle.command_line.proofs.Common.{inl, inr, Calls, Host, WorldState, Event, WorldEvent, shown}
 use Rattle.std.proofs.Common.{◌&&◌, filter}
 use Rattle.std.proofs.lemmas.Bool.{false≢true, or_cases}
 use Rattle.std.proofs.lemmas.Map.Views.{any-filter_same}
@@ -15,7 +15,7 @@ use Rattle.net_sim.specs.declared.event.WorldFault.{WorldFault}
 use Rattle.net_sim.specs.declared.event.WorldFault.TheVariants.{NoProgram}
 use Rattle.world_replay.specs.Kinds.{EventGivesAmong, ReplaysBy, RunsOutBy, mixed_kind}
 use Rattle.world_replay.specs.Output.{Shown}
-use Rattle.world_script.specs.declared.event.MixedWorldEvent.TheVariants as mixed
+use Rattle.world_script.specs.declared.event.WorldEvent.TheVariants as script
 
 -- ---- no event changes them
 
@@ -53,20 +53,20 @@ module _ {C : Type 0} (calls : Calls C) where
       → new.strangers ≡ old.strangers
   step e old r new h = either old.world.stopped (λ x. refused _ old r new x) (λ x. event e old r new x) h
 
-  one : (e : MixedWorldEvent) (old : MixedState C) (r : Answer) (new : MixedState C) → EventGivesAmong calls old e r new
+  one : (e : WorldEvent) (old : MixedState C) (r : Answer) (new : MixedState C) → EventGivesAmong calls old e r new
       → new.strangers ≡ old.strangers
-  one (mixed.Happen e) old r new h = step e old r new h
-  one (mixed.Calm rounds) old r new h = of_world (CalmGives calls rounds old.world) old r new h
+  one (script.Happen e) old r new h = step e old r new h
+  one (script.Calm rounds) old r new h = of_world (CalmGives calls rounds old.world) old r new h
 
   -- nor do several
-  pub all_stay : (events : List MixedWorldEvent) (old new : MixedState C) (shows : List Shown)
+  pub all_stay : (events : List WorldEvent) (old new : MixedState C) (shows : List Shown)
       → ReplaysBy (mixed_kind calls) old events new shows → new.strangers ≡ old.strangers
   all_stay [] old new shows h = ap (λ (s : MixedState C). s.strangers) h.0
   all_stay (e ∷ events) old new shows (mid, first, rest, happens, turn, lines) =
       all_stay events mid new rest turn ∙ one e old happens.outcome mid happens.gives
 
   -- nor do those before memory ran out
-  pub stay_in_part : (events : List MixedWorldEvent) (old new : MixedState C) (shows : List Shown)
+  pub stay_in_part : (events : List WorldEvent) (old new : MixedState C) (shows : List Shown)
       → RunsOutBy (mixed_kind calls) old events new shows → new.strangers ≡ old.strangers
   stay_in_part events old new shows h =
       one h.last h.mid h.goes.outcome new h.goes.gives ∙ all_stay h.done old h.mid h.front h.before
@@ -104,7 +104,7 @@ named_is hosts named h none = both_ways (is_host named h) (is_host (filter (λ g
     (λ is. (and_true (is_host named h) (is_host hosts h) (sym (picked_is (λ g. is_host named g) hosts h) ∙ is)).0)
 
 -- so after any replay a host is a stranger exactly where it is named
-pub strangers_stay : {C : Type 0} (calls : Calls C) (opening : C) (named : List Host) (events : List MixedWorldEvent)
+pub strangers_stay : {C : Type 0} (calls : Calls C) (opening : C) (named : List Host) (events : List WorldEvent)
     (last : MixedState C) (shows : List Shown) → absent_in (calls.seen opening).hosts named ≡ None
     → ReplaysBy (mixed_kind (shown calls)) (opening_mixed (shown calls) opening named) events last shows
     → (h : Host) → is_host named h ≡ strange_in last h

@@ -3,4 +3,4 @@ use Rattle.session.proofs.Laws.{all_printed}
 use Rattle.session.proofs.law.one_session.Goals as goal
 
 pub returns : goal.returns
-returns g c = λ opening turns h. all_printed (Prints g.E.ScriptEvent.spelled g.E.ScriptEvent.is_meant g.S.Stage.replays opening) turns h
+returns g c = λ strangers opening turns h. all_printed (Prints g.E.ScriptEvent.spelled (g.E.ScriptEvent.is_meant strangers) g.S.Stage.replays opening) turns h

@@ -3,4 +3,4 @@ use Rattle.session.proofs.Laws.{first_printed}
 use Rattle.session.proofs.law.prefixes.Goals as goal
 
 pub returns : goal.returns
-returns g c = λ opening turns once h. first_printed (Prints g.E.ScriptEvent.spelled g.E.ScriptEvent.is_meant g.S.Stage.replays opening) turns h once
+returns g c = λ strangers opening turns once h. first_printed (Prints g.E.ScriptEvent.spelled (g.E.ScriptEvent.is_meant strangers) g.S.Stage.replays opening) turns h once

@@ -1,5 +1,5 @@
 use Rattle.world_replay.proofs.Common.{◌≡◌, [], ◌∷◌, Err, ap, refl, NoProgram, HasProgram, any_carrier}
-use Rattle.world_replay.proofs.Common.{MixedState, Seen, WorldFault, MixedWorldEvent, HappensBy, mixed_kind, first, second}
+use Rattle.world_replay.proofs.Common.{MixedState, Seen, WorldFault, WorldEvent, HappensBy, mixed_kind, first, second}
 use Rattle.world_replay.proofs.Common.{third, message, Offer, Server, Typed, User}
 use Rattle.interface.specs.declared.crossing.Crossing.TheVariants as crossing
 use Rattle.net_sim.specs.WorkedMixed.{beside_third}
@@ -29,7 +29,7 @@ spoken = record {
 }
 
 -- and then the stranger's message goes out
-then_hails : (e : MixedWorldEvent) (f : WorldFault)
+then_hails : (e : WorldEvent) (f : WorldFault)
     → HappensBy (mixed_kind any_carrier) beside_third e beside_third (Refused f ∷ [])
     → MayShow any_carrier (e ∷ saying hail ∷ []) (Refused f ∷ Crossed (crossing.Out hail) ∷ [])
 then_hails e f h = (

@@ -5,7 +5,7 @@ use Rattle.world_script.proofs.events.read_plain.Goals as goal
 
 pub returns-in_err-read_net : goal.returns-in_err-read_net
 returns-in_err-read_net c =
-    rw c.from_residual-in_err-read_net.ensures (no_plain c.args.word.now c.args.rest.now c.requires.word c.requires.not_asked c.requires.not_typed
+    rw c.from_residual-in_err-read_net.ensures (no_plain c.args.word.now c.args.rest.now c.requires.word c.requires.not_asked c.requires.not_typed c.requires.not_out
     (λ e. false≢true (sym c.if-is_word.false ∙ c.is_word.ensures.1 e))
     (λ e. false≢true (sym c.if-is_word-2.false ∙ c.is_word-2.ensures.1 e))
     (λ e. false≢true (sym c.if-is_word-3.false ∙ c.is_word-3.ensures.1 e))

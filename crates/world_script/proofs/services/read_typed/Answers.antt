@@ -17,9 +17,9 @@ returns-in-Err-NotPrintable-clause-read c =
     (text_refused c.in-Some.text.now (rw c.in-Err-NotPrintable.field-0-is at c.in-Err-NotPrintable.ensures))
 
 pub returns-in-Err-OutOfMemory-clause-memory : goal.returns-in-Err-OutOfMemory-clause-memory
-returns-in-Err-OutOfMemory-clause-memory c =
-    inr (
+returns-in-Err-OutOfMemory-clause-memory c strangers =
+    inr (inr (
       world.Happen (event.Typed c.in-Some-read_host.host c.in-Some.text.now),
       ap (λ w. codes "type " ++ w) (host_front c.args.words.now c.in-Some.host.now c.in-Some.text.now c.in-Some-read_host.host c.in-Some.ensures.0 c.in-Some-read_host.ensures.0),
       (c.in-Some-read_host.ensures.1, text_kept c.in-Some.text.now (rw c.in-Err-OutOfMemory.field-0-is at c.in-Err-OutOfMemory.ensures)),
-    )
+    ))
