@@ -1,4 +1,4 @@
--- Words for worked examples of what a world with a stranger goes on after, and what it ends at. Hosts `first` and `second` run the
+-- Words for worked examples of what a world with a stranger continues after, and what it ends at. Hosts `first` and `second` run the
 -- program, and `third` runs anything.
 use Rattle.std.specs.Prelude.{◌≡◌, false, List, None, Ok, Err, Result}
 use Rattle.interface.specs.Calls.{Calls, Seen, ShowsOffer, ShowsTake}

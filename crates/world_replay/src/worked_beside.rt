@@ -1,4 +1,4 @@
-//! Worked examples of what a world with a stranger goes on after, and what it ends at. The functions here do nothing:
+//! Worked examples of what a world with a stranger continues after, and what it ends at. The functions here do nothing:
 //! each clause is a row, computed over the definitions.
 
 ghost use Rattle.std.specs.Prelude.{◌∷◌, [], Err, Ok};
@@ -12,7 +12,7 @@ ghost use Rattle.world_replay.specs.Output.{Crossed, Refused};
 ghost use Rattle.world_replay.specs.WorkedBeside.{AnswersAs, EndsAs, closed_carrier, empty_carrier, event, saying, tired_carrier};
 ghost use Rattle.world_replay.specs.WorkedMixed.{MayShow, ShowsOnly, hail};
 
-/// What is refused of strangers, and that a replay goes on after it.
+/// What is refused of strangers, and that a replay continues after it.
 pub fn worked_asked()
     // after a question to the stranger, and after a host with a program was to say what its program doesn't
     ensures after_question { MayShow any_carrier (event (Offer third) ∷ saying hail ∷ []) (Refused NoProgram ∷ Crossed (crossing.Out hail) ∷ []) }

@@ -36,7 +36,7 @@ passes : (f : CarrierFault) (a : Result (Unit {0}) CarrierFault) (c : Seen) (r :
 passes f (Ok done) c r w is ends = absurd (cc)
 passes f (Err e) c r w is ends = subst (λ (x : Result (Unit {0}) CarrierFault). PassesBy x c r w) is ends
 
--- after an event that is answered so, a list of events ends or goes on
+-- after an event that is answered so, a list of events ends or continues
 after : (f : WorldFault) (answer r : Result (Unit {0}) WorldFault) (mid new : MixedState Seen) (Rest : Type 0)
     → answer ≡ Err f → MatchBool (stops answer) ((r ≡ answer) × (new ≡ mid)) Rest
     → MatchBool (stops (Err f)) ((r ≡ Err f) × (new ≡ mid)) Rest
