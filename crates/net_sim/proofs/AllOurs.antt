@@ -1,5 +1,5 @@
 -- The same where all hosts run the program.
-use Rattle.net_sim.proofs.Common.{◌≡◌, false, List, refl, Host, Kept, HaveAddresses, Moment, IsTimeline, crossings_of, kept_in}
+use Rattle.net_sim.proofs.Common.{◌≡◌, false, List, refl, Host, HaveAddresses, Moment, IsTimeline, crossings_of, kept_in}
 use Rattle.interface.specs.Mailboxes as mail
 use Rattle.reset_law.specs.Network.{all_ours}
 use Rattle.net_sim.specs.Mixed.{Happened, mixed_kept}

@@ -1,9 +1,9 @@
 -- Worlds some of whose hosts are strangers: hosts of the carrier without a seat. What a stranger sends is offered to the carrier as it
 -- is, and what it takes is written down as a crossing.
-use Rattle.std.specs.Prelude.{◌≡◌, ◌⊎◌, ℕ, Bool, true, false, not, if◌then◌else◌, List, [], ◌∷◌, filter, find, map, Option, Some, None, Result, Ok, Err}
+use Rattle.std.specs.Prelude.{◌≡◌, ◌⊎◌, ℕ, Bool, true, false, not, List, [], ◌∷◌, filter, find, map, Option, Some, None, Result, Ok, Err}
 use Rattle.std.specs.Bool.{MatchBool}
 use Rattle.interface.specs.Calls.{Calls, Seen, crossing_of}
-use Rattle.interface.specs.Host.{Host, is_host, same_host}
+use Rattle.interface.specs.Host.{Host, is_host}
 use Rattle.interface.specs.Mailboxes.{IsRun}
 use Rattle.interface.specs.declared.carrier.CarrierFault.{CarrierFault}
 use Rattle.interface.specs.declared.carrier.CarrierFault.TheVariants as fault

@@ -1,6 +1,6 @@
 -- What happens to all hosts in one list, the crossings and what users ask for, and the programs and events that come of it.
 -- The list is read newest first.
-use Rattle.std.specs.Prelude.{◌≡◌, ℕ, ◌+◌, Bool, true, false, if◌then◌else◌, List, [], ◌∷◌, map, Some, is_some}
+use Rattle.std.specs.Prelude.{◌≡◌, ℕ, ◌+◌, true, false, if◌then◌else◌, List, [], ◌∷◌, map, Some, is_some}
 use Rattle.interface.specs.Host.{Host, same_host}
 use Rattle.interface.specs.declared.crossing.Crossing.{Crossing}
 use Rattle.interface.specs.declared.crossing.Crossing.TheVariants as crossing

@@ -1,8 +1,8 @@
 -- A refusal, and running out of memory, leave what is kept as it was. No world without strangers answers as only one with strangers does, but
 -- to what only a stranger sends.
-use Rattle.net_sim.proofs.Common.{◌≡◌, ℕ, zero, suc, Bool, true, false, List, [], ◌∷◌, length, nat_lt, Ok, Err, ap, refl, sym, ◌∙◌, MatchBool, Calls, Host, WorldState, WorldFault, Carrier, Program, Quiet, Offer, Refuses, Does, StepGives, stops, wants_memory, Runs, RunGives, Repeats, TurnsOf, up_in, Calms, CalmGives}
+use Rattle.net_sim.proofs.Common.{◌≡◌, ℕ, zero, suc, Bool, true, false, List, [], ◌∷◌, Ok, Err, ap, refl, sym, ◌∙◌, MatchBool, Calls, WorldState, WorldFault, Carrier, Program, Refuses, StepGives, stops, wants_memory, Runs, RunGives, TurnsOf, up_in, Calms, CalmGives}
 use Rattle.interface.specs.declared.carrier.CarrierFault.TheVariants as fault
-use Rattle.net_sim.specs.World.{Event, HasProgram, NoProgram, Take, is_of_strangers, is_sent}
+use Rattle.net_sim.specs.World.{Event, HasProgram, NoProgram, is_of_strangers, is_sent}
 use Rattle.net_sim.proofs.Books.EachEvent.{Answered, Ways, step_way, unshown}
 
 module _ {C : Type 0} (calls : Calls C) (f : WorldFault) where
@@ -90,21 +90,6 @@ module _ {C : Type 0} (calls : Calls C) where
 
   pub run_own : (events : List Event) (old : WorldState C) (r : Answered) (new : WorldState C) → RunGives calls old events r new → Own r
   run_own events old r new h = unless_stopped (Runs calls old events r new) old r new (λ runs. runs_own events old r new runs) h
-
-  repeats_own : (e : Event) (times : ℕ) (old : WorldState C) (r : Answered) (new : WorldState C) → Repeats calls e times old r new → Own r
-  repeats_own e zero old r new h = ap is_of_strangers h.0
-  repeats_own e (suc times) old r new h =
-      let crosses : Bool = nat_lt (length old.kept.book.crossings) (length h.1.kept.book.crossings) in
-      goes_on (MatchBool crosses (Repeats calls e times h.1 r new) (Does h.1 r new)) h.0 r h.1 new
-      (λ g. either_own (Repeats calls e times h.1 r new) (Does h.1 r new) r crosses (λ is more. repeats_own e times h.1 r new more) (λ done. ap is_of_strangers done.0) g) h.3
-
-  turns_own : (hosts : List Host) (old : WorldState C) (r : Answered) (new : WorldState C) → TurnsOf calls hosts old r new → Own r
-  turns_own [] old r new h = ap is_of_strangers h.0
-  turns_own (x ∷ hosts) old r new h =
-      let Sends : Type 0 = (second : Answered) × (sent : WorldState C) × Repeats calls (Offer x) 32 h.1 second sent
-      × MatchBool (stops second) ((r ≡ second) × (new ≡ sent)) (TurnsOf calls hosts sent r new) in
-      goes_on Sends h.0 r h.1 new
-      (λ g. goes_on (TurnsOf calls hosts g.1 r new) g.0 r g.1 new (λ rest. turns_own hosts g.1 r new rest) g.3) h.3
 
   calms_own : (times : ℕ) (old : WorldState C) (r : Answered) (new : WorldState C) → Calms calls times old r new → Own r
   calms_own zero old r new h = ap is_of_strangers h.0

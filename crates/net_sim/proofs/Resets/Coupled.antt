@@ -1,5 +1,5 @@
 -- What the hosts do over the mailboxes is a run of the law of resets.
-use Rattle.net_sim.proofs.Common.{◌≡◌, ℕ, Bool, true, false, if◌then◌else◌, List, [], ◌∷◌, Option, Some, None, refl, ap, sym, subst, ◌∙◌, Host, same_host, is_host, same_flow, Flow, Answer, Crossing, HostMessage, same_flow-true, NcpState, opening_state, pair_with, AreInOrder, served, Parcel, message_for, next_in, offered, Peer, Request, Box, boxes, Kind, pair, Needs, Allowed, HaveAddresses, Agrees, IsApart, message_on, Moment, Crossed, Asked, places, events_of, program, IsStory, Happens, crossings_of, seen_box}
+use Rattle.net_sim.proofs.Common.{◌≡◌, ℕ, Bool, true, false, if◌then◌else◌, List, [], ◌∷◌, Option, Some, None, refl, ap, sym, subst, ◌∙◌, Host, same_host, is_host, same_flow, Flow, Answer, Crossing, HostMessage, same_flow-true, NcpState, opening_state, pair_with, AreInOrder, served, Parcel, message_for, next_in, offered, Peer, Request, Box, boxes, Kind, pair, Needs, Allowed, HaveAddresses, Agrees, IsApart, message_on, Moment, Crossed, Asked, places, events_of, program, IsStory, crossings_of, seen_box}
 use Rattle.std.proofs.Common.{is_some}
 use Rattle.interface.specs.Mailboxes as mail
 use Rattle.interface.specs.declared.crossing.Answer.TheVariants as answer

@@ -9,7 +9,7 @@ use Rattle.ncp_control.specs.declared.command.Command.TheVariants as command
 use Rattle.ncp_control.specs.Command.{detail_of}
 use Rattle.host_pairs.specs.Commands as commands
 use Rattle.host_pairs.specs.Control.{ERRONEOUS, NO_SOCKET, NOT_CONNECTED}
-use Rattle.host_pairs.specs.Commands.{changed, entry_joined, matched_once, rts_heard, rts_taken_by, rts_taken, str_linked, str_heard, str_taken_by, str_taken, closed_once, cls_taken_by, cls_taken, Found, Unconnected, Ending, Open, at_end, sender_on, receiver_on, all_taken, gvb_taken, ret_taken, interrupted, asked_on_link, asked_with_size}
+use Rattle.host_pairs.specs.Commands.{changed, matched_once, rts_heard, rts_taken_by, rts_taken, str_linked, str_heard, str_taken_by, closed_once, cls_taken_by, Found, Unconnected, Ending, Open, at_end, sender_on, receiver_on, all_taken, gvb_taken, ret_taken, interrupted, asked_on_link, asked_with_size}
 use Rattle.host_pairs.specs.Data.{data_found, arrived_if, is_acceptable}
 use Rattle.host_pairs.specs.Entries.{closed_when, connection_links, must_close, cls_of, is_over, entry_at, receives_on, refused_end, sends_on}
 use Rattle.host_pairs.specs.Desk.{desk_told, swept, listener_on}

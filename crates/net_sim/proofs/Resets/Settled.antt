@@ -1,5 +1,5 @@
 -- Both halves of a clean reset: what a host takes went out after its last clean point, or does nothing.
-use Rattle.net_sim.proofs.Common.{◌≡◌, ◌⊎◌, inl, inr, Bool, true, false, List, [], ◌∷◌, ◌++◌, refl, ap, sym, subst, ◌∙◌, Seen, Host, Crossing, HostMessage, run_below, accepted, pair_with, Message, Other, In, Pair, pair, WaitsAfterClean, is_ready, clean_run, ready_phase, HaveAddresses, IsFresh, IsLawful, IsText, IsUnheard, is_through, WorldState, Agrees, event_of, Crossed, Asked, Moment, events_of, places, IsTimeline, contacts_of, crossings_of, events_in}
+use Rattle.net_sim.proofs.Common.{◌≡◌, ◌⊎◌, inl, inr, Bool, true, false, List, [], ◌∷◌, ◌++◌, refl, ap, sym, subst, ◌∙◌, Seen, Crossing, HostMessage, run_below, accepted, pair_with, Message, Other, In, Pair, pair, WaitsAfterClean, is_ready, clean_run, ready_phase, HaveAddresses, IsFresh, IsText, IsUnheard, is_through, WorldState, Agrees, event_of, Crossed, Asked, Moment, events_of, places, contacts_of, crossings_of, events_in}
 use Rattle.interface.specs.Mailboxes as mail
 use Rattle.interface.specs.declared.crossing.Crossing.TheVariants as crossing
 use Rattle.interface.specs.declared.crossing.Inbound.TheVariants as inbound

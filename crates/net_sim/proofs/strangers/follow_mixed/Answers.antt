@@ -1,4 +1,4 @@
-use Rattle.net_sim.proofs.Common.{rules, Calls, shown}
+use Rattle.net_sim.proofs.Common.{Calls, shown}
 use Rattle.net_sim.proofs.Hosts.Strange.{asks}
 use Rattle.net_sim.proofs.strangers.follow_mixed.Goals as goal
 
