@@ -48,7 +48,6 @@ pub use Rattle.net_sim.specs.Inside.Audit.{FoundTwo, grants_hold, has_granted, i
 pub use Rattle.net_sim.specs.Inside.Counts.{AreWithin, IsWithin}
 pub use Rattle.net_sim.specs.Inside.Endings.{ends, turns}
 pub use Rattle.net_sim.specs.Inside.Growing.{grown}
-pub use Rattle.net_sim.specs.Inside.Held.{IsHeld}
 pub use Rattle.net_sim.specs.Inside.Lives.{LivesState, entered, told_at}
 pub use Rattle.net_sim.specs.Inside.Open.{AreKept, AreMarked, Covers, Holds, marked}
 pub use Rattle.net_sim.specs.Inside.Parts.{AreDone, AreLive, IsOnce, Serves, Sits, hosts_of, hosts_served, running, runs_out, world_ended}

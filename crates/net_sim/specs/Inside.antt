@@ -7,7 +7,6 @@ pub mod Endings
 pub mod Seats
 pub mod Parts
 pub mod Growing
-pub mod Held
 pub mod Mixed
 pub mod Notes
 pub mod Calm

@@ -32,14 +32,15 @@ pub struct World<C: Carrier> {
 }
 
 impl<C: Carrier> Model for World<C> {
-    ghost use Rattle.net_sim.specs.Inside.Held.{IsHeld};
+    ghost use Rattle.std.specs.Prelude.{[]};
+    ghost use Rattle.net_sim.specs.Inside.Mixed.{IsHeldAmong, mixed_with};
     ghost use Rattle.net_sim.specs.World.{WorldState};
 
     ghost Value = { WorldState C };
 
     ghost view = { λ w. w.core };
 
-    ghost invariant = { λ w. IsHeld C.calls.seen w.core };
+    ghost invariant = { λ w. IsHeldAmong C.calls.seen (mixed_with w.core []) };
 }
 
 impl<C: Carrier> World<C> {

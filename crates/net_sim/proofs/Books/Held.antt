@@ -1,14 +1,12 @@
 -- What a world keeps is enough for its next event.
-use Rattle.net_sim.proofs.Common.{◌≡◌, ℕ, Bool, true, false, ◌||◌, if◌then◌else◌, List, [], ◌∷◌, map, Some, None, IfSome, refl, ap, sym, subst, MatchBool, All-nil, All-cons, All-head, All-tail, Calls, InOrder, Host, IsAddress, is_host, same_host, NcpState, shown, HaveAddresses, IsLawful, IsHeld, AreLive, IsOnce, hosts_of, running, Moment, program, crossings_of, IsNamed, IsWhole, seat_in, WorldState, WorldFault, Carrier, Seat, EventGives, CalmGives, Refuses, StepGives, opening_world}
+use Rattle.net_sim.proofs.Common.{◌≡◌, Bool, true, false, ◌||◌, if◌then◌else◌, List, [], ◌∷◌, map, Some, None, IfSome, refl, ap, sym, subst, MatchBool, All-nil, All-cons, All-head, All-tail, Calls, InOrder, Host, IsAddress, is_host, same_host, NcpState, HaveAddresses, AreLive, IsOnce, hosts_of, running, Moment, program, crossings_of, seat_in, WorldState, WorldFault, Carrier, Seat, EventGives, Refuses, StepGives}
 use Rattle.std.proofs.Common.{All, Result}
 use Rattle.interface.proofs.lemmas.{host_before_never, host_before_trans}
 use Rattle.interface.specs.Host.{host_before}
-use Rattle.interface.specs.Mailboxes.{IsRun, is_up}
+use Rattle.interface.specs.Mailboxes.{is_up}
 use Rattle.sockets.proofs.lemmas.{same_host-true}
 use Rattle.interface.specs.declared.carrier.CarrierFault.TheVariants as fault
 use Rattle.net_sim.specs.World.{Event}
-use Rattle.net_sim.proofs.Resets.Clean.{calm_lawful, opening_lawful, step_lawful}
-use Rattle.net_sim.proofs.Books.Nobody.{calm_whole, step_whole}
 use Rattle.net_sim.proofs.Hosts.Stays.{program_stays}
 
 -- ---- hosts in order are there once each
@@ -66,37 +64,7 @@ have_addresses [] all h is = absurd (cc)
 have_addresses (g ∷ hosts) all h is =
     have_first g hosts (All-head (λ (x : Host). IsAddress x) g hosts all) (have_addresses hosts (All-tail (λ (x : Host). IsAddress x) g hosts all)) h (same_host h g) refl is
 
--- ---- each call leaves a world so
-
-pub opening_held : {C : Type 0} (own : Calls C) (c : C) → (own.seen c).log ≡ [] → InOrder (own.seen c).hosts → All (λ (h : Host). IsAddress h) (own.seen c).hosts → IsHeld own.seen (opening_world (shown own) c)
-opening_held own c none order addresses = record { ordered = order; lawful = opening_lawful own c none (have_addresses (own.seen c).hosts addresses) }
-
--- what keeps the law keeps the order of the hosts, which are the same
-module _ {C : Type 0} (own : Calls C) (old new : WorldState C) (r : Result (Unit {0}) WorldFault)
-    (held : IsHeld own.seen old) (run : IsRun (own.seen new.carrier).hosts (own.seen new.carrier).log) where
-  abbrev hosts : List Host
-  hosts = (own.seen old.carrier).hosts
-
-  held_by : IsWhole own.seen hosts new → (IsRun hosts (own.seen new.carrier).log → IsLawful own.seen hosts new)
-      → IsHeld own.seen new
-  held_by whole lawful =
-      let same : (own.seen new.carrier).hosts ≡ hosts = whole.network in
-      let mine : IsRun hosts (own.seen new.carrier).log =
-      subst (λ (hs : List Host). IsRun hs (own.seen new.carrier).log) same run in
-      record {
-        ordered = subst InOrder (sym same) held.ordered;
-        lawful = subst (λ (hs : List Host). IsLawful own.seen hs new) (sym same) (lawful mine);
-      }
-
-  pub step_held : (e : Event) → IsNamed e → StepGives (shown own) old e r new → IsHeld own.seen new
-  step_held e named gives =
-      held_by (step_whole own hosts e old r new named held.lawful.whole gives)
-      (λ mine. step_lawful own hosts old new r held.lawful mine e named gives)
-
-  pub calm_held : (times : ℕ) → CalmGives (shown own) times old r new → IsHeld own.seen new
-  calm_held times gives =
-      held_by (calm_whole own hosts times old r new held.lawful.whole gives)
-      (λ mine. calm_lawful own hosts old new r held.lawful mine times gives)
+-- ---- a world that hasn't stopped
 
 pub still_running : {C : Type 0} (w : WorldState C) → w.stopped ≡ false → running w.carrier w.seats w.services w.kept ≡ w
 still_running {C} w e = let with : Bool → WorldState C = λ b. record { carrier = w.carrier; seats = w.seats; services = w.services; kept = w.kept; stopped = b } in ap with (sym e)

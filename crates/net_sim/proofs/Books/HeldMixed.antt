@@ -1,14 +1,15 @@
 -- What a world with strangers keeps is enough for its next event.
-use Rattle.net_sim.proofs.Common.{runs_out, ◌≡◌, ℕ, Bool, false, List, [], sym, subst, MatchBool, Calls, InOrder, Host, IsAddress, is_host, IsNamed, Kept, shown, running, StepGives, WorldState, WorldFault, Carrier, Seat, ServiceSeat}
+use Rattle.net_sim.proofs.Common.{runs_out, ◌≡◌, ℕ, Bool, true, false, List, [], refl, sym, subst, MatchBool, Calls, InOrder, Host, IsAddress, is_host, IsNamed, Kept, shown, running, opening_world, StepGives, WorldState, WorldFault, Carrier, Seat, ServiceSeat}
 use Rattle.net_sim.specs.World.{Event}
 use Rattle.std.proofs.Common.{All, Result}
 use Rattle.std.specs.List.{filter}
 use Rattle.interface.specs.Mailboxes.{IsRun}
 use Rattle.interface.specs.declared.carrier.CarrierFault.TheVariants as fault
-use Rattle.net_sim.specs.Inside.Mixed.{IsHeldAmong}
+use Rattle.net_sim.specs.Inside.Mixed.{IsHeldAmong, mixed_with}
 use Rattle.net_sim.specs.MixedWorlds.{IsLawfulAmong, MixedCalmGives, AmongGives, MixedState, MixedStepGives, RefusesMixed, opening_mixed, strange_in}
 use Rattle.net_sim.proofs.Books.Held.{have_addresses, still_running}
 use Rattle.net_sim.proofs.Books.Mixed as mixed
+use Rattle.net_sim.proofs.Books.Nobody.{opening_nobody}
 use Rattle.net_sim.proofs.Books.Whole.{some_hosts}
 
 -- ---- each call leaves such a world so
@@ -20,6 +21,20 @@ mixed_opening_held own c named none order addresses = record {
   lawful = mixed.opening_mixed own (λ h. is_host (filter (λ g. is_host named g) (own.seen c).hosts) h) c none (have_addresses (own.seen c).hosts addresses)
       (some_hosts (λ g. is_host named g) (own.seen c).hosts);
 }
+
+-- with no strangers
+pub opening_held : {C : Type 0} (own : Calls C) (c : C) → (own.seen c).log ≡ [] → InOrder (own.seen c).hosts
+    → All (λ (h : Host). IsAddress h) (own.seen c).hosts
+    → IsHeldAmong own.seen (mixed_with (opening_world (shown own) c) [])
+opening_held {C} own c none order addresses =
+    let hosts : List Host = (own.seen c).hosts in
+    let nobody : Host → Bool = λ h. is_host [] h in
+    record {
+      ordered = order;
+      lawful = subst (λ (w : WorldState C). IsLawfulAmong nobody own.seen hosts w)
+          (opening_nobody (shown own) nobody (λ h. refl) c)
+          (mixed.opening_mixed own nobody c none (have_addresses hosts addresses) (λ h on. absurd (let no : false ≡ true = on in cc)));
+    }
 
 -- what keeps the law keeps the order of the hosts, which are the same
 module _ {C : Type 0} (own : Calls C) (old new : MixedState C) (r : Result (Unit {0}) WorldFault)

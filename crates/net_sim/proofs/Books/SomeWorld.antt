@@ -1,5 +1,5 @@
 -- What the core of a world keeps is enough for its next event, whichever of its hosts are strangers.
-use Rattle.net_sim.proofs.Common.{◌≡◌, Bool, true, false, List, [], ◌∷◌, refl, sym, subst, ◌∙◌, Calls, Seen, InOrder, Host, is_host, Kept, shown, AreLive, IsHeld, IsOnce, IsNamed, running, world_ended, WorldState, WorldFault, Seat, ServiceSeat, EventGives, StepGives}
+use Rattle.net_sim.proofs.Common.{◌≡◌, Bool, true, false, List, [], ◌∷◌, refl, sym, subst, ◌∙◌, Calls, Seen, InOrder, Host, is_host, Kept, shown, AreLive, IsOnce, IsNamed, running, world_ended, WorldState, WorldFault, Seat, ServiceSeat, EventGives, StepGives}
 use Rattle.std.proofs.Common.{Result}
 use Rattle.std.specs.List.{filter}
 use Rattle.interface.specs.Mailboxes.{IsRun}
@@ -9,7 +9,6 @@ use Rattle.net_sim.specs.MixedWorlds.{IsLawfulAmong, IsWholeAmong, MixedState, s
 use Rattle.net_sim.specs.World.{Event}
 use Rattle.net_sim.proofs.Books.Held.{event_steps, seats_live}
 use Rattle.net_sim.proofs.Books.Mixed as mixed
-use Rattle.net_sim.proofs.Books.Nobody.{lawful_among}
 use Rattle.net_sim.proofs.Books.Whole.{some_hosts}
 
 -- ---- of some hosts that are there once each
@@ -37,13 +36,6 @@ core_live seen w some on seats is =
     subst AreLive (sym (is ∙ whole.seats on)) (seats_live (seen w.carrier).hosts seated whole.moments)
 
 -- ---- which worlds are so
-
-pub held_some : {C : Type 0} (seen : C → Seen) (w : WorldState C) → IsHeld seen w → IsSomeWorld seen w
-held_some seen w held = record {
-  strange = λ h. false;
-  ordered = held.ordered;
-  lawful = lawful_among (λ h. false) (λ h. refl) seen (seen w.carrier).hosts w held.lawful;
-}
 
 pub among_some : {C : Type 0} (seen : C → Seen) (s : MixedState C) → IsHeldAmong seen s → IsSomeWorld seen s.world
 among_some seen s held = record { strange = strange_in s; ordered = held.ordered; lawful = held.lawful }
