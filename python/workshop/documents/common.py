@@ -1,7 +1,9 @@
 """A crate's proofs/Common.antt passes on the names that several of its proofs take from elsewhere: one line a file.
 
 Elsewhere is std, other crates and the crate's own definitions. A name that two modules declare keeps its own lines, and
-so does one that a file unfolds, renames or declares. `python3 python common CRATE ..` writes the module and the lines.
+so does one that a file unfolds, renames or declares. A file takes what it names of a module through Common where all of
+that may come so, and where the octets of its lines become fewer; and a module is passed on where those of all files do.
+`python3 python common CRATE ..` writes the module and the lines.
 """
 
 from __future__ import annotations
@@ -13,13 +15,14 @@ from collections import Counter, defaultdict
 from collections.abc import Iterable
 from dataclasses import dataclass
 
+from workshop.documents import budget
 from workshop.parts import ROOT, text_of
 from workshop.words import Words
 
 TAKEN = re.compile(r"use ([^\s{]+)\.\{([^}]*)\}")
 DECLARED = re.compile(r" *(?:(?:pub|abbrev|unfoldable|pattern|record|data) )*([^(){}:]+?) (?:\(.*\) )?:")
 HEAD = "-- The names that several files of these proofs take from elsewhere, passed on from one place.\n"
-FEWEST = 2  # files that take a name which is passed on, and lines that a file has to save
+FEWEST = 2  # files that take a name which is passed on
 
 Use = tuple[str, str]  # a module, and a name of it
 
@@ -84,13 +87,20 @@ def own(lines: list[str]) -> set[str]:
 
 
 def spelled_out(proofs: Proofs, lines: list[str]) -> list[str]:
-    """A file that takes each name from where it is declared, and nothing through the module."""
-    through = proofs.passed_on()
-    out = []
+    """A file that takes each name from where it is declared, in one line for each module, and nothing through Common."""
+    passed = proofs.passed_on()
+    by_module: dict[str, dict[str, None]] = {}
+    places: list[str | None] = []  # the module that a line takes from
+    out: list[str] = []
     for line in lines:
-        direct = [(through[name], name) for module, name in names(line) if module == proofs.module]
-        out += grouped(direct) or [line]
-    return out
+        uses = [(passed[name], name) if module == proofs.module else (module, name) for module, name in names(line)]
+        for module, name in uses if uses and proofs.is_elsewhere(uses[0][0]) else ():
+            if module not in by_module:
+                places, out = [*places, module], [*out, ""]
+            by_module.setdefault(module, {})[name] = None
+        if not uses or not proofs.is_elsewhere(uses[0][0]):
+            places, out = [*places, None], [*out, line]
+    return [line if at is None else f"use {at}.{{{', '.join(by_module[at])}}}" for at, line in zip(places, out, strict=True)]
 
 
 def taken(proofs: Proofs, lines: list[str]) -> dict[int, list[Use]]:
@@ -108,20 +118,34 @@ def shared(proofs: Proofs, files: Iterable[list[str]]) -> set[Use]:
     return {(module, name) for module, name in enough if len(modules[name]) == 1 and " as " not in name}
 
 
-def taking(proofs: Proofs, lines: list[str], common: set[Use]) -> tuple[list[str], set[Use]]:
-    """A file that takes from the module what it can, and what that is; as it is where that saves too few lines."""
+def octets_of(lines: Iterable[str]) -> int:
+    return sum(len(it.encode()) + 1 for it in lines)
+
+
+def through(proofs: Proofs, lines: list[str], common: set[Use]) -> tuple[list[Use], int]:
+    """What a file takes through the module, and how many octets that saves it; nothing where it saves none."""
     kept = own(lines)
+    by_module = defaultdict(list)
+    for uses in taken(proofs, lines).values():
+        by_module[uses[0][0]] += uses
+    whole = [uses for uses in by_module.values() if all(it in common and it[1] not in kept for it in uses)]
+    found = [it for uses in whole for it in uses]
+    saved = octets_of(grouped(found)) - octets_of([one_line(proofs, found)])
+    return (found, saved) if saved > 0 else ([], 0)
+
+
+def one_line(proofs: Proofs, uses: list[Use]) -> str:
+    return f"use {proofs.module}.{{{', '.join(name for _, name in uses)}}}"
+
+
+def taking(proofs: Proofs, lines: list[str], found: list[Use]) -> list[str]:
+    """A file that takes these from the module."""
     places = taken(proofs, lines)
-    through = {use: None for uses in places.values() for use in uses if use in common and use[1] not in kept}
-    left = {at: [use for use in uses if use not in through] for at, uses in places.items()}
-    if sum(1 for uses in left.values() if not uses) < FEWEST:
-        return lines, set()
-    one = f"use {proofs.module}.{{{', '.join(name for _, name in through)}}}"
     out = []
     for at, line in enumerate(lines):
-        out += [one] if at == min(places) else []
-        out += grouped(left[at]) if at in left else [line]
-    return out, {*through}
+        out += [one_line(proofs, found)] if found and at == min(places) else []
+        out += grouped([use for use in places[at] if use not in found]) if at in places else [line]
+    return out
 
 
 def grouped(uses: list[Use], before: str = "") -> list[str]:
@@ -136,23 +160,41 @@ def settled(proofs: Proofs, direct: dict[str, list[str]]) -> tuple[dict[str, lis
     """The files where each name that comes through the module does so in enough of them, and these names."""
     common = shared(proofs, direct.values())
     while True:
-        now = {path: taking(proofs, lines, common) for path, lines in direct.items()}
-        counted = Counter(use for _, uses in now.values() for use in uses)
-        if not (few := {use for use, many in counted.items() if many < FEWEST}):
-            return {path: lines for path, (lines, _) in now.items()}, {*counted}
+        found = {path: through(proofs, lines, common)[0] for path, lines in direct.items()}
+        counted = Counter(use for uses in found.values() for use in uses)
+        few = {use for use in common if counted[use] < FEWEST} or dear(found.values(), {*counted})
+        if not few:
+            return {path: taking(proofs, lines, found[path]) for path, lines in direct.items()}, common
         common -= few
 
 
+def dear(files: Iterable[list[Use]], passed: set[Use]) -> set[Use]:
+    """What is passed on of the module whose line in Common costs most beyond what the files save by it; nothing where each saves some."""
+    cost: Counter[str] = Counter()
+    for line in grouped(sorted(passed), "pub "):
+        cost[line.removeprefix("pub use ").split(".{")[0]] += octets_of([line])
+    for module in (module for uses in files for module in {module for module, _ in uses}):
+        cost[module] -= octets_of([f"use {module}.{{}}"])
+    worst, most = max(cost.items(), key=lambda it: it[1], default=("", 0))
+    return {use for use in passed if use[0] == worst} if most > 0 else set()
+
+
 def written(proofs: Proofs) -> dict[str, str]:
-    """The files that change, and what they have then."""
+    """The files that change, and what they have then; none where they wouldn't have fewer octets."""
     files = proofs.files()
-    now, through = settled(proofs, {path: spelled_out(proofs, lines) for path, lines in files.items()})
+    now, passed = settled(proofs, {path: spelled_out(proofs, lines) for path, lines in files.items()})
     changed = {path: "\n".join(lines) for path, lines in now.items() if lines != files[path]}
-    changed[proofs.common] = HEAD + "\n".join(grouped(sorted(through), "pub ")) + "\n"
+    changed[proofs.common] = HEAD + "\n".join(grouped(sorted(passed), "pub ")) + "\n"
     listed = f"{proofs.folder}/Lib.antt"
     if "mod Common" not in text_of(listed):
         changed[listed] = re.sub(r"^(?=(?:pub )?mod )", "pub mod Common\n", text_of(listed), count=1, flags=re.M)
-    return changed
+    return changed if fewer(changed) > 0 else {}
+
+
+def fewer(changed: dict[str, str]) -> int:
+    """How many octets these files have less than they had."""
+    before = sum(budget.octets_of(text_of(it)) for it in changed if os.path.exists(it))
+    return before - sum(budget.octets_of(it) for it in changed.values())
 
 
 def faults() -> list[str]:
@@ -164,10 +206,9 @@ def faults() -> list[str]:
 def main() -> int:
     for crate in Words(__doc__).names("crate", "the crates whose proofs are gathered").asked().crate:
         changed = written(Proofs(crate))
-        before = sum(text_of(path).count("\n") for path in changed if os.path.exists(path))
+        saved = fewer(changed)
         for path, text in changed.items():
             with open(path, "w", encoding="utf-8") as file:
                 file.write(text)
-        after = sum(text.count("\n") for text in changed.values())
-        print(f"{crate}: {len(changed)} files, {after - before:+,} lines")
+        print(f"{crate}: {len(changed)} files, {saved:,} octets fewer")
     return 0

@@ -544,8 +544,9 @@ pub record All : Type 0 where
 
 class Common(unittest.TestCase):
     STD = "use Rattle.std.proofs.Common.{refl, ap}\n"
-    ONE = STD + "use Rattle.interface.specs.Host.{Host}\n\nuse Rattle.c.proofs.Other.{x}\none : Host\n"
-    OTHER = "use Rattle.std.proofs.Common.{refl, sym}\nuse Rattle.interface.specs.Host.{Host}\nother : Host\n"
+    HOST = "use Rattle.interface.specs.addresses.Host.{Host}\n"
+    ONE = f"{STD}{HOST}\nuse Rattle.c.proofs.Other.{{x}}\none : Host\n"
+    OTHER = f"use Rattle.std.proofs.Common.{{refl, sym}}\n{HOST}other : Host\n"
 
     def setUp(self) -> None:
         folder = tempfile.TemporaryDirectory()
@@ -565,30 +566,42 @@ class Common(unittest.TestCase):
             pathlib.Path(path).write_text(text, encoding="utf-8")
         return {it.stem: it.read_text(encoding="utf-8").split("\n") for it in self.folder.iterdir()}
 
-    def test_what_two_files_take_comes_through_one_module(self) -> None:
-        self.given(Third=self.OTHER.replace("sym", "ap"))
+    def alike(self) -> None:
+        """Files that take the same as Other."""
+        self.given(**{name: self.OTHER.replace("sym", "ap") for name in ("Third", "Fourth", "Fifth")})
+
+    def test_what_several_files_take_comes_through_one_module(self) -> None:
+        self.alike()
         found = self.written()
         line = "use Rattle.c.proofs.Common.{refl, ap, Host}"
         self.assertEqual(found["Third"], [line, "other : Host", ""])
         self.assertEqual(found["One"], [line, "", "use Rattle.c.proofs.Other.{x}", "one : Host", ""])
-        self.assertEqual(found["Common"][1], "pub use Rattle.interface.specs.Host.{Host}")
+        self.assertEqual(found["Common"][1], "pub use Rattle.interface.specs.addresses.Host.{Host}")
         self.assertEqual(found["Common"][2], "pub use Rattle.std.proofs.Common.{ap, refl}")
         self.assertIn("pub mod Common", found["Lib"])
         self.assertEqual(self.written(), found)  # and a second time changes nothing
 
-    def test_a_file_that_saves_one_line_keeps_its_own(self) -> None:
-        self.assertEqual(self.written()["Other"], self.OTHER.split("\n"))
+    def test_a_line_with_a_name_of_its_own_stays(self) -> None:
+        self.alike()
+        self.assertEqual(self.written()["Other"][:2], ["use Rattle.c.proofs.Common.{Host}", "use Rattle.std.proofs.Common.{refl, sym}"])
+
+    def test_what_would_take_more_octets_is_left(self) -> None:
+        self.assertEqual(common.written(self.proofs), {})
 
     def test_what_a_file_declares_or_unfolds_isnt_taken_through_it(self) -> None:
-        self.given(One=self.ONE + "  unfolding refl ap\n", Other=self.OTHER + "pub Host : Type 0\n")
-        self.assertEqual(self.written()["One"], self.ONE.split("\n")[:-1] + ["  unfolding refl ap", ""])
+        self.alike()
+        unfolds = "  unfolding refl Host\n"
+        self.given(One=self.ONE + unfolds, Other=self.OTHER + "pub Host : Type 0\n")
+        found = self.written()
+        self.assertEqual(found["One"], (self.ONE + unfolds).split("\n"))
+        self.assertEqual(found["Other"], (self.OTHER + "pub Host : Type 0\n").split("\n"))
 
     def test_a_name_that_fewer_than_two_files_take_is_a_fault(self) -> None:
-        self.given(Third=self.OTHER.replace("sym", "ap"))
+        self.alike()
         self.written()
         self.assertEqual(self.proofs.faults(), [])
-        self.given(Third="")
-        self.assertEqual(len(self.proofs.faults()), 3)
+        self.given(Third="", Fourth="", One="")
+        self.assertEqual(len(self.proofs.faults()), 2)
 
 
 class Tags(unittest.TestCase):
