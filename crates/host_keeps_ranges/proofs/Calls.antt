@@ -57,9 +57,6 @@ ready_range work t k h = by (is_ready t.pair.phase) where
   by true = turn_range t (work (desk_of t.pair t.listening)) (k (desk_of t.pair t.listening) (desk_range t h))
   by false = h
 
-none_left : (t : TurnState) → RangedTurn t → AreInRange [] × AreCommands []
-none_left t h = (tt, tt)
-
 command_range : (peer : Host) (stamp : ℕ) (c : Command) (t : TurnState) → IsCommand c → RangedTurn t → RangedTurn (command_taken peer stamp c t)
 command_range peer stamp command.Rst t ok h = record { pair = record { ends = tt; commands = tt }; sizes = h.sizes }
 command_range peer stamp command.Rrp t ok h = record { pair = record { ends = h.pair.ends; commands = h.pair.commands }; sizes = h.sizes }

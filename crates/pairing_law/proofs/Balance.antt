@@ -36,10 +36,6 @@ pub record Balanced (s t : List Mark) (e : End) : Type 0 where
 pub none_some : (o : Option ℕ) (p : ℕ) → o ≡ None → o ≡ Some p → ⊥
 none_some o p e f = let both : None ≡ Some p = sym e ∙ f in absurd (cc)
 
-pub value : Option ℕ → ℕ
-value None = 0
-value (Some p) = p
-
 pub balanced_nothing : Balanced [] [] nothing
 balanced_nothing = record {
   now = 0;

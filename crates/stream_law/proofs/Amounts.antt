@@ -12,10 +12,6 @@ use Rattle.stream_law.specs.Within.{message_bits, IsPrefix}
 pub unlike : (a : Bool) → a ≡ true → a ≡ false → ⊥
 unlike a e f = let same : true ≡ false = sym e ∙ f in absurd (cc)
 
-value : Option ℕ → ℕ
-value None = 0
-value (Some c) = c
-
 -- ---- by connection
 
 -- two connections that are the end's
