@@ -3,7 +3,7 @@ use Rattle.std.proofs.Common.{◌≡◌, ℕ, zero, suc, Bool, true, false, ◌|
 use Rattle.std.proofs.lemmas.Bool.{false≢true}
 use Rattle.std.proofs.lemmas.List.{append_assoc, append-nil, drop_all, drop_more, reverse-append}
 use Rattle.std.specs.Io.KnownBytes.{Appends}
-use Rattle.std.proofs.KnownBytes.{Appends-nil, Appends-trans}
+use Rattle.std.proofs.KnownBytes.{Appends-trans}
 use Rattle.interface.specs.Calls.{Calls, Seen, is_halt, is_memory}
 use Rattle.interface.specs.Rest.{BringsNothing, Rests, TakesNothing}
 use Rattle.interface.specs.Host.{Host}
@@ -26,9 +26,6 @@ grew_more old mid new h k = record {
   hosts = k.hosts ∙ h.hosts;
 }
 
-pub grew_none : (old : Seen) → Grew old old
-grew_none old = record { crossings = []; grown = refl; hosts = refl }
-
 -- ---- a host's takings
 
 -- this many takings of a host gave something: whatever it takes in those that are left continues from there
@@ -36,13 +33,6 @@ pub record Took {C : Type 0} (calls : Calls C) (h : Host) (first : C) (i : ℕ) 
   pub few : i ≤ 16
   pub goes : (left : ℕ) → i + left ≡ 16 → (r : Result (Unit {0}) CarrierFault) (new : C) → Takings calls h left now r new → Takings calls h 16 first r new
   pub grew : Grew (calls.seen first) (calls.seen now)
-
-pub none_took : {C : Type 0} (calls : Calls C) (h : Host) (first : C) → Took calls h first 0 first
-none_took calls h first = record {
-  few = omega arith;
-  goes = λ left all r new k. let same : left ≡ 16 = omega (arith, all) in subst (λ n. Takings calls h n first r new) same k;
-  grew = grew_none (calls.seen first);
-}
 
 pub one_took : {C : Type 0} (calls : Calls C) (h : Host) (first now next : C) (i : ℕ) (given : Inbound) (what : Option Inbound) → i < 16 → Took calls h first i now → what ≡ Some given → calls.takes now h (Ok what) next → Grew (calls.seen now) (calls.seen next)
     → Took calls h first (i + 1) next
@@ -103,9 +93,6 @@ pub record Passed {C : Type 0} (calls : Calls C) (detail : Detail) (first : C) (
   pub crossings : List Crossing
   pub grown : (calls.seen now).log ≡ reverse crossings ++ (calls.seen first).log
   pub written : Appends before after (output detail (shown_crossings crossings))
-
-pub none_passed : {C : Type 0} (calls : Calls C) (detail : Detail) (first : C) (times : ℕ) (a : Option (List ℕ)) → Passed calls detail first times 0 first a a
-none_passed calls detail first times a = record { few = omega arith; goes = λ left r new h. let same : left ≡ 0 + left = omega arith in subst (λ n. Rounds calls n first r new) same h; crossings = []; grown = refl; written = Appends-nil a }
 
 is_done : (r : Result (Unit {0}) CarrierFault) → IfErr r (λ f. Halts (Err f)) → GoesOn r → r ≡ Ok tt
 is_done (Ok done) told goes = refl

@@ -1,6 +1,5 @@
 -- A settled carrier leaves a replay no choice.
 use Rattle.std.proofs.Common.{◌≡◌, ◌||◌, ◌⊎◌, ℕ, zero, suc, Bool, true, false, List, [], ◌∷◌, ◌++◌, Option, Some, None, Result, Ok, Err, if◌then◌else◌, reverse, refl, sym, ap, ap₂, subst, ◌∙◌, inl, inr}
-use Rattle.std.proofs.lemmas.Bool.{false≢true}
 use Rattle.std.proofs.lemmas.List.{append_assoc, append_cancel_right, reverse-reverse, reverse-append}
 use Rattle.interface.specs.Calls.{Calls, is_halt, is_memory}
 use Rattle.interface.specs.Host.{Host}
@@ -17,10 +16,6 @@ use Rattle.script.specs.declared.event.RawEvent.{RawEvent}
 use Rattle.script.specs.declared.event.RawEvent.TheVariants as event
 
 -- ---- running out of memory
-
-not_both : (r : Result (Unit {0}) CarrierFault) → Halts r → GoesOn r → ⊥
-not_both (Ok done) halts goes = halts
-not_both (Err f) halts goes = false≢true (sym goes ∙ halts)
 
 kept_calm : (f : CarrierFault) (halts : Bool) → GoesOn (if halts then Err f else Ok tt) → (is_halt f || is_memory f) ≡ halts → (is_halt f || is_memory f) ≡ false
 kept_calm f true goes is = goes

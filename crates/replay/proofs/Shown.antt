@@ -1,7 +1,6 @@
 -- What a replay shows, call by call.
-use Rattle.std.proofs.Common.{◌≡◌, ℕ, ◌<◌, ◌+◌, Bool, true, false, List, [], ◌∷◌, ◌++◌, length, get_or, take, drop, reverse, Option, Some, None, Result, Ok, Err, if◌then◌else◌, inr, refl, sym, ap, ◌∙◌, subst, arith, IfErr, OnOk, IsOk}
+use Rattle.std.proofs.Common.{◌≡◌, ℕ, ◌<◌, ◌+◌, Bool, true, false, List, [], ◌∷◌, ◌++◌, length, get_or, take, drop, reverse, Option, Some, None, Result, Ok, Err, if◌then◌else◌, inr, refl, sym, ap, ◌∙◌, subst, arith, IfErr, OnOk}
 use Rattle.std.proofs.lemmas.List.{append-nil, take_more, drop_all, drop_at, reverse-append, reverse-reverse}
-use Rattle.std.proofs.lemmas.Bool.{false≢true}
 use Rattle.std.proofs.lemmas.Grind.{flat_map-append}
 use Rattle.std.proofs.KnownBytes.{Appends-trans}
 use Rattle.std.specs.Io.KnownBytes.{Appends}
@@ -173,7 +172,3 @@ happens_shows calls old new e shown h =
 pub on_ok : {T E P Q : Type 0} (r : Result T E) → (P → Q) → OnOk r P → OnOk r Q
 on_ok (Ok x) f p = f p
 on_ok (Err e) f p = tt
-
-pub was_ok : {T E P : Type 0} (r : Result T E) → IsOk r → OnOk r P → P
-was_ok (Ok x) o h = h
-was_ok (Err e) o h = absurd (false≢true o)

@@ -5,5 +5,5 @@ pub use Rattle.replay.proofs.Passing.{grown_more}
 pub use Rattle.replay.proofs.Replays.{replays_show, stops_show}
 pub use Rattle.replay.proofs.Settled
 pub use Rattle.replay.proofs.Settled.{OneReplay, StartsWith, replays_once}
-pub use Rattle.replay.proofs.Shown.{crossings_shown, gained, grew_offer, grew_take, happens_shows, on_ok, output-append, refused_offer, refused_take, was_ok}
+pub use Rattle.replay.proofs.Shown.{crossings_shown, gained, grew_offer, grew_take, happens_shows, on_ok, output-append, refused_offer, refused_take}
 pub use Rattle.std.proofs.KnownBytes.{Appends-trans as appends_more, Appends-nil as appends_none}

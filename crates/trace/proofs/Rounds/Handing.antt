@@ -39,9 +39,6 @@ late passed n count many = elim (cases_lt passed 64) [
 
 module _ {C P W : Type 0} (calls : Calls C) (inside : Inside C) (left : C → P → List Element) (spot : Spot)
     (contents : W → Option (List ℕ)) (flushed : W → Bool) where
-  Tells : (all : List (List Element)) → ℕ → C × W → C × W → Type 0
-  Tells all = RoundTells calls inside spot contents all
-
   pub none_passing : (all : List (List Element)) (old : C × W) → Passing calls inside spot contents flushed all all 0 old old
   none_passing all old = record {
     so_far = record { done = []; parts = refl; written = record { shown = []; is_shown = (refl, refl); written = appends_none (contents old.1) } };

@@ -21,7 +21,7 @@ use Rattle.trace.specs.Traces.{TellsRound, TellsRounds, TellsStill, WritesTrace}
 use Rattle.trace.proofs.Rounds.Listed.{AllIn, Begins, one_more_in, round_begun, round_over}
 use Rattle.trace.proofs.Changes.Deciding.{parts_or_not}
 use Rattle.trace.proofs.Rounds.Same.{as_long, grew_or_not}
-use Rattle.trace.proofs.Telling.{SoFar, all_told, ends_told, fails_told, one_more}
+use Rattle.trace.proofs.Telling.{SoFar, all_told, ends_told, fails_told}
 use Rattle.trace.specs.declared.all_parts.AllParts.{AllParts}
 
 -- ---- a round that is still, or is not
@@ -188,17 +188,6 @@ round_early {C} {P} calls inside left spot round old mid new begin place next x 
 
 -- ---- rounds
 
--- one more, which is not still
-pub rounds_more : {C P : Type 0} (calls : Calls C) (inside : Inside C) (left : C → P → List Element) (spot : Spot)
-    (old mid new : C) (place next : P) (all : List (List Element)) (a b c : Option (List ℕ))
-    → SoFar (TellsMoving calls inside spot) old all (by_round (left mid place)) mid a b
-    → RoundEnds calls inside left spot mid place (Ok next) new b c → (IsStill calls inside mid new → ⊥)
-    → SoFar (TellsMoving calls inside spot) old all (by_round (left new next)) new a c
-rounds_more calls inside left spot old mid new place next all a b c h (round, is, written) moved =
-    one_more (TellsMoving calls inside spot) old mid new all (by_round (left mid place))
-    (by_round (left new next)) round a b c is h
-    (record { shown = written.shown; is_shown = (written.is_shown, moved); written = written.written })
-
 -- the still one is the last
 pub rounds_end : {C P : Type 0} (calls : Calls C) (inside : Inside C) (left : C → P → List Element) (spot : Spot)
     (old mid new : C) (place next : P) (all : List (List Element)) (a b c : Option (List ℕ))
@@ -222,17 +211,6 @@ pub still_told : {C P : Type 0} (calls : Calls C) (inside : Inside C) (left : C 
 still_told calls inside left spot old mid new place next all parts booked a b c h k begun now =
     rounds_end calls inside left spot old mid new place next all a b c h k
     (is_still calls inside spot mid new k.0 k.2.shown parts booked k.2.is_shown begun now)
-
-pub moving_told : {C P : Type 0} (calls : Calls C) (inside : Inside C) (left : C → P → List Element) (spot : Spot)
-    (old mid new : C) (place next : P) (all : List (List Element)) (parts : AllParts) (booked : ℕ)
-    (a b c : Option (List ℕ))
-    → SoFar (TellsMoving calls inside spot) old all (by_round (left mid place)) mid a b
-    → RoundEnds calls inside left spot mid place (Ok next) new b c → IsAsBegun calls inside mid parts booked
-    → (IsAsBegun calls inside new parts booked → ⊥)
-    → SoFar (TellsMoving calls inside spot) old all (by_round (left new next)) new a c
-moving_told calls inside left spot old mid new place next all parts booked a b c h k begun moved =
-    rounds_more calls inside left spot old mid new place next all a b c h k
-    (has_moved calls inside mid new parts booked begun moved)
 
 -- ---- where rounds end early
 
