@@ -1,17 +1,17 @@
 -- What is answered of the messages of a life by their numbers.
-use Rattle.book_judge.proofs.Common.{◌≡◌, ℕ, suc, ◌+◌, ◌-◌, ◌<◌, ◌≤◌, Bool, true, false, List, [], ◌∷◌, ◌++◌, length, take, get_or, Option, Some, None, MatchBool, refl, ap, sym, subst, ◌∙◌, arith, inl, inr, cases_lt, slice_get_read, take_all, Flow, Crossing, Name, Life, flow_of, texts_by, receives, AreJoined}
+use Rattle.book_judge.proofs.Common.{◌≡◌, ℕ, suc, ◌+◌, ◌-◌, ◌<◌, ◌≤◌, Bool, true, false, List, [], length, take, get_or, Option, Some, None, MatchBool, refl, ap, sym, subst, ◌∙◌, arith, inl, inr, cases_lt, slice_get_read, take_all, Flow, Crossing, Name, Life, flow_of, texts_by, receives, AreJoined}
 use Rattle.std.specs.Bool.{OnTrue}
 use Rattle.std.specs.List.{slice_get}
 use Rattle.std.proofs.Common.{leb-true, nat_le}
 use Rattle.book_judge.specs.Inside.Arrivals.{ArrivalOf, IsSteady, sent_by}
 use Rattle.book_judge.specs.Inside.Joined.{IsNth}
 use Rattle.book_judge.specs.Inside.Sent.{AllSent, ArriveIn, EachSent, Rises, SenderAt, SentAt, SentNth, Tells, taking_at}
-use Rattle.book_judge.specs.Inside.Starts.{AreStarts, IsStart, counts, counts_of, start_at}
+use Rattle.book_judge.specs.Inside.Starts.{AreStarts, counts, counts_of, start_at}
 use Rattle.book_judge.specs.declared.arrivals.Arrival.{Arrival}
 use Rattle.book_judge.specs.declared.joined.Joined.{Joined}
 use Rattle.book_judge.specs.declared.starts.Start.{Start}
 use Rattle.book_judge.specs.declared.starts.Taking.{Taking}
-use Rattle.book_judge.proofs.Identities.Asked.{below_cases, grown_get, grown_last, grown_length}
+use Rattle.book_judge.proofs.Identities.Asked.{below_cases}
 use Rattle.book_judge.proofs.Crossed.Counted.{counts_is, counts_true}
 use Rattle.book_judge.proofs.Crossed.Numbers.{nth_once}
 use Rattle.book_judge.proofs.Crossed.TextsBy.{texts_within}
@@ -24,21 +24,6 @@ starts_none starts lives log e = subst (λ (os : List (Option Start)). AreStarts
   counts = refl;
   each = λ i x less at. absurd (omega (arith, less));
 })
-
-pub starts_more : (n : ℕ) (starts more : List (Option Start)) (lives : List Life) (log : List Crossing) (x : Life)
-    (o : Option Start) → n < length lives → x ≡ get_or lives n x → more ≡ starts ++ o ∷ [] → IsStart log x o
-    → AreStarts n starts lives log → AreStarts (n + 1) more lives log
-starts_more n starts more lives log x o less at is begins a =
-    let here : slice_get lives n ≡ Some x = slice_get_read lives (length lives) n x refl less at in
-    subst (λ (os : List (Option Start)). AreStarts (n + 1) os lives log) (sym is) (record {
-      counts = grown_length starts o ∙ ap (λ (k : ℕ). k + 1) a.counts;
-      each = λ i y low there. elim (below_cases i n low) [
-        | inl s ↦
-            (let same : x ≡ y = (let both : Some x ≡ Some y = sym here ∙ ap (λ (k : ℕ). slice_get lives k) (sym s) ∙ there in cc) in
-            (o, grown_last starts o i (s ∙ sym a.counts), subst (λ (z : Life). IsStart log z o) same begins))
-        | inr b ↦ (let t = a.each i y b there in (t.0, grown_get starts o i t.0 t.1, t.2))
-      ];
-    })
 
 pub all_starts : (n : ℕ) (starts : List (Option Start)) (lives : List Life) (log : List Crossing) → length lives ≤ n
     → n ≤ length lives → AreStarts n starts lives log → AreStarts (length lives) starts lives log

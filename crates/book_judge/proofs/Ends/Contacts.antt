@@ -315,10 +315,6 @@ module _ (x : Life) (place m : ℕ) (less : m ≤ place) where
   abbrev IsReset : HostMessage → Type 0
   IsReset n = (n.flow.link.0 ≡ 0) × (orders_of n.text ≡ Legal command.Rst ∷ [])
 
-  and_three : (a b c : Bool) → a ≡ true → b ≡ true → c ≡ true → (a && b && c) ≡ true
-  and_three a b c e f g =
-      ap (λ (v : Bool). v && b && c) e ∙ ap (λ (v : Bool). v && c) f ∙ g
-
   out_behind : (n : HostMessage) (k : Course) (o p : Bool) → k.stage ≡ Going o p
       → (same_host x.host n.flow.source ≡ true → same_host x.peer n.flow.destination ≡ true → IsReset n)
       → Behind (not (same_host x.host n.flow.source && same_host x.peer n.flow.destination)) m

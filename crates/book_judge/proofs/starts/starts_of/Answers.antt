@@ -1,5 +1,5 @@
 use Rattle.book_judge.proofs.Common.{arith}
-use Rattle.book_judge.proofs.Crossed.Numbered.{all_starts, starts_more, starts_none}
+use Rattle.book_judge.proofs.Crossed.Numbered.{all_starts, starts_none}
 use Rattle.book_judge.proofs.starts.starts_of.Goals as goal
 
 pub loop-place-init : goal.loop-place-init
