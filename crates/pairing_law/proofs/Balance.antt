@@ -67,7 +67,7 @@ said_ask p s t e b none still =
       asked_at = λ q same. inl (sym (same_Some p q same), sym here);
       asked_is = λ q a. elim a [
         | inl new ↦ ap (λ (r : ℕ). Some r) (sym new.0)
-        | inr old ↦ absurd (none_some e.asked q none (b.asked_is q old))
+        | inr old ↦ absurd (none_some _ q none (b.asked_is q old))
       ];
       partner_at = b.partner_at;
       partner_is = b.partner_is;
@@ -105,7 +105,7 @@ closed_grounds s t e b begun still k l =
     elim (eq-or-lt_of_le at_most) [
       | inl same ↦
           (let here : b.now ≡ k = (let h : closes s ≡ b.now + count e.gone = b.said in omega (arith, h, zero_gone, same)) in
-          subst (λ (j : ℕ). IsAsked j s ⊎ IsAsked j t) here (begun_grounds b.now s t e.asked e.partner b.asked_at b.partner_at begun))
+          subst (λ (j : ℕ). IsAsked j s ⊎ IsAsked j t) here (begun_grounds b.now s t _ _ b.asked_at b.partner_at begun))
       | inr less ↦ b.grounds k less
     ]
 
@@ -152,7 +152,7 @@ said_last s t e b begun still quiet =
     let one_taken : count e.taken ≡ 1 = ap count quiet in
     let said : closes s + 1 ≡ b.now + 1 = (let h : closes s ≡ b.now + count e.gone = b.said in omega (arith, h, zero_gone)) in
     let heard : closes t ≡ b.now + 1 = (let h : closes t ≡ b.now + count e.taken = b.heard in omega (arith, h, one_taken)) in
-    next_of (Close ∷ s) t b.now said heard b.single b.within b.within_heard (closed_grounds s t e b begun still)
+    next_of _ t b.now said heard b.single b.within b.within_heard (closed_grounds s t e b begun still)
 
 pub balanced_says : (m : Mark) (s t : List Mark) (e : End) → MayGo m e → Balanced s t e → Balanced (m ∷ s) t (gone m e)
 balanced_says (Ask p) s t e may b = said_ask p s t e b may.0 may.1
@@ -177,7 +177,7 @@ heard_ask p s t e b none still =
       partner_at = λ q same. inl (sym (same_Some p q same), sym here);
       partner_is = λ q a. elim a [
         | inl new ↦ ap (λ (r : ℕ). Some r) (sym new.0)
-        | inr old ↦ absurd (none_some e.partner q none (b.partner_is q old))
+        | inr old ↦ absurd (none_some _ q none (b.partner_is q old))
       ];
       single = b.single;
       within = b.within;
@@ -216,20 +216,20 @@ heard_last s t e b closed quiet =
     let zero_taken : count e.taken ≡ 0 = ap count quiet in
     let said : closes s ≡ b.now + 1 = (let h : closes s ≡ b.now + count e.gone = b.said in omega (arith, h, one_gone)) in
     let heard : closes t + 1 ≡ b.now + 1 = (let h : closes t ≡ b.now + count e.taken = b.heard in omega (arith, h, zero_taken)) in
-    next_of s (Close ∷ t) b.now said heard b.single b.within b.within_heard b.grounds
+    next_of s _ b.now said heard b.single b.within b.within_heard b.grounds
 
 not_some : (o : Option ℕ) → not (is_some o) ≡ true → o ≡ None
 not_some (Some p) e = absurd (cc)
 not_some None e = refl
 
 pub fits_ask : (p : ℕ) (e : End) → fits (Ask p) e ≡ true → (e.partner ≡ None) × (e.taken ≡ false)
-fits_ask p e f = let h : (not (is_some e.partner) ≡ true) × (not e.taken ≡ true) = and_parts (not (is_some e.partner)) (not e.taken) f in (not_some e.partner h.0, not_true e.taken h.1)
+fits_ask p e f = let h : (not (is_some e.partner) ≡ true) × (not e.taken ≡ true) = and_parts (not (is_some e.partner)) (not e.taken) f in (not_some _ h.0, not_true _ h.1)
 
 pub balanced_hears : (m : Mark) (s t : List Mark) (e : End) → fits m e ≡ true → Balanced s t e → Balanced s (m ∷ t) (mark_taken m e)
 balanced_hears (Ask p) s t e f b = let h : (e.partner ≡ None) × (e.taken ≡ false) = fits_ask p e f in heard_ask p s t e b h.0 h.1
 balanced_hears Close s t e f b = by e.gone refl where
   quiet : e.taken ≡ false
-  quiet = not_true e.taken (and_parts (is_begun e) (not e.taken) f).1
+  quiet = not_true _ (and_parts (is_begun e) (not e.taken) f).1
 
   by : (v : Bool) → e.gone ≡ v → Balanced s (Close ∷ t) (if v then nothing else record e { taken = true })
   by true h = heard_last s t e b h quiet
@@ -249,7 +249,7 @@ begun_either None None p (inr e) = absurd (cc)
 
 close_fits : (sa ta sb tb : List Mark) (ea eb : End) (a : Balanced sa ta ea) (b : Balanced sb tb eb) → IsOlder (Close ∷ tb) sa → IsOlder ta sb → fits Close eb ≡ true
 close_fits sa ta sb tb ea eb a b next back =
-    let more : closes tb + 1 ≤ closes sa = closes_said (Close ∷ tb) sa next in
+    let more : closes tb + 1 ≤ closes sa = closes_said _ sa next in
     let less : closes ta ≤ closes sb = closes_said ta sb back in
     let sa_is : closes sa ≡ a.now + count ea.gone = a.said in
     let ta_is : closes ta ≡ a.now + count ea.taken = a.heard in
@@ -258,18 +258,18 @@ close_fits sa ta sb tb ea eb a b next back =
     let a_half : count ea.gone + count ea.taken ≤ 1 = a.half in
     let b_half : count eb.gone + count eb.taken ≤ 1 = b.half in
     let none : count eb.taken ≡ 0 = omega (arith, more, less, sa_is, ta_is, sb_is, tb_is, a_half, b_half) in
-    let quiet : eb.taken ≡ false = count_none eb.taken none in
+    let quiet : eb.taken ≡ false = count_none _ none in
     let begun : is_begun eb ≡ true = elim (a.grounds b.now (omega (arith, more, tb_is, none))) [
       | inl own ↦
           (let old : Asks b.now own.0 tb = asks_before b.now own.0 next.0 tb (subst (λ (w : List Mark). Asks b.now own.0 w) next.1 own.1) (omega (arith, tb_is)) in
-          begun_either eb.asked eb.partner own.0 (inr (b.partner_is own.0 old)))
-      | inr other ↦ begun_either eb.asked eb.partner other.0 (inl (b.asked_is other.0 (asks_said b.now other.0 ta sb back other.1)))
+          begun_either _ _ own.0 (inr (b.partner_is own.0 old)))
+      | inr other ↦ begun_either _ _ _ (inl (b.asked_is other.0 (asks_said b.now _ ta sb back other.1)))
     ] in
     rw (begun, quiet) refl
 
 ask_fits : (p : ℕ) (sa ta sb tb : List Mark) (ea eb : End) (a : Balanced sa ta ea) (b : Balanced sb tb eb) → Grows sa → IsOlder (Ask p ∷ tb) sa → IsOlder ta sb → fits (Ask p) eb ≡ true
 ask_fits p sa ta sb tb ea eb a b grows next back =
-    let there : Asks (closes tb) p sa = asks_said (closes tb) p (Ask p ∷ tb) sa next (inl (refl, refl)) in
+    let there : Asks (closes tb) p sa = asks_said _ p _ sa next (inl (refl, refl)) in
     let early : closes tb ≤ a.now = a.within (closes tb) p there in
     let less : closes ta ≤ closes sb = closes_said ta sb back in
     let ta_is : closes ta ≡ a.now + count ea.taken = a.heard in
@@ -277,11 +277,11 @@ ask_fits p sa ta sb tb ea eb a b grows next back =
     let tb_is : closes tb ≡ b.now + count eb.taken = b.heard in
     let b_half : count eb.gone + count eb.taken ≤ 1 = b.half in
     let none : count eb.taken ≡ 0 = omega (arith, early, less, ta_is, sb_is, tb_is, b_half) in
-    let quiet : eb.taken ≡ false = count_none eb.taken none in
+    let quiet : eb.taken ≡ false = count_none _ none in
     let here : closes tb ≡ b.now = omega (arith, tb_is, none) in
     let other : (q : ℕ) → eb.partner ≡ Some q → ⊥ = λ q e.
     let old : Asks b.now q tb = b.partner_at q e in
-    let same : p ≡ q = a.single b.now p q (subst (λ (k : ℕ). Asks k p sa) here there) (asks_said b.now q (Ask p ∷ tb) sa next (inr old)) in
+    let same : p ≡ q = a.single b.now p q (subst (λ (k : ℕ). Asks k p sa) here there) (asks_said b.now q _ sa next (inr old)) in
     let before : q < p = asks_apart b.now p q next.0 tb (subst Grows next.1 grows) old in
     omega (arith, same, before) in
     rw (by eb.partner other, quiet) refl

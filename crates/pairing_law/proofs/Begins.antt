@@ -44,8 +44,8 @@ at_zero bs l x e = elim (at bs l x 0) [
 ]
 
 sent_gone : (t : Bool) (l here : ℕ) (m : Message) (p : Pair) (bs : ℕ → Box) → (t ≡ true → MaySend p l m) → HasGone (pair_moved (when t (Send l m)) p).phase (posted here (when t (Put l m)) bs 0) → HasGone p.phase (bs 0)
-sent_gone true l here Reset p bs may h = absurd (subst (λ (z : Box). HasGone (Gone false) z) (at_zero bs l (Waiting here Reset) (may refl).0) h)
-sent_gone true l here Reply p bs may h = put_gone p.phase (bs 0) (at_link bs l (Waiting here Reply) 0) here Reply (at_zero bs l (Waiting here Reply) (may refl).0) h
+sent_gone true l here Reset p bs may h = absurd (subst (λ (z : Box). HasGone (Gone false) z) (at_zero bs l _ (may refl).0) h)
+sent_gone true l here Reply p bs may h = put_gone _ (bs 0) _ here Reply (at_zero bs l _ (may refl).0) h
 sent_gone true l here (Other text) p bs may h = absurd (subst (λ (ph : Phase). HasGone ph (at_link bs l (Waiting here (Other text)) 0)) (may refl).0 h)
 sent_gone false l here m p bs may h = h
 
@@ -64,8 +64,8 @@ reply_gone Heard box h = tt
 reply_gone ph box h = h
 
 took_gone : (t : Bool) (m : Message) (p : Pair) (box : Box) → HasGone (pair_moved (when t (Take m)) p).phase box → HasGone p.phase box
-took_gone true Reset p box h = reset_gone p.phase box h
-took_gone true Reply p box h = reply_gone p.phase box h
+took_gone true Reset p box h = reset_gone _ box h
+took_gone true Reply p box h = reply_gone _ box h
 took_gone true (Other text) p box h = h
 took_gone false m p box h = h
 
@@ -79,7 +79,7 @@ gone_either ph x y h = inl h
 
 fetched_gone : (t : Bool) (l here : ℕ) (ph : Phase) (bs : ℕ → Box) → HasGone ph (posted here (when t (Fetch l)) bs 0) → HasGone ph (bs 0) ⊎ ((t ≡ true) × (l ≡ 0) × IsGone ph)
 fetched_gone true l here ph bs h = elim (at bs l (fetched (bs l)) 0) [
-  | inl t ↦ elim (gone_either ph (bs 0) (at_link bs l (fetched (bs l)) 0) h) [
+  | inl t ↦ elim (gone_either ph (bs 0) _ h) [
     | inl old ↦ inl old
     | inr gone ↦ inr (refl, sym t.0, gone)
   ]
@@ -108,9 +108,9 @@ failed_gone Ready false x y h = h
 
 told_gone : (t : Bool) (l here : ℕ) (k : Answer) (p : Pair) (bs : ℕ → Box) → (t ≡ true → Fits k (bs l)) → HasGone (pair_moved (when t (Hear l k)) p).phase (posted here (when t (Clear l)) bs 0) → HasGone p.phase (bs 0)
 told_gone false l here k p bs f h = h
-told_gone true l here answer.Dead p bs f h = failed_gone p.phase p.owed (bs 0) (at_link bs l Empty 0) h
-told_gone true l here answer.Incomplete p bs f h = failed_gone p.phase p.owed (bs 0) (at_link bs l Empty 0) h
-told_gone true l here answer.NotTaken p bs f h = failed_gone p.phase p.owed (bs 0) (at_link bs l Empty 0) h
+told_gone true l here answer.Dead p bs f h = failed_gone _ p.owed (bs 0) _ h
+told_gone true l here answer.Incomplete p bs f h = failed_gone _ p.owed (bs 0) _ h
+told_gone true l here answer.NotTaken p bs f h = failed_gone _ p.owed (bs 0) _ h
 told_gone true l here answer.Rfnm p bs f h = by (l == 0) refl where
   by : (v : Bool) → (l == 0) ≡ v → HasGone p.phase (bs 0)
   by true e =
@@ -147,7 +147,7 @@ no_begin e events v w none = rw (and_right (ready w v (e ∷ events)) (ready v w
 
 stays_left : (e : Event) (events : List Event) (v w : Host) → HasGone (pair v w (e ∷ events)).phase (boxes v w (e ∷ events) 0) → (takes_reset w v e ≡ true) ⊎ (stays w v events ≡ false) → stays w v (e ∷ events) ≡ false
 stays_left e events v w h left =
-    left_on (begins w v e events) (ready w v (e ∷ events)) (takes_reset w v e) (stays w v events) (no_begin e events v w (gone_unready (pair v w (e ∷ events)).phase (boxes v w (e ∷ events) 0) h)) left
+    left_on _ _ _ _ (no_begin e events v w (gone_unready _ _ h)) left
 
 reset_waits : (x : Box) (m : Message) → WaitsWith x m → kind_in x ≡ Some Rst → m ≡ Reset
 reset_waits Empty m w e = absurd w
@@ -157,7 +157,7 @@ reset_waits (Waiting p Reply) m w e = absurd (cc)
 reset_waits (Waiting p (Other text)) m w e = absurd (cc)
 
 gone_up : (hosts : Network) (events : List Event) → IsRun hosts events → (a b : Host) → AreOurs hosts a b → (early : Bool) → (pair a b events).phase ≡ Gone early → is_up hosts.all a events ≡ true
-gone_up hosts events r a b ours early gone = by (is_up hosts.all a events) refl where
+gone_up hosts events r a b ours early gone = by (is_up _ a events) refl where
   by : (v : Bool) → is_up hosts.all a events ≡ v → is_up hosts.all a events ≡ true
   by true e = e
   by false e = absurd (let both : Gone early ≡ Closed = sym gone ∙ ap (λ (p : Pair). p.phase) (down_pair hosts events r a b ours e) in absurd (cc))
@@ -171,16 +171,16 @@ takes_it hosts events x y l m r v w ours same zero gone =
     let i : InGone gone.0 (monitor v w events) (pair v w events).begun (pair v w events).out = subst S gone.1 s.shape in
     let waits : WaitsWith (boxes v w events l) m = carry (λ i j. WaitsWith (boxes i j events l) m) v w x y same r.0.1 in
     let kind : kind_in (boxes v w events l) ≡ Some Rst = subst (λ (j : ℕ). kind_in (boxes v w events j) ≡ Some Rst) (sym zero) (sym (s.outstanding.boxed 0) ∙ i.rst) in
-    let rst : m ≡ Reset = reset_waits (boxes v w events l) m waits kind in
+    let rst : m ≡ Reset = reset_waits _ m waits kind in
     subst (λ (n : Message). takes_reset w v (In x y l n) ≡ true) (sym rst) (turned_about w v y x same)
 
 -- a host whose RST was taken has a peer that left
 has_left : (hosts : Network) (events : List Event) → IsRun hosts events → (v w : Host) → AreOurs hosts v w → HasGone (pair v w events).phase (boxes v w events 0) → stays w v events ≡ false
 has_left hosts [] r v w ours h = refl
-has_left hosts (Contact x y ∷ events) r v w ours h = stays_left (Contact x y) events v w h (inr (has_left hosts events r.2 v w ours (call_gone (are v w x y) (pair v w events) (boxes v w events 0) h)))
+has_left hosts (Contact x y ∷ events) r v w ours h = stays_left (Contact x y) events v w h (inr (has_left hosts events r.2 v w ours (call_gone _ _ _ h)))
 has_left hosts (Out x y l m ∷ events) r v w ours h =
     stays_left (Out x y l m) events v w h
-    (inr (has_left hosts events r.2 v w ours (sent_gone (are v w x y) l (place events) m (pair v w events) (boxes v w events) (λ e. carry (λ i j. AreOurs hosts i j → MaySend (pair i j events) l m) v w x y e r.1 ours) h)))
+    (inr (has_left hosts events r.2 v w ours (sent_gone _ l _ m _ _ (λ e. carry (λ i j. AreOurs hosts i j → MaySend (pair i j events) l m) v w x y e r.1 ours) h)))
 has_left hosts (In x y l m ∷ events) r v w ours h =
     stays_left (In x y l m) events v w h (elim (fetched_gone (are v w x y) l (place events) (pair v w events).phase (boxes v w events) (took_gone (are v w y x) m (pair v w events) (boxes v w (In x y l m ∷ events) 0) h)) [
       | inl old ↦ inr (has_left hosts events r.2 v w ours old)
@@ -188,8 +188,8 @@ has_left hosts (In x y l m ∷ events) r v w ours h =
     ])
 has_left hosts (Told x y l k ∷ events) r v w ours h =
     stays_left (Told x y l k) events v w h
-    (inr (has_left hosts events r.2 v w ours (told_gone (are v w x y) l (place events) k (pair v w events) (boxes v w events) (λ e. carry (λ i j. Fits k (boxes i j events l)) v w x y e r.0.1) h)))
-has_left hosts (Down x ∷ events) r v w ours h = stays_left (Down x) events v w h (inr (has_left hosts events r.2 v w ours (down_gone (same_host v x) (pair v w events) (boxes v w events 0) h)))
+    (inr (has_left hosts events r.2 v w ours (told_gone _ l _ k _ _ (λ e. carry (λ i j. Fits k (boxes i j events l)) v w x y e r.0.1) h)))
+has_left hosts (Down x ∷ events) r v w ours h = stays_left (Down x) events v w h (inr (has_left hosts events r.2 v w ours (down_gone _ _ _ h)))
 has_left hosts (Up x ∷ events) r v w ours h = stays_left (Up x) events v w h (inr (has_left hosts events r.2 v w ours (up_gone (same_host v x) (place events) (pair v w events) (boxes v w events) h)))
 has_left hosts (Idle ∷ events) r v w ours h = stays_left Idle events v w h (inr (has_left hosts events r.2 v w ours h))
 
@@ -215,7 +215,7 @@ unready_left : (events : List Event) (v w : Host) → (pair v w events).phase �
 unready_left events v w none = by (stays v w events) refl where
   by : (t : Bool) → stays v w events ≡ t → stays v w events ≡ false
   by false e = e
-  by true e = absurd (none (ready_phase (pair v w events).phase (stays_ready events v w e)))
+  by true e = absurd (none (ready_phase _ (stays_ready events v w e)))
 
 heard_left : (hosts : Network) (events : List Event) → IsRun hosts events → (v w : Host) → AreOurs hosts v w → (pair v w events).phase ≡ Heard → stays w v events ≡ false
 heard_left hosts events r v w ours h = has_left hosts events r v w ours (subst (λ (ph : Phase). HasGone ph (boxes v w events 0)) (sym h) tt)
@@ -224,12 +224,12 @@ became_fresh : (hosts : Network) (e : Event) (events : List Event) → IsRun hos
     → (pair w v (e ∷ events)).phase ≡ Ready → Fresh v w e events
 became_fresh hosts (Contact x y) events r v w ours here before there = absurd (before (still_ready (are v w x y) Call (place events) (pair v w events) (monitor v w events) tt here).0)
 became_fresh hosts (Out x y l m) events r v w ours here before there = absurd (before (still_ready (are v w x y) (Send l m) (place events) (pair v w events) (monitor v w events) tt here).0)
-became_fresh hosts (In x y l Reset) events r v w ours here before there = elim (ready_taken (are v w y x) Reset (place events) (pair v w events) (monitor v w events) here) [
+became_fresh hosts (In x y l Reset) events r v w ours here before there = elim (ready_taken (are v w y x) Reset (place events) _ (monitor v w events) here) [
   | inl s ↦ absurd (reset_unready hosts events x y l r v w ours s.0 there)
   | inr t ↦ absurd (before t.0)
 ]
 became_fresh hosts (In x y l Reply) events r v w ours here before there = elim (ready_taken (are v w y x) Reply (place events) (pair v w events) (monitor v w events) here) [
-  | inl s ↦ elim (reply_from (are v w y x) (pair v w events) here) [
+  | inl s ↦ elim (reply_from _ _ here) [
     | inl awaited ↦
         (let up : is_up hosts.all v events ≡ true = ready_up hosts (In x y l Reply ∷ events) r v w ours here in
         let sound : Sound (pair v w events) (monitor v w events) (boxes v w events) = sound_run hosts events r.2 v w ours up in
@@ -239,11 +239,11 @@ became_fresh hosts (In x y l Reply) events r v w ours here before there = elim (
         let other : Sound (pair w v events) (monitor w v events) (boxes w v events) = sound_run hosts events r.2 w v (ours.1, ours.0) peer_up in
         let same : are w v x y ≡ true = turned_about w v x y s.0 in
         let waits : WaitsWith (boxes w v events l) Reply = carry (λ i j. WaitsWith (boxes i j events l) Reply) w v x y same r.0.1 in
-        let out : (pair w v events).out l ≡ Some Rrp = other.outstanding.boxed l ∙ reply_kind (boxes w v events l) waits in
+        let out : (pair w v events).out l ≡ Some Rrp = other.outstanding.boxed l ∙ reply_kind _ waits in
         let zero : l ≡ 0 = other.outstanding.on_zero l (ap is_signal out) in
         record {
-          silent = reply_begun (are v w y x) (pair v w events) i.silent;
-          silent_peer = reply_begun (are w v y x) (pair w v events) (other.outstanding.replying (subst (λ (k : ℕ). (pair w v events).out k ≡ Some Rrp) zero out));
+          silent = reply_begun _ _ i.silent;
+          silent_peer = reply_begun _ _ (other.outstanding.replying (subst (λ (k : ℕ). (pair w v events).out k ≡ Some Rrp) zero out));
           left = unready_left events v w before;
           peer_left = heard_left hosts events r.2 v w ours awaited;
         })
@@ -269,11 +269,11 @@ pub begins_fresh : (hosts : Network) (e : Event) (events : List Event) → IsRun
 begins_fresh hosts e events r a b ours begun =
     let t : (joint a b (e ∷ events) ≡ true) × (not (joint a b events) ≡ true) = and_parts (joint a b (e ∷ events)) (not (joint a b events)) begun in
     let now : (ready a b (e ∷ events) ≡ true) × (ready b a (e ∷ events) ≡ true) = and_parts (ready a b (e ∷ events)) (ready b a (e ∷ events)) t.0 in
-    let first : (pair a b (e ∷ events)).phase ≡ Ready = ready_phase (pair a b (e ∷ events)).phase now.0 in
-    let second : (pair b a (e ∷ events)).phase ≡ Ready = ready_phase (pair b a (e ∷ events)).phase now.1 in
-    elim (one_false (ready a b events) (ready b a events) t.1) [
-      | inl was ↦ became_fresh hosts e events r a b ours first (unready_phase (pair a b events).phase was) second
+    let first : (pair a b (e ∷ events)).phase ≡ Ready = ready_phase _ now.0 in
+    let second : (pair b a (e ∷ events)).phase ≡ Ready = ready_phase _ now.1 in
+    elim (one_false _ _ t.1) [
+      | inl was ↦ became_fresh hosts e events r a b ours first (unready_phase _ was) second
       | inr was ↦
-          (let f : Fresh b a e events = became_fresh hosts e events r b a (ours.1, ours.0) second (unready_phase (pair b a events).phase was) first in
+          (let f : Fresh b a e events = became_fresh hosts e events r b a (ours.1, ours.0) second (unready_phase _ was) first in
           record { silent = f.silent_peer; silent_peer = f.silent; left = f.peer_left; peer_left = f.left })
     ]

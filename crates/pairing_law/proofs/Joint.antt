@@ -1,5 +1,5 @@
 -- What both hosts keep, through all that happens.
-use Rattle.std.proofs.Common.{◌≡◌, ◌≢◌, ℕ, ◌+◌, ◌<◌, ◌≤◌, Bool, true, false, List, ◌∷◌, Option, Some, None, refl, ap, sym, subst, ◌∙◌, inl, inr, if◌then◌else◌, arith}
+use Rattle.std.proofs.Common.{◌≡◌, ◌≢◌, ℕ, ◌<◌, ◌≤◌, Bool, true, false, List, ◌∷◌, Option, Some, None, refl, ap, sym, subst, ◌∙◌, inl, inr, if◌then◌else◌, arith}
 use Rattle.std.proofs.lemmas.Option.{same_Some}
 use Rattle.pairing_law.specs.Marks.{Mark, Ask, Close, IsOlder}
 use Rattle.pairing_law.specs.Ends.{End, nothing, MayGo, gone}
@@ -66,7 +66,7 @@ above_less (Ask p) next later = let l : next ≤ p = later in omega (arith, l)
 above_less Close next later = omega arith
 
 below_said : (m : Mark) (next : ℕ) (s : List Mark) → IsLater m next → Below next s → Below (above m next) (m ∷ s)
-below_said (Ask p) next s later below = (omega arith, below_later next (p + 1) s (let l : next ≤ p = later in omega (arith, l)) below)
+below_said (Ask p) next s later below = (omega arith, below_later next _ s (let l : next ≤ p = later in omega (arith, l)) below)
 below_said Close next s later below = below
 
 stood_said : (floor other : ℕ) (m : Mark) (s t : List Mark) (x : Life) → Stood floor other s t x → Stood floor other (m ∷ s) t x
@@ -98,33 +98,33 @@ said_opens floor other p a b h g stay may later o there =
       e' = record a.end { asked = Some p }
 
       old : Lived floor other (Ask p ∷ a.said) a.heard (record a.end { asked = Some p }) a.lives b.lives
-      old = lived_on floor other floor other a.said a.heard (Ask p ∷ a.said) a.heard a.end (record a.end { asked = Some p }) a.lives b.lives (said_stands floor other (Ask p) a h.low h.below later) h.lived
+      old = lived_on floor other floor other a.said _ _ _ a.end _ _ _ (said_stands floor other _ a h.low h.below later) h.lived
 
       now : Balanced (Ask p ∷ a.said) a.heard (record a.end { asked = Some p })
-      now = balanced_says (Ask p) a.said a.heard a.end may (subst (λ (e : End). Balanced a.said a.heard e) (h.same stay) h.balanced)
+      now = balanced_says (Ask p) a.said _ a.end may (subst (λ (e : End). Balanced a.said a.heard e) (h.same stay) h.balanced)
 
       by : (o : Option ℕ) → a.end.partner ≡ o → Lived floor other (Ask p ∷ a.said) a.heard (record a.end { asked = Some p }) (lives_opened (Some p) o a.lives) b.lives
       by None there = old
       by (Some q) there =
           let new : IsNew (Ask p ∷ a.said) a.heard (record { own = p; partner = q }) = (now.now, now.asked_at p refl, now.partner_at q there) in
-          lived_more floor other (Ask p ∷ a.said) a.heard (record a.end { asked = Some p }) (record { own = p; partner = q }) a.lives b.lives old
+          lived_more floor other _ _ _ _ _ _ old
           (record { stood = inr new; own_used = λ same none. none_some a.end.partner q none there; partner_used = λ same none. absurd (cc) })
-          (none_owns (Stands floor other a.said a.heard a.end) p a.lives (λ x s same. let l : x.own < a.next = own_below floor other a.next a.said a.heard x h.low h.below s.stood in omega (arith, l, later, same)) h.lived.stands)
-          (none_took (Stands floor other a.said a.heard a.end) q a.lives (λ x s same. s.partner_used (there ∙ ap (λ (r : ℕ). Some r) (sym same)) may.0) h.lived.stands)
+          (none_owns _ p _ (λ x s same. let l : x.own < a.next = own_below floor other a.next a.said a.heard x h.low h.below s.stood in omega (arith, l, later, same)) h.lived.stands)
+          (none_took _ q _ (λ x s same. s.partner_used (there ∙ ap (λ (r : ℕ). Some r) (sym same)) may.0) h.lived.stands)
           (λ y i.
-          let stood : Stood other floor b.said b.heard y = (every_in (Stands other floor b.said b.heard b.end) y b.lives g.lived.stands i).stood in
+          let stood : Stood other floor b.said b.heard y = (every_in _ y _ g.lived.stands i).stood in
           let back : IsOlder b.heard (Ask p ∷ a.said) = (Ask p ∷ g.older.0, ap (λ (w : List Mark). Ask p ∷ w) g.older.1) in
           let grows : Grows (Ask p ∷ a.said) = grows_said (Ask p) a.next a.said later h.below h.grows in
           let from : From floor (Ask p ∷ a.said) = from_said (Ask p) floor a.next a.said later h.low h.from in (
-            one_new floor other (Ask p ∷ a.said) a.heard b.said b.heard (record a.end { asked = Some p }) now h.older back g.grows g.from (record { own = p; partner = q }) y new stood,
-            other_new floor other (Ask p ∷ a.said) a.heard b.said b.heard g.kept g.balanced h.older back grows from (record { own = p; partner = q }) y new stood,
+            one_new floor other _ _ b.said _ _ now h.older back g.grows g.from _ y new stood,
+            other_new floor other _ _ b.said _ g.kept g.balanced h.older back grows from _ y new stood,
           ))
 
 said_lives : (floor other : ℕ) (m : Mark) (a b : Side) (h : Half floor other a b) (g : Half other floor b a) → a.stays ≡ true → MayGo m a.end → IsLater m a.next
     → Lived floor other (m ∷ a.said) a.heard (gone m a.end) (lives_gone m a.end a.lives) b.lives
-said_lives floor other (Ask p) a b h g stay may later = said_opens floor other p a b h g stay may later a.end.partner refl
+said_lives floor other (Ask p) a b h g stay may later = said_opens floor other p a b h g stay may later _ refl
 said_lives floor other Close a b h g stay may later =
-    lived_on floor other floor other a.said a.heard (Close ∷ a.said) a.heard a.end (gone Close a.end) a.lives b.lives (said_stands floor other Close a h.low h.below later) h.lived
+    lived_on floor other floor other a.said _ _ _ a.end _ _ _ (said_stands floor other Close a h.low h.below later) h.lived
 
 -- the peer's side of it
 back_lived : (floor other : ℕ) (s t : List Mark) (e : End) (lives others more : List Life) → Lived floor other s t e lives others → AreBoth lives more → AreBoth more lives → Lived floor other s t e lives more
@@ -142,12 +142,12 @@ there_on floor other a a' b g older both back = record {
   from = g.from;
   below = g.below;
   low = g.low;
-  lived = back_lived other floor b.said b.heard b.end b.lives a.lives a'.lives g.lived both back;
+  lived = back_lived other floor b.said _ b.end _ _ _ g.lived both back;
 }
 
 pub joined_said : (m : Mark) (a b : Side) → Joined a b → a.stays ≡ true → MayGo m a.end → IsLater m a.next → Joined (said_in m a) b
 joined_said m a b j stay may later =
-    let lived : Lived j.floor j.other (m ∷ a.said) a.heard (gone m a.end) (lives_gone m a.end a.lives) b.lives = said_lives j.floor j.other m a b j.here j.there stay may later in
+    let lived : Lived j.floor j.other (m ∷ a.said) a.heard (gone m a.end) (lives_gone m a.end a.lives) b.lives = said_lives _ _ m a b j.here j.there stay may later in
     let low : j.floor ≤ a.next = j.here.low in
     let less : a.next ≤ above m a.next = above_less m a.next later in
     record {
@@ -155,15 +155,15 @@ joined_said m a b j stay may later =
       other = j.other;
       here = record {
         kept = gone m a.end;
-        balanced = balanced_says m a.said a.heard a.end may (subst (λ (e : End). Balanced a.said a.heard e) (j.here.same stay) j.here.balanced);
+        balanced = balanced_says m a.said _ a.end may (subst (λ (e : End). Balanced a.said a.heard e) (j.here.same stay) j.here.balanced);
         same = λ e. refl;
         alone = λ e. absurd (unlike a.stays stay e);
         older = j.here.older;
         grows = grows_said m a.next a.said later j.here.below j.here.grows;
-        from = from_said m j.floor a.next a.said later j.here.low j.here.from;
+        from = from_said m _ a.next a.said later j.here.low j.here.from;
         below = below_said m a.next a.said later j.here.below;
         low = omega (arith, low, less);
         lived = lived;
       };
-      there = there_on j.floor j.other a (said_in m a) b j.there (m ∷ j.there.older.0, ap (λ (w : List Mark). m ∷ w) j.there.older.1) lived.back lived.both;
+      there = there_on _ _ a _ b j.there (m ∷ j.there.older.0, ap (λ (w : List Mark). m ∷ w) j.there.older.1) lived.back lived.both;
     }

@@ -3,7 +3,7 @@ use Rattle.std.proofs.Common.{◌≡◌, ℕ, ◌+◌, ◌<◌, ◌≤◌, ◌==
 use Rattle.std.proofs.lemmas.Bool.{eqb-true, and_parts}
 use Rattle.pairing_law.specs.Marks.{Mark, Ask, Close, closes, Asks, IsOlder}
 use Rattle.pairing_law.specs.Ends.{End}
-use Rattle.pairing_law.specs.Sides.{Move, Say, Hear, May, Event, One, Two, both, IsRun}
+use Rattle.pairing_law.specs.Sides.{Move, Say, May, Event, One, Two, both, IsRun}
 use Rattle.pairing_law.specs.Links.{Sockets, same, Word, Receiver, Sender, Step, Says, Hears, Leaves, Meets, when, with_event, events_at, receiver, sender, stays, said_words, heard_words, IsAmong, IsUnused, NamesFree, AreSteps}
 use Rattle.pairing_law.proofs.Words.{asks_said, closes_said, asks_once}
 use Rattle.pairing_law.proofs.Balance.{Balanced, count}
@@ -38,27 +38,27 @@ hear_older m false h h' d d' e f g o = absurd (cc)
 pub run_at : (s : Sockets) (steps : List Step) → AreSteps steps → IsRun (events_at s steps)
 run_at s [] r = tt
 run_at s (Says Receiver w ∷ steps) r =
-    one_may (same s w.sockets) (Say w.mark) (events_at s steps) (λ e. subst (λ (t : Sockets). May (Say w.mark) (receiver t steps) (sender t steps)) (sym (same_is s w.sockets e)) r.0.0) (run_at s steps r.1)
+    one_may _ _ _ (λ e. subst (λ (t : Sockets). May (Say w.mark) (receiver t steps) (sender t steps)) (sym (same_is s _ e)) r.0.0) (run_at s steps r.1)
 run_at s (Says Sender w ∷ steps) r =
-    two_may (same s w.sockets) (Say w.mark) (events_at s steps) (λ e. subst (λ (t : Sockets). May (Say w.mark) (sender t steps) (receiver t steps)) (sym (same_is s w.sockets e)) r.0) (run_at s steps r.1)
+    two_may _ _ _ (λ e. subst (λ (t : Sockets). May (Say w.mark) (sender t steps) (receiver t steps)) (sym (same_is s _ e)) r.0) (run_at s steps r.1)
 run_at s (Hears Receiver w ∷ steps) r =
     let h : BothSeen s steps = seen s steps in
-    one_may (same s w.sockets) (Hear w.mark) (events_at s steps) (λ e. (
+    one_may _ _ _ (λ e. (
       h.receiver.stays ∙ r.0.0,
-      hear_older w.mark (same s w.sockets) (at s (heard_words Receiver steps)) (receiver s steps).heard (at s (said_words Sender steps)) (sender s steps).said e h.receiver.heard h.sender.said (at_older s (w ∷ heard_words Receiver steps) (said_words Sender steps) r.0.1),
+      hear_older w.mark _ _ _ _ _ e h.receiver.heard h.sender.said (at_older s _ _ r.0.1),
     )) (run_at s steps r.1)
 run_at s (Hears Sender w ∷ steps) r =
     let h : BothSeen s steps = seen s steps in
-    two_may (same s w.sockets) (Hear w.mark) (events_at s steps) (λ e. (
+    two_may _ _ _ (λ e. (
       h.sender.stays ∙ r.0.0,
-      hear_older w.mark (same s w.sockets) (at s (heard_words Sender steps)) (sender s steps).heard (at s (said_words Receiver steps)) (receiver s steps).said e h.sender.heard h.receiver.said (at_older s (w ∷ heard_words Sender steps) (said_words Receiver steps) r.0.1),
+      hear_older w.mark _ _ _ _ _ e h.sender.heard h.receiver.said (at_older s _ _ r.0.1),
     )) (run_at s steps r.1)
 run_at s (Leaves Receiver ∷ steps) r = (tt, run_at s steps r.1)
 run_at s (Leaves Sender ∷ steps) r = (tt, run_at s steps r.1)
 run_at s (Meets ∷ steps) r = (r.0 s, run_at s steps r.1)
 
 pub joined_at : (s : Sockets) (steps : List Step) → AreSteps steps → Joined (receiver s steps) (sender s steps)
-joined_at s steps r = joined_run (events_at s steps) (run_at s steps r)
+joined_at s steps r = joined_run _ (run_at s steps r)
 
 -- ---- requests among all words
 
@@ -107,7 +107,7 @@ all_older replies (w ∷ new) words h = all_older replies new words h.1
 -- a request that names a free link
 settles : (steps : List Step) → AreSteps steps → stays Receiver steps ≡ true → (m : Mark) (link : ℕ) → NamesFree m link steps → Settled (said_words Sender steps) m link (said_words Receiver steps)
 settles steps r stay (Ask p) link free = λ t q i.
-    let a : (k : ℕ) × Asks k q (at t (said_words Receiver steps)) = among_asks t link q (said_words Receiver steps) i in
+    let a : (k : ℕ) × Asks k q (at t (said_words Receiver steps)) = among_asks t link q _ i in
     let h : BothSeen t steps = seen t steps in
     let j : Joined (receiver t steps) (sender t steps) = joined_at t steps r in
     let b : Balanced (receiver t steps).said (receiver t steps).heard (receiver t steps).end
@@ -120,7 +120,7 @@ settles steps r stay (Ask p) link free = λ t q i.
     let own : closes (receiver t steps).said ≡ b.now + count (receiver t steps).end.gone = b.said in
     let own_is : closes (receiver t steps).said ≡ closes (at t (said_words Receiver steps)) = ap closes h.receiver.said in
     let taken : closes (receiver t steps).heard ≡ b.now + count (receiver t steps).end.taken = b.heard in
-    let before : closes (receiver t steps).heard ≤ closes (sender t steps).said = closes_said (receiver t steps).heard (sender t steps).said j.here.older in
+    let before : closes (receiver t steps).heard ≤ closes (sender t steps).said = closes_said _ _ j.here.older in
     let reply_is : closes (sender t steps).said ≡ closes (at t (said_words Sender steps)) = ap closes h.sender.said in
     (a.0, a.1, omega (arith, less, own, own_is), omega (arith, less, taken, before, reply_is))
 settles steps r stay Close link free = tt
@@ -140,7 +140,7 @@ all_settled (Says Receiver w ∷ steps) r = by (stays Receiver steps) refl (all_
   by : (stay : Bool) → stays Receiver steps ≡ stay → AllSettled (said_words Sender steps) (said_words Receiver steps) → AllSettled (said_words Sender steps) (if stay then w ∷ said_words Receiver steps else said_words Receiver steps)
   by true e h = (settles steps r.1 e w.mark w.link r.0.1, h)
   by false e h = h
-all_settled (Says Sender w ∷ steps) r = all_more (said_words Sender steps) (said_words Sender (Says Sender w ∷ steps)) (said_words Receiver steps) (closes_if (stays Sender steps) w (said_words Sender steps)) (all_settled steps r.1)
+all_settled (Says Sender w ∷ steps) r = all_more _ _ _ (closes_if (stays Sender steps) w (said_words Sender steps)) (all_settled steps r.1)
 all_settled (Hears Receiver w ∷ steps) r = all_settled steps r.1
 all_settled (Hears Sender w ∷ steps) r = all_settled steps r.1
 all_settled (Leaves Receiver ∷ steps) r = all_settled steps r.1

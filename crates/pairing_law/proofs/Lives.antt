@@ -1,6 +1,6 @@
 -- The lives of one host beside the words of both: where their requests are, and what a new one keeps.
 use Rattle.std.proofs.Common.{◌≡◌, ◌≢◌, ◌⊎◌, ℕ, ◌<◌, ◌≤◌, List, [], ◌∷◌, Some, None, refl, sym, subst, inl, inr, arith}
-use Rattle.pairing_law.specs.Marks.{Mark, Ask, closes, Asks, IsOlder}
+use Rattle.pairing_law.specs.Marks.{Mark, Ask, Asks, IsOlder}
 use Rattle.pairing_law.specs.Ends.{End}
 use Rattle.pairing_law.specs.Sides.{Life}
 use Rattle.pairing_law.specs.Partners.{NoneOwns, NoneTook, OwnOnce, PartnerOnce, IsIn, AreBoth}
@@ -50,26 +50,26 @@ own_below floor other next s t x low below (inr new) = below_asks new.0 next x.o
 
 pub partner_below : (floor other next : ℕ) (s t said : List Mark) (x : Life) → other ≤ next → Below next said → IsOlder t said → Stood floor other s t x → x.partner < next
 partner_below floor other next s t said x low below older (inl old) = let l : x.partner < other = old.1 in omega (arith, l, low)
-partner_below floor other next s t said x low below older (inr new) = below_asks new.0 next x.partner said below (asks_said new.0 x.partner t said older new.2)
+partner_below floor other next s t said x low below older (inr new) = below_asks new.0 next _ said below (asks_said new.0 _ t said older new.2)
 
 -- a request that is heard is none that was heard before
 pub partner_before : (floor other p : ℕ) (s t said : List Mark) (x : Life) → From other said → Grows said → IsOlder (Ask p ∷ t) said → Stood floor other s t x → x.partner < p
 partner_before floor other p s t said x from grows older (inl old) =
     let l : x.partner < other = old.1 in
-    let m : other ≤ p = from_asks (closes t) other p said from (asks_said (closes t) p (Ask p ∷ t) said older (inl (refl, refl))) in
+    let m : other ≤ p = from_asks _ other p said from (asks_said _ p _ said older (inl (refl, refl))) in
     omega (arith, l, m)
-partner_before floor other p s t said x from grows older (inr new) = asks_apart new.0 p x.partner older.0 t (subst Grows older.1 grows) new.2
+partner_before floor other p s t said x from grows older (inr new) = asks_apart new.0 p _ older.0 t (subst Grows older.1 grows) new.2
 
 -- ---- two lives, one of them of this stay
 
 pub one_new : (floor other : ℕ) (sa ta sb tb : List Mark) (ea : End) → Balanced sa ta ea → IsOlder ta sb → IsOlder tb sa → Grows sb → From other sb
     → (x y : Life) → IsNew sa ta x → Stood other floor sb tb y → x.partner ≡ y.own → y.partner ≡ x.own
 one_new floor other sa ta sb tb ea a here there grows from x y new (inl old) same =
-    absurd (let l : y.own < other = old.0 in let m : other ≤ x.partner = from_asks new.0 other x.partner sb from (asks_said new.0 x.partner ta sb here new.2) in omega (arith, l, m, same))
+    absurd (let l : y.own < other = old.0 in let m : other ≤ x.partner = from_asks new.0 other _ sb from (asks_said new.0 _ ta sb here new.2) in omega (arith, l, m, same))
 one_new floor other sa ta sb tb ea a here there grows from x y new (inr young) same =
-    let heard : Asks new.0 y.own sb = subst (λ (p : ℕ). Asks new.0 p sb) same (asks_said new.0 x.partner ta sb here new.2) in
-    let one : young.0 ≡ new.0 = asks_once young.0 new.0 y.own sb grows young.1 heard in
-    let answered : Asks new.0 y.partner sa = subst (λ (k : ℕ). Asks k y.partner sa) one (asks_said young.0 y.partner tb sa there young.2) in
+    let heard : Asks new.0 y.own sb = subst (λ (p : ℕ). Asks new.0 p sb) same (asks_said new.0 _ ta sb here new.2) in
+    let one : young.0 ≡ new.0 = asks_once _ new.0 y.own sb grows young.1 heard in
+    let answered : Asks new.0 y.partner sa = subst (λ (k : ℕ). Asks k y.partner sa) one (asks_said _ _ tb sa there young.2) in
     a.single new.0 y.partner x.own answered new.1
 
 pub other_new : (floor other : ℕ) (sa ta sb tb : List Mark) (eb : End) → Balanced sb tb eb → IsOlder ta sb → IsOlder tb sa → Grows sa → From floor sa
@@ -91,7 +91,7 @@ pub record Lived (floor other : ℕ) (s t : List Mark) (e : End) (lives others :
 pub lived_on : (floor other floor' other' : ℕ) (s t s' t' : List Mark) (e e' : End) (lives others : List Life) → ((x : Life) → Stands floor other s t e x → Stands floor' other' s' t' e' x)
     → Lived floor other s t e lives others → Lived floor' other' s' t' e' lives others
 lived_on floor other floor' other' s t s' t' e e' lives others f l = record {
-  stands = every_map (Stands floor other s t e) (Stands floor' other' s' t' e') lives f l.stands;
+  stands = every_map _ _ lives f l.stands;
   own_once = l.own_once;
   partner_once = l.partner_once;
   both = l.both;

@@ -1,5 +1,5 @@
 -- Texts that carry their places make a run as well: so what was heard is a prefix of what was said, with its places.
-use Rattle.std.proofs.Common.{◌≡◌, ℕ, zero, suc, Bool, true, false, not, ◌&&◌, ◌||◌, List, [], ◌∷◌, refl, ap, sym, subst, ◌∙◌, if◌then◌else◌, ◌==◌, ◌+◌}
+use Rattle.std.proofs.Common.{◌≡◌, ℕ, zero, suc, Bool, true, false, not, ◌&&◌, ◌||◌, List, [], ◌∷◌, refl, ap, sym, subst, ◌∙◌, if◌then◌else◌, ◌+◌}
 use Rattle.interface.specs.Host.{Host, same_host}
 use Rattle.interface.specs.declared.crossing.Answer.{Answer}
 use Rattle.interface.specs.declared.crossing.Answer.TheVariants as answer
@@ -99,15 +99,15 @@ if_box true x' x y' y e f = e
 if_box false x' x y' y e f = f
 
 put_same : (t : Bool) (here' here l k : ℕ) (m : Message) (bs' bs : ℕ → Box) → here' ≡ here → ((j : ℕ) → bs' j ≡ placed_box (bs j)) → posted here' (when t (Put l (with_place here m))) bs' k ≡ placed_box (posted here (when t (Put l m)) bs k)
-put_same true here' here l k m bs' bs e h = if_box (k == l) (Waiting here' (with_place here m)) (Waiting here m) (bs' k) (bs k) (ap (λ (n : ℕ). Waiting n (with_place here m)) e) (h k)
+put_same true here' here l k m bs' bs e h = if_box _ _ _ _ (bs k) (ap (λ (n : ℕ). Waiting n (with_place here m)) e) (h k)
 put_same false here' here l k m bs' bs e h = h k
 
 fetch_same : (t : Bool) (here' here l k : ℕ) (bs' bs : ℕ → Box) → ((j : ℕ) → bs' j ≡ placed_box (bs j)) → posted here' (when t (Fetch l)) bs' k ≡ placed_box (posted here (when t (Fetch l)) bs k)
-fetch_same true here' here l k bs' bs h = if_box (k == l) (fetched (bs' l)) (fetched (bs l)) (bs' k) (bs k) (ap fetched (h l) ∙ fetched_same (bs l)) (h k)
+fetch_same true here' here l k bs' bs h = if_box _ _ _ _ (bs k) (ap fetched (h l) ∙ fetched_same (bs l)) (h k)
 fetch_same false here' here l k bs' bs h = h k
 
 clear_same : (t : Bool) (here' here l k : ℕ) (bs' bs : ℕ → Box) → ((j : ℕ) → bs' j ≡ placed_box (bs j)) → posted here' (when t (Clear l)) bs' k ≡ placed_box (posted here (when t (Clear l)) bs k)
-clear_same true here' here l k bs' bs h = if_box (k == l) Empty Empty (bs' k) (bs k) refl (h k)
+clear_same true here' here l k bs' bs h = if_box _ Empty Empty _ (bs k) refl (h k)
 clear_same false here' here l k bs' bs h = h k
 
 all_same : (t : Bool) (here' here k : ℕ) (bs' bs : ℕ → Box) → ((j : ℕ) → bs' j ≡ placed_box (bs j)) → posted here' (when t ClearAll) bs' k ≡ placed_box (posted here (when t ClearAll) bs k)
@@ -117,11 +117,11 @@ all_same false here' here k bs' bs h = h k
 boxes_same : (a b : Host) (events : List Event) (k : ℕ) → boxes a b (placed events) k ≡ placed_box (boxes a b events k)
 boxes_same a b [] k = refl
 boxes_same a b (Contact x y ∷ events) k = boxes_same a b events k
-boxes_same a b (Out x y l m ∷ events) k = put_same (are a b x y) (place (placed events)) (place events) l k m (boxes a b (placed events)) (boxes a b events) (place_same events) (boxes_same a b events)
-boxes_same a b (In x y l m ∷ events) k = fetch_same (are a b x y) (place (placed events)) (place events) l k (boxes a b (placed events)) (boxes a b events) (boxes_same a b events)
-boxes_same a b (Told x y l c ∷ events) k = clear_same (are a b x y) (place (placed events)) (place events) l k (boxes a b (placed events)) (boxes a b events) (boxes_same a b events)
+boxes_same a b (Out x y l m ∷ events) k = put_same _ _ _ l k m _ _ (place_same events) (boxes_same a b events)
+boxes_same a b (In x y l m ∷ events) k = fetch_same _ _ _ l k _ _ (boxes_same a b events)
+boxes_same a b (Told x y l c ∷ events) k = clear_same _ _ _ l k _ _ (boxes_same a b events)
 boxes_same a b (Down x ∷ events) k = boxes_same a b events k
-boxes_same a b (Up x ∷ events) k = all_same (same_host a x) (place (placed events)) (place events) k (boxes a b (placed events)) (boxes a b events) (boxes_same a b events)
+boxes_same a b (Up x ∷ events) k = all_same _ _ _ k _ _ (boxes_same a b events)
 boxes_same a b (Idle ∷ events) k = boxes_same a b events k
 
 -- ---- a run stays one
@@ -152,26 +152,26 @@ pub placed_run : (hosts : Network) (events : List Event) → IsRun hosts events 
 placed_run hosts [] r = tt
 placed_run hosts (Contact x y ∷ events) r = (tt, (λ off. up_same hosts.all x events ∙ r.1 off), placed_run hosts events r.2)
 placed_run hosts (Out x y l m ∷ events) r = (
-  (up_same hosts.all x events ∙ r.0.0, boxes_same x y events l ∙ ap placed_box r.0.1),
-  (λ ours. subst (λ (p : Pair). MaySend p l (with_place (place events) m)) (sym (pair_same x y events)) (may_same (pair x y events) l (place events) m (r.1 ours))),
+  (up_same _ x events ∙ r.0.0, boxes_same x y events l ∙ ap placed_box r.0.1),
+  (λ ours. subst (λ (p : Pair). MaySend p l (with_place (place events) m)) (sym (pair_same x y events)) (may_same _ l _ m (r.1 ours))),
   placed_run hosts events r.2,
 )
 placed_run hosts (In x y l m ∷ events) r = (
-  (up_same hosts.all y events ∙ r.0.0, subst (λ (z : Box). WaitsWith z (with_box (boxes x y events l) m)) (sym (boxes_same x y events l)) (waits_same (boxes x y events l) m r.0.1)),
+  (up_same _ y events ∙ r.0.0, subst (λ (z : Box). WaitsWith z (with_box (boxes x y events l) m)) (sym (boxes_same x y events l)) (waits_same _ m r.0.1)),
   tt,
   placed_run hosts events r.2,
 )
 placed_run hosts (Told x y l k ∷ events) r = (
-  (up_same hosts.all x events ∙ r.0.0, subst (λ (z : Box). Fits k z) (sym (boxes_same x y events l)) (fits_same k (boxes x y events l) r.0.1)),
+  (up_same _ x events ∙ r.0.0, subst (λ (z : Box). Fits k z) (sym (boxes_same x y events l)) (fits_same k _ r.0.1)),
   tt,
   placed_run hosts events r.2,
 )
-placed_run hosts (Down x ∷ events) r = (up_same hosts.all x events ∙ r.0, tt, placed_run hosts events r.2)
-placed_run hosts (Up x ∷ events) r = ((r.0.0, up_same hosts.all x events ∙ r.0.1), tt, placed_run hosts events r.2)
+placed_run hosts (Down x ∷ events) r = (up_same _ x events ∙ r.0, tt, placed_run hosts events r.2)
+placed_run hosts (Up x ∷ events) r = ((r.0.0, up_same _ x events ∙ r.0.1), tt, placed_run hosts events r.2)
 placed_run hosts (Idle ∷ events) r = (tt, tt, placed_run hosts events r.2)
 
 pub placed_front : (hosts : Network) (events : List Event) → IsRun hosts events → (a b : Host) → AreOurs hosts a b → (l : ℕ) → IsPrefix (heard_in_stay a b l (placed events)) (said_in_stay a b l (placed events))
-placed_front hosts events r a b ours l = heard_front hosts (placed events) (placed_run hosts events r) a b ours l
+placed_front hosts events r a b ours l = heard_front hosts _ (placed_run hosts events r) a b ours l
 
 -- ---- stays are the same
 
@@ -182,11 +182,11 @@ reset_same a b x y l (Other text) n p e = ap (λ (z : Message). takes_reset a b 
 
 box_reset : (a b x y : Host) (l : ℕ) (m : Message) (box : Box) → takes_reset a b (In x y l (with_box box m)) ≡ takes_reset a b (In x y l m)
 box_reset a b x y l m Empty = refl
-box_reset a b x y l m (Waiting p n) = reset_same a b x y l m (with_place p m) p refl
+box_reset a b x y l m (Waiting p n) = reset_same a b x y l m _ p refl
 box_reset a b x y l m (Taken p n) = refl
 
 takes_same : (a b : Host) (e : Event) (events : List Event) → takes_reset a b (placed_event e events) ≡ takes_reset a b e
-takes_same a b (In x y l m) events = box_reset a b x y l m (boxes x y events l)
+takes_same a b (In x y l m) events = box_reset a b x y l m _
 takes_same a b e events = refl
 
 pub ready_same : (a b : Host) (events : List Event) → ready a b (placed events) ≡ ready a b events
@@ -198,6 +198,6 @@ six r r' s s' t t' u u' k k' v v' e f g h i j = rw (e, f, g, h, i, j) refl
 pub stays_same : (a b : Host) (events : List Event) → stays a b (placed events) ≡ stays a b events
 stays_same a b [] = refl
 stays_same a b (e ∷ events) =
-    six (ready a b (placed (e ∷ events))) (ready a b (e ∷ events)) (ready b a (placed (e ∷ events))) (ready b a (e ∷ events)) (ready a b (placed events)) (ready a b events) (ready b a (placed events)) (ready b a events)
-    (takes_reset a b (placed_event e events)) (takes_reset a b e) (stays a b (placed events)) (stays a b events)
+    six _ _ _ _ _ _ _ _
+    _ _ _ _
     (ready_same a b (e ∷ events)) (ready_same b a (e ∷ events)) (ready_same a b events) (ready_same b a events) (takes_same a b e events) (stays_same a b events)

@@ -23,7 +23,7 @@ none_opens Close e lives none = refl
 says_alone : (m : Mark) (a : Side) → a.stays ≡ false → a.end.partner ≡ None → says m a ≡ alone_in m a
 says_alone m a alone none =
     ap (λ (v : Bool). record { end = gone m a.end; stays = a.stays; said = if v then m ∷ a.said else a.said; heard = a.heard; lives = lives_gone m a.end a.lives; next = above m a.next }) alone
-    ∙ ap (λ (l : List Life). record { end = gone m a.end; stays = a.stays; said = a.said; heard = a.heard; lives = l; next = above m a.next }) (none_opens m a.end a.lives none)
+    ∙ ap (λ (l : List Life). record { end = gone m a.end; stays = a.stays; said = a.said; heard = a.heard; lives = l; next = above m a.next }) (none_opens m a.end _ none)
 
 gone_alone : (m : Mark) (e : End) → e.partner ≡ None → (gone m e).partner ≡ None
 gone_alone (Ask p) e none = none
@@ -48,14 +48,14 @@ joined_alone m a b j alone may later =
         older = h.older;
         grows = h.grows;
         from = h.from;
-        below = below_later a.next (above m a.next) a.said less h.below;
+        below = below_later a.next _ a.said less h.below;
         low = omega (arith, low, less);
-        lived = lived_on j.floor j.other j.floor j.other a.said a.heard a.said a.heard a.end (gone m a.end) a.lives b.lives (λ x s.
+        lived = lived_on _ _ _ _ a.said _ a.said _ a.end _ _ _ (λ x s.
             let used : ((gone m a.end).asked ≡ Some x.own → (gone m a.end).partner ≢ None) × ((gone m a.end).partner ≡ Some x.partner → (gone m a.end).asked ≢ None)
-            = gone_used m a.end a.next x later (own_below j.floor j.other a.next a.said a.heard x h.low h.below s.stood) s.own_used s.partner_used in
+            = gone_used m a.end a.next x later (own_below _ _ a.next a.said a.heard x h.low h.below s.stood) s.own_used s.partner_used in
             record { stood = s.stood; own_used = used.0; partner_used = used.1 }) h.lived;
       };
-      there = there_on j.floor j.other a (alone_in m a) b j.there j.there.older h.lived.back h.lived.both;
+      there = there_on _ _ a _ b j.there j.there.older h.lived.back h.lived.both;
     }
 
 joined_says : (m : Mark) (a b : Side) → Joined a b → May (Say m) a b → Joined (says m a) b
@@ -75,7 +75,7 @@ hears_in m a fit = ap (λ (v : Bool). record { end = if v then mark_taken m a.en
 -- all that a host takes of its peer is in order
 pub joined_fits : (m : Mark) (a b : Side) → Joined a b → May (Hear m) a b → fits m a.end ≡ true
 joined_fits m a b j may =
-    next_fits m b.said b.heard a.said a.heard j.there.kept a.end j.there.balanced (subst (λ (e : End). Balanced a.said a.heard e) (j.here.same may.0) j.here.balanced) j.there.grows may.1 j.there.older
+    next_fits m b.said _ a.said _ _ a.end j.there.balanced (subst (λ (e : End). Balanced a.said a.heard e) (j.here.same may.0) j.here.balanced) j.there.grows may.1 j.there.older
 
 taken_used : (m : Mark) (e : End) (x : Life) → ((p : ℕ) → m ≡ Ask p → x.partner < p) → (e.asked ≡ Some x.own → e.partner ≢ None) → (e.partner ≡ Some x.partner → e.asked ≢ None)
     → ((mark_taken m e).asked ≡ Some x.own → (mark_taken m e).partner ≢ None) × ((mark_taken m e).partner ≡ Some x.partner → (mark_taken m e).asked ≢ None)
@@ -90,48 +90,48 @@ heard_stands : (floor other : ℕ) (m : Mark) (a b : Side) → Half other floor 
 heard_stands floor other m a b g next x s =
     let used : ((mark_taken m a.end).asked ≡ Some x.own → (mark_taken m a.end).partner ≢ None) × ((mark_taken m a.end).partner ≡ Some x.partner → (mark_taken m a.end).asked ≢ None)
     = taken_used m a.end x (λ p same. partner_before floor other p a.said a.heard b.said x g.from g.grows (subst (λ (n : Mark). IsOlder (n ∷ a.heard) b.said) same next) s.stood) s.own_used s.partner_used in
-    record { stood = stood_heard floor other m a.said a.heard x s.stood; own_used = used.0; partner_used = used.1 }
+    record { stood = stood_heard floor other m a.said _ x s.stood; own_used = used.0; partner_used = used.1 }
 
 -- an end that opens by its partner's request
 heard_opens : (floor other p : ℕ) (a b : Side) (h : Half floor other a b) (g : Half other floor b a) → a.stays ≡ true → fits (Ask p) a.end ≡ true → IsOlder (Ask p ∷ a.heard) b.said
     → (o : Option ℕ) → a.end.asked ≡ o → Lived floor other a.said (Ask p ∷ a.heard) (record a.end { partner = Some p }) (lives_opened o (Some p) a.lives) b.lives
 heard_opens floor other p a b h g stay fit next o there = by o there where
   old : Lived floor other a.said (Ask p ∷ a.heard) (record a.end { partner = Some p }) a.lives b.lives
-  old = lived_on floor other floor other a.said a.heard a.said (Ask p ∷ a.heard) a.end (record a.end { partner = Some p }) a.lives b.lives (heard_stands floor other (Ask p) a b g next) h.lived
+  old = lived_on floor other floor other a.said _ a.said _ a.end _ _ _ (heard_stands floor other _ a b g next) h.lived
 
   now : Balanced a.said (Ask p ∷ a.heard) (record a.end { partner = Some p })
-  now = balanced_hears (Ask p) a.said a.heard a.end fit (subst (λ (e : End). Balanced a.said a.heard e) (h.same stay) h.balanced)
+  now = balanced_hears (Ask p) a.said _ a.end fit (subst (λ (e : End). Balanced a.said a.heard e) (h.same stay) h.balanced)
 
   by : (o : Option ℕ) → a.end.asked ≡ o → Lived floor other a.said (Ask p ∷ a.heard) (record a.end { partner = Some p }) (lives_opened o (Some p) a.lives) b.lives
   by None there = old
   by (Some r) there =
       let new : IsNew a.said (Ask p ∷ a.heard) (record { own = r; partner = p }) = (now.now, now.asked_at r there, now.partner_at p refl) in
-      lived_more floor other a.said (Ask p ∷ a.heard) (record a.end { partner = Some p }) (record { own = r; partner = p }) a.lives b.lives old
+      lived_more floor other a.said _ _ _ _ _ old
       (record { stood = inr new; own_used = λ same none. absurd (cc); partner_used = λ same none. none_some a.end.asked r none there })
-      (none_owns (Stands floor other a.said a.heard a.end) r a.lives (λ x s same. s.own_used (there ∙ ap (λ (i : ℕ). Some i) (sym same)) (fits_ask p a.end fit).0) h.lived.stands)
-      (none_took (Stands floor other a.said a.heard a.end) p a.lives (λ x s same. let l : x.partner < p = partner_before floor other p a.said a.heard b.said x g.from g.grows next s.stood in omega (arith, l, same)) h.lived.stands)
+      (none_owns _ r _ (λ x s same. s.own_used (there ∙ ap (λ (i : ℕ). Some i) (sym same)) (fits_ask p a.end fit).0) h.lived.stands)
+      (none_took _ p _ (λ x s same. let l : x.partner < p = partner_before floor other p a.said _ b.said x g.from g.grows next s.stood in omega (arith, l, same)) h.lived.stands)
       (λ y i.
-      let stood : Stood other floor b.said b.heard y = (every_in (Stands other floor b.said b.heard b.end) y b.lives g.lived.stands i).stood in (
-        one_new floor other a.said (Ask p ∷ a.heard) b.said b.heard (record a.end { partner = Some p }) now next g.older g.grows g.from (record { own = r; partner = p }) y new stood,
-        other_new floor other a.said (Ask p ∷ a.heard) b.said b.heard g.kept g.balanced next g.older h.grows h.from (record { own = r; partner = p }) y new stood,
+      let stood : Stood other floor b.said b.heard y = (every_in _ y _ g.lived.stands i).stood in (
+        one_new floor other a.said _ b.said _ _ now next g.older g.grows g.from _ y new stood,
+        other_new floor other a.said _ b.said _ g.kept g.balanced next g.older h.grows h.from _ y new stood,
       ))
 
 heard_lives : (floor other : ℕ) (m : Mark) (a b : Side) (h : Half floor other a b) (g : Half other floor b a) → a.stays ≡ true → fits m a.end ≡ true → IsOlder (m ∷ a.heard) b.said
     → Lived floor other a.said (m ∷ a.heard) (mark_taken m a.end) (lives_taken m a.end a.lives) b.lives
-heard_lives floor other (Ask p) a b h g stay fit next = heard_opens floor other p a b h g stay fit next a.end.asked refl
+heard_lives floor other (Ask p) a b h g stay fit next = heard_opens floor other p a b h g stay fit next _ refl
 heard_lives floor other Close a b h g stay fit next =
-    lived_on floor other floor other a.said a.heard a.said (Close ∷ a.heard) a.end (mark_taken Close a.end) a.lives b.lives (heard_stands floor other Close a b g next) h.lived
+    lived_on floor other floor other a.said _ a.said _ a.end _ _ _ (heard_stands floor other Close a b g next) h.lived
 
 joined_heard : (m : Mark) (a b : Side) → Joined a b → May (Hear m) a b → Joined (heard_in m a) b
 joined_heard m a b j may =
     let fit : fits m a.end ≡ true = joined_fits m a b j may in
-    let lived : Lived j.floor j.other a.said (m ∷ a.heard) (mark_taken m a.end) (lives_taken m a.end a.lives) b.lives = heard_lives j.floor j.other m a b j.here j.there may.0 fit may.1 in
+    let lived : Lived j.floor j.other a.said (m ∷ a.heard) (mark_taken m a.end) (lives_taken m a.end a.lives) b.lives = heard_lives _ _ m a b j.here j.there may.0 fit may.1 in
     record {
       floor = j.floor;
       other = j.other;
       here = record {
         kept = mark_taken m a.end;
-        balanced = balanced_hears m a.said a.heard a.end fit (subst (λ (e : End). Balanced a.said a.heard e) (j.here.same may.0) j.here.balanced);
+        balanced = balanced_hears m a.said _ a.end fit (subst (λ (e : End). Balanced a.said a.heard e) (j.here.same may.0) j.here.balanced);
         same = λ e. refl;
         alone = λ e. absurd (unlike a.stays may.0 e);
         older = may.1;
@@ -141,7 +141,7 @@ joined_heard m a b j may =
         low = j.here.low;
         lived = lived;
       };
-      there = there_on j.floor j.other a (heard_in m a) b j.there j.there.older lived.back lived.both;
+      there = there_on _ _ a _ b j.there j.there.older lived.back lived.both;
     }
 
 -- ---- a host that leaves
@@ -160,9 +160,9 @@ joined_leaves a b j = record {
     from = j.here.from;
     below = j.here.below;
     low = j.here.low;
-    lived = lived_on j.floor j.other j.floor j.other a.said a.heard a.said a.heard a.end nothing a.lives b.lives (λ x s. record { stood = s.stood; own_used = λ same. absurd (cc); partner_used = λ same. absurd (cc) }) j.here.lived;
+    lived = lived_on _ _ _ _ a.said _ a.said _ a.end nothing _ _ (λ x s. record { stood = s.stood; own_used = λ same. absurd (cc); partner_used = λ same. absurd (cc) }) j.here.lived;
   };
-  there = there_on j.floor j.other a (leaves a) b j.there j.there.older j.here.lived.back j.here.lived.both;
+  there = there_on _ _ a _ b j.there j.there.older j.here.lived.back j.here.lived.both;
 }
 
 joined_moved : (move : Move) (a b : Side) → Joined a b → May move a b → Joined (moved move a) b
@@ -183,8 +183,8 @@ half_meets floor other a b h g fresh = record {
   from = tt;
   below = tt;
   low = omega arith;
-  lived = lived_on floor other a.next b.next a.said a.heard [] [] a.end a.end a.lives b.lives (λ x s. record {
-    stood = inl (own_below floor other a.next a.said a.heard x h.low h.below s.stood, partner_below floor other b.next a.said a.heard b.said x g.low g.below h.older s.stood);
+  lived = lived_on floor other a.next b.next a.said _ [] [] a.end a.end _ _ (λ x s. record {
+    stood = inl (own_below floor other a.next a.said a.heard x h.low h.below s.stood, partner_below floor other b.next a.said _ b.said x g.low g.below h.older s.stood);
     own_used = s.own_used;
     partner_used = s.partner_used;
   }) h.lived;
@@ -194,8 +194,8 @@ joined_meets : (a b : Side) → Joined a b → a.end ≡ nothing → b.end ≡ n
 joined_meets a b j here there = record {
   floor = a.next;
   other = b.next;
-  here = half_meets j.floor j.other a b j.here j.there here;
-  there = half_meets j.other j.floor b a j.there j.here there;
+  here = half_meets _ _ a b j.here j.there here;
+  there = half_meets _ _ b a j.there j.here there;
 }
 
 -- ---- through all events
@@ -216,9 +216,9 @@ half_opening = record {
 
 pub joined_run : (events : List Event) → IsRun events → Joined (both events).one (both events).two
 joined_run [] r = record { floor = 0; other = 0; here = half_opening; there = half_opening }
-joined_run (One move ∷ events) r = joined_moved move (both events).one (both events).two (joined_run events r.1) r.0
-joined_run (Two move ∷ events) r = turned (moved move (both events).two) (both events).one (joined_moved move (both events).two (both events).one (turned (both events).one (both events).two (joined_run events r.1)) r.0)
-joined_run (Meet ∷ events) r = joined_meets (both events).one (both events).two (joined_run events r.1) r.0.0 r.0.1
+joined_run (One move ∷ events) r = joined_moved move _ _ (joined_run events r.1) r.0
+joined_run (Two move ∷ events) r = turned _ _ (joined_moved move _ _ (turned _ _ (joined_run events r.1)) r.0)
+joined_run (Meet ∷ events) r = joined_meets _ _ (joined_run events r.1) r.0.0 r.0.1
 
 pub safe_run : (events : List Event) → IsRun events → SafePartners (both events)
 safe_run events r =

@@ -86,30 +86,30 @@ seen s [] = record { receiver = record { stays = refl; said = refl; heard = refl
 seen s (Says Receiver w ∷ steps) =
     let h : BothSeen s steps = seen s steps in
     record {
-      receiver = seen_as (receiver s (Says Receiver w ∷ steps)) (receiver s (Says Receiver w ∷ steps)) (stays Receiver steps) (if stays Receiver steps then put (same s w.sockets) w.mark (at s (said_words Receiver steps)) else at s (said_words Receiver steps))
-          (at s (said_words Receiver (Says Receiver w ∷ steps))) (at s (heard_words Receiver steps)) refl (at_if s (stays Receiver steps) w (said_words Receiver steps))
-          (one_says (same s w.sockets) w.mark (events_at s steps) (stays Receiver steps) (at s (said_words Receiver steps)) (at s (heard_words Receiver steps)) h.receiver);
+      receiver = seen_as _ _ _ _
+          _ _ refl (at_if s _ w _)
+          (one_says _ w.mark _ _ _ _ h.receiver);
       sender = subst (λ (z : Side). Seen z (stays Sender steps) (at s (said_words Sender steps)) (at s (heard_words Sender steps))) (sym (two_quiet (same s w.sockets) w.mark (events_at s steps))) h.sender;
     }
 seen s (Says Sender w ∷ steps) =
     let h : BothSeen s steps = seen s steps in
     record {
       receiver = subst (λ (z : Side). Seen z (stays Receiver steps) (at s (said_words Receiver steps)) (at s (heard_words Receiver steps))) (sym (one_quiet (same s w.sockets) w.mark (events_at s steps))) h.receiver;
-      sender = seen_as (sender s (Says Sender w ∷ steps)) (sender s (Says Sender w ∷ steps)) (stays Sender steps) (if stays Sender steps then put (same s w.sockets) w.mark (at s (said_words Sender steps)) else at s (said_words Sender steps))
-          (at s (said_words Sender (Says Sender w ∷ steps))) (at s (heard_words Sender steps)) refl (at_if s (stays Sender steps) w (said_words Sender steps))
-          (two_says (same s w.sockets) w.mark (events_at s steps) (stays Sender steps) (at s (said_words Sender steps)) (at s (heard_words Sender steps)) h.sender);
+      sender = seen_as _ _ _ _
+          _ _ refl (at_if s _ w _)
+          (two_says _ w.mark _ _ _ _ h.sender);
     }
 seen s (Hears Receiver w ∷ steps) =
     let h : BothSeen s steps = seen s steps in
     record {
-      receiver = one_hears (same s w.sockets) w.mark (events_at s steps) (stays Receiver steps) (at s (said_words Receiver steps)) (at s (heard_words Receiver steps)) h.receiver;
+      receiver = one_hears _ w.mark _ _ _ _ h.receiver;
       sender = subst (λ (z : Side). Seen z (stays Sender steps) (at s (said_words Sender steps)) (at s (heard_words Sender steps))) (sym (two_deaf (same s w.sockets) w.mark (events_at s steps))) h.sender;
     }
 seen s (Hears Sender w ∷ steps) =
     let h : BothSeen s steps = seen s steps in
     record {
       receiver = subst (λ (z : Side). Seen z (stays Receiver steps) (at s (said_words Receiver steps)) (at s (heard_words Receiver steps))) (sym (one_deaf (same s w.sockets) w.mark (events_at s steps))) h.receiver;
-      sender = two_hears (same s w.sockets) w.mark (events_at s steps) (stays Sender steps) (at s (said_words Sender steps)) (at s (heard_words Sender steps)) h.sender;
+      sender = two_hears _ w.mark _ _ _ _ h.sender;
     }
 seen s (Leaves Receiver ∷ steps) =
     let h : BothSeen s steps = seen s steps in

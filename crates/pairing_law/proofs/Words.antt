@@ -22,7 +22,7 @@ closes_said heard said o = subst (λ (w : List Mark). closes heard ≤ closes w)
 pub asks_before : (k p : ℕ) (new word : List Mark) → Asks k p (new ++ Close ∷ word) → k ≤ closes word → Asks k p word
 asks_before k p [] word a l = a
 asks_before k p (Ask q ∷ new) word (inl a) l =
-    absurd (let e : k ≡ closes (new ++ Close ∷ word) = a.1 in let m : closes word + 1 ≤ closes (new ++ Close ∷ word) = closes_more new (Close ∷ word) in omega (arith, e, l, m))
+    absurd (let e : k ≡ closes (new ++ Close ∷ word) = a.1 in let m : closes word + 1 ≤ closes (new ++ Close ∷ word) = closes_more new _ in omega (arith, e, l, m))
 asks_before k p (Ask q ∷ new) word (inr a) l = asks_before k p new word a l
 asks_before k p (Close ∷ new) word a l = asks_before k p new word a l
 
@@ -79,4 +79,4 @@ grows_older (Close ∷ new) word g = grows_older new word g
 
 -- a request that isn't among the older ones is at another place
 pub asks_apart : (k p q : ℕ) (new word : List Mark) → Grows (new ++ Ask p ∷ word) → Asks k q word → q < p
-asks_apart k p q new word g a = below_asks k p q word (grows_older new (Ask p ∷ word) g).0 a
+asks_apart k p q new word g a = below_asks k p q word (grows_older new _ g).0 a

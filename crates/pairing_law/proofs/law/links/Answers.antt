@@ -1,5 +1,3 @@
-use Rattle.pairing_law.specs.Links.{events_at}
-use Rattle.pairing_law.specs.Sides.{both}
 use Rattle.pairing_law.proofs.Open.{open_match}
 use Rattle.pairing_law.proofs.Runs.{joined_run, safe_run}
 use Rattle.pairing_law.proofs.Linked.{run_at, unused}
@@ -9,10 +7,10 @@ pub returns-clause-at : goal.returns-clause-at
 returns-clause-at c steps r s = run_at s steps r
 
 pub returns-clause-safe : goal.returns-clause-safe
-returns-clause-safe c steps r s = safe_run (events_at s steps) (run_at s steps r)
+returns-clause-safe c steps r s = safe_run _ (run_at s steps r)
 
 pub returns-clause-unused : goal.returns-clause-unused
 returns-clause-unused c = unused
 
 pub returns-clause-live : goal.returns-clause-live
-returns-clause-live c steps p q r t run s = open_match (both (events_at s steps)).one (both (events_at s steps)).two p q r t (joined_run (events_at s steps) (run_at s steps run))
+returns-clause-live c steps p q r t run s = open_match _ _ p q r t (joined_run _ (run_at s steps run))

@@ -1,4 +1,3 @@
-use Rattle.pairing_law.specs.Sides.{both}
 use Rattle.pairing_law.proofs.Joint.{turned}
 use Rattle.pairing_law.proofs.Open.{open_match}
 use Rattle.pairing_law.proofs.Runs.{safe_run, joined_run, joined_fits}
@@ -8,10 +7,10 @@ pub returns-clause-safe : goal.returns-clause-safe
 returns-clause-safe c = safe_run
 
 pub returns-clause-one : goal.returns-clause-one
-returns-clause-one c events mark r = joined_fits mark (both events).one (both events).two (joined_run events r.1) r.0
+returns-clause-one c events mark r = joined_fits mark _ _ (joined_run events r.1) r.0
 
 pub returns-clause-two : goal.returns-clause-two
-returns-clause-two c events mark r = joined_fits mark (both events).two (both events).one (turned (both events).one (both events).two (joined_run events r.1)) r.0
+returns-clause-two c events mark r = joined_fits mark _ _ (turned _ _ (joined_run events r.1)) r.0
 
 pub returns-clause-live : goal.returns-clause-live
-returns-clause-live c events p q r s run = open_match (both events).one (both events).two p q r s (joined_run events run)
+returns-clause-live c events p q r s run = open_match _ _ p q r s (joined_run events run)
