@@ -1,25 +1,13 @@
 -- An elementary event is handed to the carrier, and its line is printed.
-use Rattle.std.proofs.Common.{◌≡◌, ℕ, List, [], ◌∷◌, ◌++◌, drop, length, reverse, Option, Result, refl, sym, ap, ◌∙◌, subst}
+use Rattle.trace.proofs.Common.{◌≡◌, ℕ, List, [], ◌∷◌, ◌++◌, drop, length, reverse, Option, Result, refl, sym, ap, ◌∙◌, subst, Appends, Host, Crossing, Shown, shown_crossings, shown_refusal, ended_line, RawEvent, AllParts, Element, Spot, Called, trace_line, HasHappened, Inside, StopsElement, TellsElement, WritesTrace, change_text}
 use Rattle.std.proofs.lemmas.List.{append-nil}
-use Rattle.std.specs.Io.KnownBytes.{Appends}
 use Rattle.interface.specs.Calls.{Calls, ShowsOffer, ShowsTake}
-use Rattle.interface.specs.Host.{Host}
 use Rattle.interface.specs.declared.CarrierFault.{CarrierFault}
 use Rattle.interface.specs.declared.HostMessage.{HostMessage}
 use Rattle.interface.specs.declared.Inbound.{Inbound}
-use Rattle.interface.specs.declared.crossing.Crossing.{Crossing}
-use Rattle.replay.specs.Output.{Shown, shown_crossings, shown_refusal}
 use Rattle.replay.specs.Replay.{BeginsWith, GoesOn, Happens, IsOneCall, MayDo, outcome_of}
 use Rattle.replay.proofs.lemmas.{appends_none, gained, grew_offer, grew_take, refused_offer, refused_take}
-use Rattle.script.specs.Input.{ended_line}
-use Rattle.script.specs.declared.event.RawEvent.{RawEvent}
 use Rattle.script.specs.declared.event.RawEvent.TheVariants as event
-use Rattle.trace.specs.declared.all_parts.AllParts.{AllParts}
-use Rattle.trace.specs.declared.element.Element.{Element}
-use Rattle.trace.specs.declared.element.Spot.{Spot}
-use Rattle.trace.specs.Steps.{Called}
-use Rattle.trace.specs.Texts.{trace_line}
-use Rattle.trace.specs.Traces.{HasHappened, Inside, StopsElement, TellsElement, WritesTrace, change_text}
 
 -- ---- the call
 

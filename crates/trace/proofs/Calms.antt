@@ -1,20 +1,15 @@
 -- A calm of plain mailboxes is its takings one after another.
+use Rattle.trace.proofs.Common.{All-cons, All-nil, All-weaker, All, Host, is_host, Shown, Crossed, RawEvent, all_takings, elements_of, events_of, from_boxes, no_course, round_of, rounds_from, taking}
 use Rattle.std.proofs.Common.{◌≡◌, ◌&&◌, ◌||◌, ℕ, Bool, true, false, not, List, [], ◌∷◌, Option, Some, None, Result, Ok, Err, is_some, if◌then◌else◌, refl, sym, ap, ◌∙◌, subst}
 use Rattle.std.proofs.lemmas.Bool.{false≢true, and_right}
-use Rattle.std.proofs.lemmas.List.Elements.{All-cons, All-nil, All-weaker}
-use Rattle.std.specs.List.{All}
 use Rattle.leader1822.specs.Boxes.{Boxes, host_refusal, inbound_taken, is_running, next_for, take_grows, plain_calls}
 use Rattle.interface.specs.Calls.{crossing_of, is_halt, is_memory}
-use Rattle.interface.specs.Host.{Host, is_host}
 use Rattle.interface.specs.declared.CarrierFault.{CarrierFault}
 use Rattle.interface.specs.declared.CarrierFault.TheVariants as fault
 use Rattle.interface.specs.declared.Inbound.{Inbound}
 use Rattle.interface.specs.declared.Inbound.TheVariants as inbound
-use Rattle.replay.specs.Output.{Shown, Crossed}
 use Rattle.replay.specs.Replay.{AllTake, GoesOn, Happens, IsOneCall, Quiet, Replays, calmly, outcome_of}
-use Rattle.script.specs.declared.event.RawEvent.{RawEvent}
 use Rattle.script.specs.declared.event.RawEvent.TheVariants as event
-use Rattle.trace.specs.Elements.{all_takings, elements_of, events_of, from_boxes, no_course, round_of, rounds_from, taking}
 use Rattle.trace.proofs.Courses.{AllEvents, all_takings_events, rounds_events}
 use Rattle.trace.proofs.Each.{Went, goes_after_take, went}
 use Rattle.trace.proofs.Going.{AllRoundsGo, AllTakeSo, Goes, TakesSo, Traced, elementary_of, goes_all, goes_calmly, goes_chain, goes_none, or_first, run_one}

@@ -1,12 +1,7 @@
 -- JSON texts are distinguished: what is before a comma or a closing bracket is one value in one way.
+use Rattle.trace.proofs.Common.{false≢true, nat_tests, All-cons, All-head, All-nil, All-tail, All, list_any, Lacks, SameCut, unmarked_where}
 use Rattle.std.proofs.Common.{◌≡◌, ◌≢◌, ℕ, zero, suc, ◌==◌, ◌||◌, Bool, true, false, not, List, [], ◌∷◌, ◌++◌, map, if◌then◌else◌, refl, sym, ap, ap₂, ◌∙◌, arith}
-use Rattle.std.proofs.lemmas.Bool.{false≢true}
-use Rattle.std.proofs.lemmas.Bool.Decides.{nat_tests}
 use Rattle.std.proofs.lemmas.List.{append_assoc, append-nil, append_cancel_left, append_cancel_right}
-use Rattle.std.proofs.lemmas.List.Elements.{All-cons, All-head, All-nil, All-tail}
-use Rattle.std.specs.List.{All, list_any}
-use Rattle.script.specs.Steps.{Lacks}
-use Rattle.script.proofs.lemmas.{SameCut, unmarked_where}
 use Rattle.trace.specs.Texts.{array, further, listed, member, object, quoted}
 
 -- ---- where a value ends

@@ -1,12 +1,7 @@
 -- Courses of elementary events, over any network.
-use Rattle.std.proofs.Common.{◌≡◌, ◌<◌, ◌+◌, ℕ, zero, suc, Bool, true, false, List, [], ◌∷◌, ◌++◌, drop, length, get_or, refl, sym, ap, ◌∙◌, subst}
+use Rattle.trace.proofs.Common.{◌≡◌, ◌<◌, ◌+◌, ℕ, zero, suc, Bool, true, false, List, [], ◌∷◌, ◌++◌, drop, length, get_or, refl, sym, ap, ◌∙◌, subst, All-append, All-cons, All-nil, All-same, All, Host, RawEvent, Element}
 use Rattle.std.proofs.lemmas.List.{append_assoc, drop_more, map-append}
-use Rattle.std.proofs.lemmas.List.Elements.{All-append, All-cons, All-nil, All-same}
-use Rattle.std.specs.List.{All}
-use Rattle.interface.specs.Host.{Host}
-use Rattle.script.specs.declared.event.RawEvent.{RawEvent}
 use Rattle.script.specs.declared.event.RawEvent.TheVariants as event
-use Rattle.trace.specs.declared.element.Element.{Element}
 use Rattle.trace.specs.Elements.{Course, Giving, all_takings, events_of, no_course, one_event, rounds_from, taking, takings, takings_from, then_course}
 
 -- ---- courses

@@ -1,21 +1,17 @@
 -- Decimals of any number, and octets of any bits: they have no marks. Short numbers have decimals of their own, and bits the decimal
 -- of their length and their octets together.
+use Rattle.trace.proofs.Common.{nat_tests, All-cons, All-nil, All, list_all, Lacks, IsShort}
 use Rattle.std.proofs.Common.{◌≡◌, ℕ, zero, suc, ◌+◌, ◌*◌, ◌/◌, ◌%◌, ◌<◌, ◌≤◌, ◌==◌, nat_lt, Bool, true, false, List, [], ◌∷◌, ◌++◌, if◌then◌else◌, length, replicate, Ok, refl, sym, ap, ◌∙◌, arith, append_assoc, length-append}
-use Rattle.std.proofs.lemmas.Bool.Decides.{nat_tests}
 use Rattle.std.proofs.lemmas.Fmt.{decimal_is_IsNumeral_wide}
 use Rattle.std.proofs.lemmas.List.{length-replicate}
-use Rattle.std.proofs.lemmas.List.Elements.{All-cons, All-nil}
 use Rattle.std.specs.Fmt.{decimal, digit_glyph, digits, digits_onto}
-use Rattle.std.specs.List.{All, list_all}
 use Rattle.std.specs.Str.Parse.{digits_value}
 use Rattle.hex.proofs.HexLemmas.{decode_of-encode_upper}
 use Rattle.hex.specs.Hex.{decode_of, encode_upper}
 use Rattle.bit_messages.specs.Octets.{octets_of, spare_bits}
 use Rattle.bit_messages.proofs.lemmas.{bits_again, length-bits_of}
 use Rattle.script.specs.Spelling.{is_upper_digit, octets_text}
-use Rattle.script.specs.Steps.{Lacks}
 use Rattle.script.proofs.lemmas.{octets_are_small, spelled_digits, text_once}
-use Rattle.trace.specs.Named.{IsShort}
 use Rattle.trace.proofs.Closed.{IsClosed, first_same, is_plain, plain_closed, rest_same}
 
 -- ---- digits

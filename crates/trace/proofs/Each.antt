@@ -1,16 +1,10 @@
 -- What a call of plain mailboxes did where memory did not run out.
-use Rattle.std.proofs.Common.{◌≡◌, ◌⊎◌, inl, inr, subst, ◌||◌, Bool, true, false, List, Option, Some, None, Result, Ok, Err, ap, ◌∙◌}
+use Rattle.trace.proofs.Common.{◌≡◌, ◌⊎◌, inl, inr, subst, ◌||◌, Bool, true, false, List, Option, Some, None, Result, Ok, Err, ap, ◌∙◌, Host, is_halt, is_memory, NetEvent, Shown, GoesOn, Happens, IsOneCall, outcome_of, RawEvent}
 use Rattle.leader1822.specs.Boxes.{Boxes, BoxesDecided, host_refusal, inbound_taken, next_for, offer_refusal, offered, step_grows, step_refusal, stepped, take_grows, plain_calls}
-use Rattle.interface.specs.Host.{Host}
-use Rattle.interface.specs.Calls.{is_halt, is_memory}
 use Rattle.interface.specs.declared.CarrierFault.{CarrierFault}
 use Rattle.interface.specs.declared.CarrierFault.TheVariants as fault
 use Rattle.interface.specs.declared.Inbound.{Inbound}
 use Rattle.interface.specs.declared.HostMessage.{HostMessage}
-use Rattle.interface.specs.declared.NetEvent.{NetEvent}
-use Rattle.replay.specs.Output.{Shown}
-use Rattle.replay.specs.Replay.{GoesOn, Happens, IsOneCall, outcome_of}
-use Rattle.script.specs.declared.event.RawEvent.{RawEvent}
 use Rattle.script.specs.declared.event.RawEvent.TheVariants as event
 
 -- it succeeded, or was refused and changed nothing

@@ -1,14 +1,9 @@
 -- What an event did that was processed, whatever was answered.
-use Rattle.std.proofs.Common.{◌≡◌, ℕ, Bool, false, true, List, [], ◌∷◌, None, Result, Ok, Err, ap, refl, subst, sym, ◌==◌}
-use Rattle.std.proofs.lemmas.Bool.{false≢true}
+use Rattle.trace.proofs.Common.{◌≡◌, ℕ, Bool, false, true, List, [], ◌∷◌, None, Result, Ok, Err, ap, refl, subst, sym, ◌==◌, false≢true, Host, EventGives, RawEvent, MayTell}
 use Rattle.leader1822.specs.Boxes.{Boxes, BoxesDecided, BoxesStep, host_stopped, opening_boxes, plain_calls}
 use Rattle.interface.specs.declared.CarrierFault.{CarrierFault}
 use Rattle.interface.specs.declared.CarrierFault.TheVariants as fault
 use Rattle.interface.specs.declared.event.NetEvent.TheVariants as net
-use Rattle.interface.specs.Host.{Host}
-use Rattle.replay.specs.Replay.{EventGives}
-use Rattle.script.specs.declared.event.RawEvent.{RawEvent}
-use Rattle.trace.specs.Traces.{MayTell}
 use Rattle.trace.specs.Worked.{first, hosts, second, stop}
 
 -- what is not refused, and did not run out of memory, was done

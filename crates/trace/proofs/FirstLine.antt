@@ -1,19 +1,11 @@
 -- The first line of a trace determines the network.
+use Rattle.trace.proofs.Common.{nat_tests, All-cons, All-nil, decimal, All, list_all, bytes_eq, and_parts, SameCut, unmarked_where, Lacks, IsShort}
 use Rattle.std.proofs.Common.{◌≡◌, ℕ, ◌≤◌, ◌==◌, ◌&&◌, nat_le, Bool, true, false, List, [], ◌∷◌, ◌++◌, codes, if◌then◌else◌, map, refl, sym, ap, ◌∙◌, arith}
-use Rattle.std.proofs.lemmas.Bool.Decides.{nat_tests}
-use Rattle.std.proofs.lemmas.List.Elements.{All-cons, All-nil}
-use Rattle.std.specs.Fmt.{decimal}
-use Rattle.std.specs.List.{All, list_all}
-use Rattle.std.specs.Str.{bytes_eq}
-use Rattle.std.proofs.lemmas.Bool.{and_parts}
-use Rattle.script.proofs.lemmas.{SameCut, unmarked_where}
-use Rattle.script.specs.Steps.{Lacks}
 use Rattle.topology.specs.Topology.{IsTopology, TopologyFields, is_imp, is_line, is_there}
 use Rattle.topology.specs.declared.network.CarrierKind.{CarrierKind}
 use Rattle.topology.specs.declared.network.CarrierKind.TheVariants as kind
 use Rattle.topology.specs.declared.network.ImpHosts.{ImpHosts}
 use Rattle.topology.specs.declared.network.LineEnds.{LineEnds}
-use Rattle.trace.specs.Named.{IsShort}
 use Rattle.trace.specs.Texts.{array, bool_text, carrier_word, ends_text, further, member, opening_line, pair_text, quoted, site_text}
 use Rattle.trace.proofs.Closed.{IsClosed, Spelled, array_closed, array_once, first_same, is_plain, lists_spelled, member_closed, member_once, one_front, plain_closed, quoted_once, rest_same, string_closed}
 use Rattle.trace.proofs.Decimals.{decimal_closed, short_once}

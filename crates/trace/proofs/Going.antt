@@ -1,17 +1,11 @@
 -- A part of a calm that continues is the events of its course, one after another: over any carrier.
 pub use Rattle.interface.proofs.lemmas.{or_first}
-use Rattle.std.proofs.Common.{◌≡◌, ◌||◌, ℕ, zero, suc, Bool, true, false, List, [], ◌∷◌, ◌++◌, Option, Some, None, Result, Ok, Err, if◌then◌else◌, reverse, refl, sym, ap, ◌∙◌, subst}
+use Rattle.trace.proofs.Common.{◌≡◌, ◌||◌, ℕ, zero, suc, Bool, true, false, List, [], ◌∷◌, ◌++◌, Option, Some, None, Result, Ok, Err, if◌then◌else◌, reverse, refl, sym, ap, ◌∙◌, subst, Calls, is_halt, is_memory, Host, Crossing, Shown, Crossed, shown_crossings, shown_refusal, RawEvent, Course, Giving, all_takings, elements_in, events_of, no_course, rounds_from, taking, takings, then_course}
 use Rattle.std.proofs.lemmas.List.{append_assoc, append-nil, append_cancel_right, map-append, reverse-append, reverse-reverse}
-use Rattle.interface.specs.Calls.{Calls, is_halt, is_memory}
-use Rattle.interface.specs.Host.{Host}
 use Rattle.interface.specs.declared.CarrierFault.{CarrierFault}
 use Rattle.interface.specs.declared.Inbound.{Inbound}
-use Rattle.interface.specs.declared.crossing.Crossing.{Crossing}
-use Rattle.replay.specs.Output.{Shown, Crossed, shown_crossings, shown_refusal}
 use Rattle.replay.specs.Replay.{AllTake, GoesOn, Happens, IfGiven, Onward, Part, Replays, Round, Rounds, Takings, calmly, outcome_of}
-use Rattle.script.specs.declared.event.RawEvent.{RawEvent}
 use Rattle.script.specs.declared.event.RawEvent.TheVariants as event
-use Rattle.trace.specs.Elements.{Course, Giving, all_takings, elements_in, events_of, no_course, rounds_from, taking, takings, then_course}
 use Rattle.trace.proofs.Courses.{none_given, one_given}
 
 -- a carrier, what its courses say of it, what holds of it all the while, and what its hosts are given

@@ -1,22 +1,13 @@
 -- Items are printed one after the other, with commas between.
+use Rattle.trace.proofs.Common.{decimal, Appends, ended_line, Crossing, Sizes, appends_more, crossings_shown, RawEvent, TopologyFields, Spot, Fate}
 use Rattle.std.proofs.Common.{◌≡◌, ℕ, zero, suc, ◌<◌, ◌≤◌, ◌+◌, List, [], ◌∷◌, ◌++◌, codes, get_or, length, map, take, Option, None, Some, option_map, Result, Ok, Err, slice_get, refl, sym, ap, subst, ◌∙◌, arith}
 use Rattle.std.proofs.lemmas.List.{append_assoc, append-nil, length-map, length-take-le, map-append, take_all, take_more}
 use Rattle.std.proofs.lemmas.Option.{slice_get-get_or, slice_get_within}
-use Rattle.std.specs.Fmt.{decimal}
-use Rattle.std.specs.Io.KnownBytes.{Appends}
-use Rattle.script.specs.Input.{ended_line}
 use Rattle.interface.specs.declared.carrier.CarrierFault.{CarrierFault}
-use Rattle.interface.specs.declared.crossing.Crossing.{Crossing}
 use Rattle.replay.specs.Output.{Crossed, Refused, Shown, shown_crossings, shown_refusal, shown_text}
-use Rattle.replay.specs.declared.print.Detail.TheVariants.{Sizes}
-use Rattle.replay.proofs.lemmas.{appends_more, crossings_shown}
 use Rattle.script.specs.Spelling.{spelling}
-use Rattle.script.specs.declared.event.RawEvent.{RawEvent}
-use Rattle.topology.specs.Topology.{TopologyFields}
 use Rattle.trace.specs.Joined.{comma_before, fate_text, head_text, joined_from, network_front, outcome_text, refused_text}
 use Rattle.trace.specs.Texts.{array, bool_text, carrier_word, crossing_object, ends_text, fate_word, further, listed, member, object, opening_line, quoted, site_text, strings, trace_line}
-use Rattle.trace.specs.declared.element.Spot.{Spot}
-use Rattle.trace.specs.declared.fate.Fate.{Fate}
 
 -- one more item
 pub joined_more : (place : ℕ) (xs : List (List ℕ)) (x : List ℕ) → joined_from place (xs ++ x ∷ []) ≡ joined_from place xs ++ (comma_before (place + length xs) ++ x)

@@ -1,26 +1,16 @@
 -- Each event keeps that all that waits and all that is down can be named.
-use Rattle.std.proofs.Common.{◌≡◌, Bool, true, false, not, List, [], ◌∷◌, ◌++◌, Option, Some, None, if◌then◌else◌, filter, inl, inr, refl, sym, ap, ◌∙◌, subst}
-use Rattle.std.proofs.lemmas.Bool.{false≢true, and_parts}
+use Rattle.trace.proofs.Common.{◌≡◌, Bool, true, false, not, List, [], ◌∷◌, ◌++◌, Option, Some, None, if◌then◌else◌, filter, inl, inr, refl, sym, ap, ◌∙◌, subst, false≢true, and_parts, All, Host, is_host, same_host, Flow, NetEvent, RawEvent, AreQueues, IsTold, IsValidAnswer, Shown, Happens, Replays, elements_of, events_of}
 use Rattle.std.proofs.lemmas.List.Elements.{All-append, All-cons, All-filter, All-head, All-nil, All-tail}
-use Rattle.std.specs.List.{All}
 use Rattle.leader1822.specs.Boxes.{Boxes, Queues, WaitingAnswer, first_of_list, for_host, give_up_refusal, given_up, host_started, host_stopped, inbound_taken, is_of, is_rfnm_about, is_running, next_for, offer_refusal, offered, one_if, opening_boxes, queued_if, rest, step_refusal, stepped, told_dead, with_queue, plain_calls}
-use Rattle.interface.specs.Host.{Host, is_host, same_host}
-use Rattle.interface.specs.declared.address.Flow.{Flow}
 use Rattle.interface.specs.declared.CarrierFault.{CarrierFault}
 use Rattle.interface.specs.declared.CarrierFault.TheVariants as fault
 use Rattle.interface.specs.declared.Inbound.{Inbound}
 use Rattle.interface.specs.declared.Inbound.TheVariants as inbound
-use Rattle.interface.specs.declared.NetEvent.{NetEvent}
 use Rattle.interface.specs.declared.NetEvent.TheVariants as net
 use Rattle.interface.specs.declared.HostMessage.{HostMessage}
 use Rattle.interface.specs.declared.crossing.Answer.TheVariants as answer
 use Rattle.script.specs.Spelling.{IsEvent, IsFlow, IsHost, IsMessage, IsNetEvent}
-use Rattle.script.specs.declared.event.RawEvent.{RawEvent}
 use Rattle.script.specs.declared.event.RawEvent.TheVariants as event
-use Rattle.trace.specs.Kept.{AreQueues, IsTold, IsValidAnswer}
-use Rattle.replay.specs.Output.{Shown}
-use Rattle.replay.specs.Replay.{Happens, Replays}
-use Rattle.trace.specs.Elements.{elements_of, events_of}
 use Rattle.trace.proofs.Calms.{IsTaking, elementary, rounds_are}
 use Rattle.trace.proofs.Each.{Left, left_of}
 use Rattle.trace.proofs.Queues.{no_queues, queues_more, queues_rest, queues_with}

@@ -1,12 +1,8 @@
 -- The items of a list are printed one after the other, and what is left of it is printed then.
+use Rattle.trace.proofs.Common.{Appends, slice_index_or, appends_more, mark, further, listed}
 use Rattle.std.proofs.Common.{◌≡◌, ℕ, zero, suc, Bool, true, false, if◌then◌else◌, ◌<◌, ◌≤◌, ◌+◌, List, [], ◌∷◌, ◌++◌, codes, drop, length, map, Option, Some, refl, slice_get, sym, ap, subst, ◌∙◌, arith}
 use Rattle.std.proofs.lemmas.List.{append_assoc, drop_all, drop_more}
 use Rattle.std.proofs.lemmas.Option.{slice_get_within}
-use Rattle.std.specs.Io.KnownBytes.{Appends}
-use Rattle.std.specs.Prelude.{slice_index_or}
-use Rattle.replay.proofs.lemmas.{appends_more}
-use Rattle.trace.specs.Joined.{mark}
-use Rattle.trace.specs.Texts.{further, listed}
 
 -- what is left of a list, after this many items
 abbrev pub left : List ℕ → List ℕ → ℕ → List (List ℕ) → List ℕ

@@ -1,23 +1,9 @@
 -- Hosts, flows, bits, messages and answers have texts of their own.
-use Rattle.std.proofs.Common.{◌≡◌, ℕ, ◌<◌, ◌≤◌, ◌==◌, Bool, false, List, [], ◌∷◌, ◌++◌, codes, if◌then◌else◌, length, map, refl, sym, ap, ◌∙◌, arith, lit<}
-use Rattle.std.proofs.lemmas.Bool.Decides.{nat_tests}
-use Rattle.std.proofs.lemmas.List.Elements.{All-append, All-cons}
-use Rattle.std.specs.Fmt.{decimal}
-use Rattle.std.specs.List.{All}
-use Rattle.std.specs.Str.{bytes_eq}
-use Rattle.hex.specs.Hex.{encode_upper}
-use Rattle.bit_messages.specs.Octets.{octets_of}
-use Rattle.leader1822.specs.Boxes.{WaitingAnswer}
-use Rattle.interface.specs.Host.{Host}
-use Rattle.interface.specs.Printed.{host_text}
-use Rattle.interface.specs.declared.address.Flow.{Flow}
+use Rattle.trace.proofs.Common.{◌≡◌, ℕ, ◌<◌, ◌≤◌, ◌==◌, Bool, false, List, [], ◌∷◌, ◌++◌, codes, if◌then◌else◌, length, map, refl, sym, ap, ◌∙◌, arith, lit<, nat_tests, All-append, All-cons, decimal, All, bytes_eq, encode_upper, octets_of, WaitingAnswer, Host, host_text, Flow, Lacks, SameCut, same_cut, unmarked_where, IsFlowNamed, IsHostNamed}
 use Rattle.interface.specs.declared.crossing.Answer.{Answer}
 use Rattle.interface.specs.declared.crossing.Answer.TheVariants as answer
 use Rattle.interface.specs.declared.message.HostMessage.{HostMessage}
 use Rattle.script.specs.Spelling.{IsFlow, IsHost}
-use Rattle.script.specs.Steps.{Lacks}
-use Rattle.script.proofs.lemmas.{SameCut, same_cut, unmarked_where}
-use Rattle.trace.specs.Named.{IsFlowNamed, IsHostNamed}
 use Rattle.trace.specs.Texts.{answer_object, answer_word, array, bits_members, flow_members, host_string, member, message_object, queues_text, quoted}
 use Rattle.trace.proofs.Decimals.{decimal_closed, decimal_lacks, octets_lack, short_once, sized_once}
 use Rattle.trace.proofs.Closed.{AreClosed, Spelled, Words, also_closed, first_same, lists_spelled, member_once, none_closed, object_closed, object_once, quoted_once, rest_same, string_closed, strings_spelled}

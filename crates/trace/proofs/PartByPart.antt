@@ -1,11 +1,6 @@
 -- All parts are printed one after the other.
-use Rattle.std.proofs.Common.{◌≡◌, ℕ, suc, ◌<◌, ◌≤◌, ◌+◌, List, [], ◌∷◌, ◌++◌, codes, get_or, length, map, take, Option, sym, ap, subst, ◌∙◌, arith}
+use Rattle.trace.proofs.Common.{◌≡◌, ℕ, suc, ◌<◌, ◌≤◌, ◌+◌, List, [], ◌∷◌, ◌++◌, codes, get_or, length, map, take, Option, sym, ap, subst, ◌∙◌, arith, Appends, Boxes, Host, host_text, appends_more}
 use Rattle.std.proofs.lemmas.List.{append_assoc, map-append, take_all, take_more}
-use Rattle.std.specs.Io.KnownBytes.{Appends}
-use Rattle.leader1822.specs.Boxes.{Boxes}
-use Rattle.interface.specs.Host.{Host}
-use Rattle.interface.specs.Printed.{host_text}
-use Rattle.replay.proofs.lemmas.{appends_more}
 use Rattle.trace.specs.Joined.{begun, comma_before, joined_from}
 use Rattle.trace.specs.Parts.{Part, Down, Waiting, all_parts}
 use Rattle.trace.specs.Texts.{member, part_name, part_text, parts_text}

@@ -1,9 +1,6 @@
 -- Words without marks are closed, and the two truth values have words of their own.
 pub use Rattle.trace.proofs.FirstLine.{word_closed}
-use Rattle.std.proofs.Common.{◌≡◌, ℕ, Bool, true, false, List, [], ◌∷◌, codes, sym, ap, refl, ◌∙◌}
-use Rattle.std.proofs.lemmas.List.Elements.{All-cons, All-nil}
-use Rattle.std.specs.List.{All, list_all}
-use Rattle.std.specs.Str.{bytes_eq}
+use Rattle.trace.proofs.Common.{◌≡◌, ℕ, Bool, true, false, List, [], ◌∷◌, codes, sym, ap, refl, ◌∙◌, All-cons, All-nil, All, list_all, bytes_eq}
 use Rattle.trace.specs.Texts.{bool_text}
 use Rattle.trace.proofs.Closed.{IsClosed, Spelled, is_plain, plain_closed}
 use Rattle.trace.proofs.FirstLine.{plain_all}

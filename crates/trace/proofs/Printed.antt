@@ -1,11 +1,8 @@
 -- Objects are printed member by member.
-use Rattle.std.proofs.Common.{◌≡◌, ℕ, Bool, List, [], ◌∷◌, ◌++◌, codes, length, Option, refl, subst}
+use Rattle.trace.proofs.Common.{◌≡◌, ℕ, Bool, List, [], ◌∷◌, ◌++◌, codes, length, Option, refl, subst, Appends, appends_more, member, object, quoted}
 use Rattle.std.proofs.lemmas.List.{append_assoc}
-use Rattle.std.specs.Io.KnownBytes.{Appends}
 use Rattle.hex.specs.Hex.{encode_upper, encode_with}
 use Rattle.bit_messages.specs.Octets.{octets_of}
-use Rattle.replay.proofs.lemmas.{appends_more}
-use Rattle.trace.specs.Texts.{member, object, quoted}
 
 pub three : (x y z : List ℕ) (a b c d : Option (List ℕ)) → Appends a b x → Appends b c y → Appends c d z → Appends a d (x ++ (y ++ z))
 three x y z a b c d px py pz = appends_more a b d x (y ++ z) px (appends_more b c d y z py pz)

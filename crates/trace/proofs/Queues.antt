@@ -1,18 +1,15 @@
 -- One queue changes, and no other does.
+use Rattle.trace.proofs.Common.{eqb-true, false≢true, and_parts, All-append, All-cons, All-nil, All-same, All-tail, All, AreQueues}
 use Rattle.std.proofs.Common.{◌≡◌, ◌≢◌, ℕ, ◌==◌, ◌&&◌, Bool, true, false, List, [], ◌∷◌, ◌++◌, Option, Some, None, unwrap_or, cond, if◌then◌else◌, refl, sym, ap, subst, ◌∙◌, eq-eqb}
-use Rattle.std.proofs.lemmas.Bool.{eqb-true, false≢true, and_parts}
 use Rattle.std.proofs.lemmas.Cmp.{on_total, then_total}
-use Rattle.std.proofs.lemmas.List.Elements.{All-append, All-cons, All-nil, All-same, All-tail}
 use Rattle.std.proofs.lemmas.Map.Lookups.{CmpEqualImpliesEq, exact_pairs, exact_unsigned}
 use Rattle.std.specs.Cmp.{IsTotalOrder, eq_by_cmp_equiv, nat_cmp_total}
 use Rattle.std.specs.FinMap.{empty, get, get-empty, get-insert, get-remove, same_map}
-use Rattle.std.specs.List.{All}
 use Rattle.std.specs.Ordering.{eq_by_cmp, is_eq, nat_cmp}
 use Rattle.std.specs.declared.cmp.Ordering.{Ordering}
 use Rattle.std.specs.declared.cmp.Ordering.TheVariants.{Less, Equal, Greater}
 use Rattle.leader1822.specs.Boxes.{Queues, for_host, queued_if, rest, with_queue}
 use Rattle.interface.specs.Host.{Host, host_cmp, is_host, same_host}
-use Rattle.trace.specs.Kept.{AreQueues}
 use Rattle.interface.proofs.lemmas.{is_equal, same_host-true}
 
 -- ---- hosts

@@ -1,20 +1,13 @@
 -- What an event's parts do not name is as before.
-use Rattle.std.proofs.Common.{◌≡◌, ◌||◌, Bool, true, false, List, [], ◌∷◌, ◌++◌, Option, Some, None, if◌then◌else◌, filter, inl, inr, map, refl, reverse, sym, ap, ◌∙◌}
+use Rattle.trace.proofs.Common.{◌≡◌, ◌||◌, Bool, true, false, List, [], ◌∷◌, ◌++◌, Option, Some, None, if◌then◌else◌, filter, inl, inr, map, refl, reverse, sym, ap, ◌∙◌, Host, is_host, same_host, Flow, NetEvent, Crossing, Shown, crossings_of, Happens, IsOneCall, RawEvent}
 use Rattle.std.proofs.lemmas.Bool.{false≢true, or_parts}
 use Rattle.leader1822.specs.Boxes.{Boxes, for_host, given_up, inbound_taken, next_for, offered, rest, stepped, plain_calls}
-use Rattle.interface.specs.Host.{Host, is_host, same_host}
-use Rattle.interface.specs.declared.address.Flow.{Flow}
 use Rattle.interface.specs.declared.Inbound.{Inbound}
 use Rattle.interface.specs.declared.Inbound.TheVariants as inbound
-use Rattle.interface.specs.declared.NetEvent.{NetEvent}
 use Rattle.interface.specs.declared.NetEvent.TheVariants as net
 use Rattle.interface.specs.declared.HostMessage.{HostMessage}
 use Rattle.interface.specs.declared.crossing.Answer.TheVariants as answer
-use Rattle.interface.specs.declared.crossing.Crossing.{Crossing}
 use Rattle.interface.specs.declared.crossing.Crossing.TheVariants as crossing
-use Rattle.replay.specs.Output.{Shown, crossings_of}
-use Rattle.replay.specs.Replay.{Happens, IsOneCall}
-use Rattle.script.specs.declared.event.RawEvent.{RawEvent}
 use Rattle.script.specs.declared.event.RawEvent.TheVariants as event
 use Rattle.trace.specs.Parts.{Part, Down, Waiting, IsPart, SamePart, is_named, is_source, moves_host, parts_of, reaches}
 use Rattle.replay.proofs.lemmas.{happens_shows}

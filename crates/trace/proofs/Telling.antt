@@ -1,16 +1,10 @@
 -- Events are traced one after the other, and one of them may be the last.
-use Rattle.std.proofs.Common.{◌≡◌, ℕ, suc, ◌<◌, ◌≤◌, ◌+◌, List, [], ◌∷◌, ◌++◌, drop, get_or, length, Option, arith, refl, sym, ap, subst, ◌∙◌}
+use Rattle.trace.proofs.Common.{◌≡◌, ℕ, suc, ◌<◌, ◌≤◌, ◌+◌, List, [], ◌∷◌, ◌++◌, drop, get_or, length, Option, arith, refl, sym, ap, subst, ◌∙◌, Appends, appends_more, appends_none, last_shown, last_written, one_written, ended_line, TopologyFields, Spot, members_of}
 use Rattle.std.proofs.lemmas.List.{append_assoc, append-nil, drop_all, drop_more}
-use Rattle.std.specs.Io.KnownBytes.{Appends}
 use Rattle.replay.specs.InTurn.{EndsInTurn, Happening, InTurn, text_of}
 use Rattle.replay.specs.declared.events.ReplayFault.TheVariants as fault
-use Rattle.replay.proofs.lemmas.{appends_more, appends_none, last_shown, last_written, one_written}
-use Rattle.script.specs.Input.{ended_line}
-use Rattle.topology.specs.Topology.{TopologyFields}
 use Rattle.trace.specs.Texts.{object, opening_line}
 use Rattle.script.specs.declared.event.RawEvent.TheVariants as event
-use Rattle.trace.specs.declared.element.Spot.{Spot}
-use Rattle.trace.specs.Changes.{members_of}
 use Rattle.trace.specs.Traces.{AfterOpening, Inside, WritesTrace, numbered_from}
 
 -- of these events the first ones happened, their lines are written, and those are left

@@ -1,13 +1,6 @@
 -- Members are compared with those that were at their places, one after the other.
-use Rattle.std.proofs.Common.{◌≡◌, ℕ, zero, suc, ◌<◌, ◌+◌, Bool, true, false, not, nat_lt, nat_eq, List, [], ◌∷◌}
-use Rattle.std.proofs.Common.{◌++◌, drop, get_or, if◌then◌else◌, length, map, arith, refl, sym, ap, ◌∙◌}
-use Rattle.std.proofs.lemmas.Bool.Decides.{nat_tests}
+use Rattle.trace.proofs.Common.{◌≡◌, ℕ, zero, suc, ◌<◌, ◌+◌, Bool, true, false, not, nat_lt, nat_eq, List, [], ◌∷◌, ◌++◌, drop, get_or, if◌then◌else◌, length, map, arith, refl, sym, ap, ◌∙◌, nat_tests, slice_get_read, pointwise, slice_index_or, changed, is_at, extended}
 use Rattle.std.proofs.lemmas.List.{drop_more, length-map}
-use Rattle.std.proofs.lemmas.Option.{slice_get_read}
-use Rattle.std.specs.Cmp.Lexicographic.{pointwise}
-use Rattle.std.specs.Prelude.{slice_index_or}
-use Rattle.trace.specs.Changes.{changed, is_at}
-use Rattle.trace.specs.Joined.{extended}
 use Rattle.trace.proofs.Left.{text_at}
 
 -- the text of what is at a place

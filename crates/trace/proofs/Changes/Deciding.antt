@@ -1,9 +1,5 @@
 -- All parts are the same as others, or are not.
-use Rattle.std.proofs.Common.{◌≡◌, ◌⊎◌, inl, inr, Bool, true, false, List, [], ◌∷◌, refl, sym, ap, ap₂, ◌∙◌}
-use Rattle.std.proofs.lemmas.Bool.{false≢true}
-use Rattle.trace.specs.Flows.{same_flow_part}
-use Rattle.trace.specs.declared.all_parts.AllParts.{AllParts}
-use Rattle.trace.specs.declared.flow_part.FlowPart.{FlowPart}
+use Rattle.trace.proofs.Common.{◌≡◌, ◌⊎◌, inl, inr, Bool, true, false, List, [], ◌∷◌, refl, sym, ap, ap₂, ◌∙◌, false≢true, same_flow_part, AllParts, FlowPart}
 use Rattle.trace.proofs.Changes.FlowLaws.{part_is}
 use Rattle.trace.proofs.Changes.Flowing.{part_same}
 use Rattle.trace.proofs.Closed.{first_same, rest_same}

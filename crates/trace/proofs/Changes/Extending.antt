@@ -1,9 +1,6 @@
 -- Members are added to the text of an object, which has no end yet.
-use Rattle.std.proofs.Common.{◌≡◌, ℕ, ◌<◌, ◌+◌, List, [], ◌∷◌, ◌++◌, codes, length, arith, refl, ap}
-use Rattle.std.proofs.Common.{◌∙◌}
+use Rattle.trace.proofs.Common.{◌≡◌, ℕ, ◌<◌, ◌+◌, List, [], ◌∷◌, ◌++◌, codes, length, arith, refl, ap, ◌∙◌, extended, mark, further, object}
 use Rattle.std.proofs.lemmas.List.{append_assoc, length-append}
-use Rattle.trace.specs.Joined.{extended, mark}
-use Rattle.trace.specs.Texts.{further, object}
 
 -- first these, and then those
 pub extended_twice : (text : List ℕ) (xs ys : List (List ℕ)) → extended (extended text xs) ys ≡ extended text (xs ++ ys)

@@ -1,23 +1,11 @@
 -- Which parts are among those that have changed: those that are always there, and flows.
-use Rattle.std.proofs.Common.{◌≡◌, ◌⊎◌, inl, inr, ℕ, zero, suc, ◌<◌, ◌==◌, ◌&&◌, ◌||◌, Bool, true, false, not, List, []}
-use Rattle.std.proofs.Common.{◌∷◌, ◌++◌, drop, filter, length, map, arith, refl, sym, ap, subst, ◌∙◌}
-use Rattle.std.proofs.lemmas.Bool.Decides.{nat_tests}
-use Rattle.std.proofs.lemmas.List.Elements.{Contains-append_cases, Contains-append_left, Contains-append_right}
-use Rattle.std.proofs.lemmas.List.Elements.{Contains-push, Contains-push_cases}
+use Rattle.trace.proofs.Common.{◌≡◌, ◌⊎◌, inl, inr, ℕ, zero, suc, ◌<◌, ◌==◌, ◌&&◌, ◌||◌, Bool, true, false, not, List, [], ◌∷◌, ◌++◌, drop, filter, length, map, arith, refl, sym, ap, subst, ◌∙◌, nat_tests, slice_index_or, gone, same_flow_part, same_name, same_side, same_state, told, AllParts, FlowPart, FlowState, Side}
+use Rattle.std.proofs.lemmas.List.Elements.{Contains-append_cases, Contains-append_left, Contains-append_right, Contains-push, Contains-push_cases}
 use Rattle.std.specs.List.{Contains, flat_map}
-use Rattle.std.specs.Prelude.{slice_index_or}
 use Rattle.interface.specs.Flow.{same_flow}
 use Rattle.interface.proofs.lemmas.{and_true, same_flow-true, contains_head, contains_tail, contains_none}
-use Rattle.trace.specs.Changes.{IsGone, altered, changed, changed_flows, changed_lists, changed_parts, is_there}
-use Rattle.trace.specs.Changes.{is_told}
-use Rattle.trace.specs.Changes.{lost}
-use Rattle.trace.specs.Changes.{members_of}
-use Rattle.trace.specs.Flows.{gone, same_flow_part, same_name, same_side, same_state, told}
-use Rattle.trace.specs.declared.all_parts.AllParts.{AllParts}
-use Rattle.trace.specs.declared.flow_part.FlowPart.{FlowPart}
-use Rattle.trace.specs.declared.flow_part.FlowState.{FlowState}
+use Rattle.trace.specs.Changes.{IsGone, altered, changed, changed_flows, changed_lists, changed_parts, is_there, is_told, lost, members_of}
 use Rattle.trace.specs.declared.flow_part.FlowState.TheVariants as state
-use Rattle.trace.specs.declared.flow_part.Side.{Side}
 use Rattle.trace.specs.declared.flow_part.Side.TheVariants as side
 use Rattle.trace.proofs.Changes.Changed as fixed
 use Rattle.trace.proofs.Changes.Flowing.{keeps, lists_first, no_lists}

@@ -1,22 +1,9 @@
 -- What is known of a flow has a text of its own.
-use Rattle.std.proofs.Common.{◌≡◌, ℕ, ◌==◌, false, List, [], ◌∷◌, ◌++◌, codes, if◌then◌else◌, lit<, refl, sym, ap, ◌∙◌}
+use Rattle.trace.proofs.Common.{◌≡◌, ℕ, ◌==◌, false, List, [], ◌∷◌, ◌++◌, codes, if◌then◌else◌, lit<, refl, sym, ap, ◌∙◌, All-append, All-cons, decimal, list_any, bytes_eq, Host, Flow, Lacks, SameCut, same_cut, unmarked_where, IsFlowNamed, IsHostNamed, IsShort, member, object, quoted, FlowPart, FlowState, Side}
 use Rattle.std.proofs.lemmas.List.{append_assoc}
-use Rattle.std.proofs.lemmas.List.Elements.{All-append, All-cons}
-use Rattle.std.specs.Fmt.{decimal}
-use Rattle.std.specs.List.{list_any}
-use Rattle.std.specs.Str.{bytes_eq}
-use Rattle.interface.specs.Host.{Host}
 use Rattle.interface.specs.Printed.{flow_text, host_text}
-use Rattle.interface.specs.declared.address.Flow.{Flow}
-use Rattle.script.specs.Steps.{Lacks}
-use Rattle.script.proofs.lemmas.{SameCut, same_cut, unmarked_where}
 use Rattle.trace.specs.Flows.{flow_members, flow_name, side_word, state_name, state_word, told}
-use Rattle.trace.specs.Named.{IsFlowNamed, IsHostNamed, IsShort}
-use Rattle.trace.specs.Texts.{member, object, quoted}
-use Rattle.trace.specs.declared.flow_part.FlowPart.{FlowPart}
-use Rattle.trace.specs.declared.flow_part.FlowState.{FlowState}
 use Rattle.trace.specs.declared.flow_part.FlowState.TheVariants as state
-use Rattle.trace.specs.declared.flow_part.Side.{Side}
 use Rattle.trace.specs.declared.flow_part.Side.TheVariants as side
 use Rattle.trace.proofs.Closed.{AreClosed, also_closed, first_same, member_once, none_closed, object_once, other_first}
 use Rattle.trace.proofs.Closed.{quoted_once, rest_same, string_closed}

@@ -1,21 +1,10 @@
 -- Lists of flows are compared with those before, flow by flow.
-use Rattle.std.proofs.Common.{◌≡◌, ℕ, zero, suc, ◌<◌, ◌+◌, ◌==◌, ◌&&◌, ◌||◌, Bool, true, false, not, List}
-use Rattle.std.proofs.Common.{[], ◌∷◌, ◌++◌, codes, drop, filter, if◌then◌else◌, length, map, arith, refl, sym}
-use Rattle.std.proofs.Common.{ap, ap₂, ◌∙◌}
+use Rattle.trace.proofs.Common.{◌≡◌, ℕ, zero, suc, ◌<◌, ◌+◌, ◌==◌, ◌&&◌, ◌||◌, Bool, true, false, not, List, [], ◌∷◌, ◌++◌, codes, drop, filter, if◌then◌else◌, length, map, arith, refl, sym, ap, ap₂, ◌∙◌, slice_index_or, list_any, gone, same_flow_part, same_name, same_side, same_state, told, extended, mark, object, AllParts, FlowPart, FlowState, Side}
 use Rattle.std.proofs.lemmas.Bool.{eq-eqb}
 use Rattle.std.proofs.lemmas.List.{append_assoc, append-nil}
-use Rattle.std.specs.Prelude.{slice_index_or}
-use Rattle.std.specs.List.{list_any}
 use Rattle.interface.proofs.lemmas.{same_flow-refl}
 use Rattle.trace.specs.Changes.{changed, changed_flows, changed_lists, changed_parts}
-use Rattle.trace.specs.Flows.{gone, same_flow_part, same_name, same_side, same_state, told}
-use Rattle.trace.specs.Joined.{extended, mark}
-use Rattle.trace.specs.Texts.{object}
-use Rattle.trace.specs.declared.all_parts.AllParts.{AllParts}
-use Rattle.trace.specs.declared.flow_part.FlowPart.{FlowPart}
-use Rattle.trace.specs.declared.flow_part.FlowState.{FlowState}
 use Rattle.trace.specs.declared.flow_part.FlowState.TheVariants as state
-use Rattle.trace.specs.declared.flow_part.Side.{Side}
 use Rattle.trace.specs.declared.flow_part.Side.TheVariants as side
 use Rattle.trace.proofs.Changes.Changed.{none_changed}
 use Rattle.trace.proofs.Changes.Extending.{extended_twice}

@@ -1,10 +1,7 @@
 -- Members are put in the place of those before them, one after the other, and those that have changed into an object.
-use Rattle.std.proofs.Common.{◌≡◌, ℕ, zero, suc, ◌<◌, ◌≤◌, ◌+◌, ◌-◌, Bool, true, false, not, nat_eq, List, [], ◌∷◌}
-use Rattle.std.proofs.Common.{◌++◌, drop, length, slice_set, take, arith, refl, sym, ap, ◌∙◌}
+use Rattle.trace.proofs.Common.{◌≡◌, ℕ, zero, suc, ◌<◌, ◌≤◌, ◌+◌, ◌-◌, Bool, true, false, not, nat_eq, List, [], ◌∷◌, ◌++◌, drop, length, slice_set, take, arith, refl, sym, ap, ◌∙◌, bytes_decides, pointwise, changed, is_at, put_at, put_text}
 use Rattle.std.proofs.lemmas.List.{append_assoc, append-nil, length-append, take_all}
 use Rattle.std.proofs.Math.Seq.{drop-append_seam}
-use Rattle.std.specs.Cmp.Lexicographic.{bytes_decides, pointwise}
-use Rattle.trace.specs.Changes.{changed, is_at, put_at, put_text}
 use Rattle.trace.specs.Joined.{extended, part_behind}
 use Rattle.trace.proofs.Changes.Changing.{first, unless}
 

@@ -1,25 +1,13 @@
 -- What an event doesn't reach in plain mailboxes stays, and the parts that it reaches are put in their places.
+use Rattle.trace.proofs.Common.{false≢true, is_memory, Host, Crossing, Shown, crossings_of, shown_crossings, shown_refusal, EventGives, GoesOn, Happens, IsOneCall, outcome_of, crossings_shown, RawEvent, put_at, put_text, OnlyReached, all_members, member, object, part_name, part_text, parts_members, queues_text, AllParts, HasHappened, change_text, plain_inside}
 use Rattle.std.proofs.Common.{◌≡◌, ℕ, ◌<◌, ◌≤◌, ◌+◌, ◌∷◌, ◌++◌, Bool, true, false, List, [], drop, get_or, codes, is_ok, length, map, Option, None, Result, Ok, Err, refl, sym, ap, ap₂, subst, ◌∙◌}
-use Rattle.std.proofs.lemmas.Bool.{false≢true}
 use Rattle.std.proofs.lemmas.List.{drop_all, drop_more}
-use Rattle.interface.specs.Calls.{is_memory}
-use Rattle.interface.specs.Host.{Host}
 use Rattle.interface.specs.declared.CarrierFault.{CarrierFault}
 use Rattle.interface.specs.declared.HostMessage.{HostMessage}
 use Rattle.interface.specs.declared.Inbound.{Inbound}
-use Rattle.interface.specs.declared.crossing.Crossing.{Crossing}
 use Rattle.leader1822.specs.Boxes.{Boxes, host_refusal, inbound_taken, next_for, offer_refusal, offered, plain_calls, step_grows, step_refusal, stepped, take_grows}
-use Rattle.replay.specs.Output.{Shown, crossings_of, shown_crossings, shown_refusal}
-use Rattle.replay.specs.Replay.{EventGives, GoesOn, Happens, IsOneCall, outcome_of}
-use Rattle.replay.proofs.lemmas.{crossings_shown}
-use Rattle.script.specs.declared.event.RawEvent.{RawEvent}
 use Rattle.script.specs.declared.event.RawEvent.TheVariants as event
-use Rattle.trace.specs.Changes.{put_at, put_text}
 use Rattle.trace.specs.Parts.{Down, Waiting, SamePart, moves_host, reaches}
-use Rattle.trace.specs.Steps.{OnlyReached}
-use Rattle.trace.specs.Texts.{all_members, member, object, part_name, part_text, parts_members, queues_text}
-use Rattle.trace.specs.declared.all_parts.AllParts.{AllParts}
-use Rattle.trace.specs.Traces.{HasHappened, change_text, plain_inside}
 use Rattle.trace.proofs.Calling.{happens}
 use Rattle.trace.proofs.Changes.Flowing.{no_part_changed}
 use Rattle.trace.proofs.Each.{left_of, refused_leaves, went}

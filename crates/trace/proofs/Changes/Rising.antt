@@ -1,28 +1,14 @@
 -- Where no part has changed, and flows rise in each list, all parts are as they were.
-use Rattle.std.proofs.Common.{◌≡◌, inl, inr, ℕ, suc, ◌==◌, ◌&&◌, ◌||◌, Bool, true, false, not, List, [], ◌∷◌, ◌++◌}
-use Rattle.std.proofs.Common.{filter, length, map, arith, refl, sym, ap, subst, ◌∙◌}
+use Rattle.trace.proofs.Common.{◌≡◌, inl, inr, ℕ, suc, ◌==◌, ◌&&◌, ◌||◌, Bool, true, false, not, List, [], ◌∷◌, ◌++◌, filter, length, map, arith, refl, sym, ap, subst, ◌∙◌, All-head, All-nil, All-tail, is_lt, Flow, gone, same_flow_part, same_name, same_side, same_state, told, AllParts, FlowPart, Boxes, Host, Waiting, all_members, member, part_name, part_text, plain_inside}
 use Rattle.std.proofs.lemmas.Bool.{or_cases, or_right}
 use Rattle.std.proofs.lemmas.Cmp.{tied_itself}
 use Rattle.std.proofs.lemmas.List.{length-map}
-use Rattle.std.proofs.lemmas.List.Elements.{All-head, All-nil, All-tail}
 use Rattle.std.proofs.lemmas.Map.Keys.{sorted_head, sorted_tail}
 use Rattle.std.specs.List.{All, AllByRecursion}
-use Rattle.std.specs.Ordering.{is_lt}
 use Rattle.std.specs.declared.cmp.Ordering.TheVariants.{Less, Equal}
 use Rattle.interface.specs.Flow.{flow_cmp, same_flow}
-use Rattle.interface.specs.declared.address.Flow.{Flow}
 use Rattle.interface.proofs.lemmas.{and_true, flows_total, same_flow-true}
-use Rattle.trace.specs.Changes.{AreOfOne, Rises, altered, changed, changed_flows, changed_lists, changed_parts}
-use Rattle.trace.specs.Changes.{is_there}
-use Rattle.trace.specs.Changes.{is_told, lost}
-use Rattle.trace.specs.Flows.{gone, same_flow_part, same_name, same_side, same_state, told}
-use Rattle.trace.specs.declared.all_parts.AllParts.{AllParts}
-use Rattle.trace.specs.declared.flow_part.FlowPart.{FlowPart}
-use Rattle.leader1822.specs.Boxes.{Boxes}
-use Rattle.interface.specs.Host.{Host}
-use Rattle.trace.specs.Parts.{Waiting}
-use Rattle.trace.specs.Texts.{all_members, member, part_name, part_text}
-use Rattle.trace.specs.Traces.{plain_inside}
+use Rattle.trace.specs.Changes.{AreOfOne, Rises, altered, changed, changed_flows, changed_lists, changed_parts, is_there, is_told, lost}
 use Rattle.trace.proofs.Changes.Changed as fixed
 use Rattle.trace.proofs.Changes.FlowLaws.{part_is}
 use Rattle.trace.proofs.Changes.Flowing.{keeps}

@@ -1,23 +1,14 @@
 -- A long calm is handed on round by round.
-use Rattle.std.proofs.Common.{◌≡◌, inl, inr, ℕ, ◌<◌, ◌≤◌, ◌+◌, Bool, true, List, [], ◌∷◌, ◌++◌, length, Option, Ok, Err}
-use Rattle.std.proofs.Common.{arith, refl, sym, ap, subst, ◌∙◌}
+use Rattle.trace.proofs.Common.{◌≡◌, inl, inr, ℕ, ◌<◌, ◌≤◌, ◌+◌, Bool, true, List, [], ◌∷◌, ◌++◌, length, Option, Ok, Err, arith, refl, sym, ap, subst, ◌∙◌, Calls, RawEvent, by_round, elements_in, EndsRound, Inside, IsStill, MayTell, TellsElement, TellsEvent, TellsMoving, TellsRound, WritesTrace, numbered_from, AllParts, Element, Spot}
 use Rattle.std.proofs.lemmas.Bool.{cases_lt}
 use Rattle.std.proofs.lemmas.List.{append_assoc, append-nil, length-append}
-use Rattle.interface.specs.Calls.{Calls}
 use Rattle.replay.proofs.lemmas.{Each, appends_none, ends_last, one_round_seen, one_written, seen_written}
 use Rattle.replay.specs.Replay.{BeginsWith, IsOneCall}
 use Rattle.replay.specs.Seen.{IsSeen, RoundsPass}
 use Rattle.replay.specs.declared.events.ReplayFault.TheVariants as fault
-use Rattle.script.specs.declared.event.RawEvent.{RawEvent}
 use Rattle.script.specs.declared.event.RawEvent.TheVariants as event
-use Rattle.trace.specs.Elements.{by_round, elements_in}
 use Rattle.trace.specs.Seen.{EventHandsOn, EventsAreSeen, RoundsHandOn, RoundTells}
 use Rattle.trace.specs.Steps.{IsAsBegun, RoundEnds}
-use Rattle.trace.specs.Traces.{EndsRound, Inside, IsStill, MayTell, TellsElement, TellsEvent}
-use Rattle.trace.specs.Traces.{TellsMoving, TellsRound, WritesTrace, numbered_from}
-use Rattle.trace.specs.declared.all_parts.AllParts.{AllParts}
-use Rattle.trace.specs.declared.element.Element.{Element}
-use Rattle.trace.specs.declared.element.Spot.{Spot}
 use Rattle.trace.proofs.Rounds.Listed.{Begins, round_begun}
 use Rattle.trace.proofs.Rounds.Told.{has_moved, one_element}
 use Rattle.trace.proofs.Telling.{SoFar, all_told, one_more}

@@ -1,7 +1,6 @@
 -- Elementary events, round by round.
-use Rattle.std.proofs.Common.{◌≡◌, ◌==◌, ℕ, Bool, true, false, List, [], ◌∷◌, ◌++◌, refl, sym, ap, ◌∙◌}
+use Rattle.trace.proofs.Common.{◌≡◌, ◌==◌, ℕ, Bool, true, false, List, [], ◌∷◌, ◌++◌, refl, sym, ap, ◌∙◌, Element}
 use Rattle.std.proofs.lemmas.Bool.{eq-eqb, false≢true}
-use Rattle.trace.specs.declared.element.Element.{Element}
 use Rattle.trace.specs.Elements.{begins_in, by_round, with_first}
 
 -- all are of this round

@@ -1,8 +1,5 @@
 -- All elementary events of a round have its number.
-use Rattle.std.proofs.Common.{◌≡◌, ℕ, zero, suc, Bool, true, false, List, [], ◌∷◌, ◌++◌, refl, sym, subst}
-use Rattle.interface.specs.Host.{Host}
-use Rattle.trace.specs.declared.element.Element.{Element}
-use Rattle.trace.specs.Elements.{Course, Giving, all_takings, taking, takings, then_course}
+use Rattle.trace.proofs.Common.{◌≡◌, ℕ, zero, suc, Bool, true, false, List, [], ◌∷◌, ◌++◌, refl, sym, subst, Host, Element, Course, Giving, all_takings, taking, takings, then_course}
 use Rattle.trace.proofs.Courses.{none_given, one_given}
 use Rattle.trace.proofs.Rounds.Listed.{AllIn}
 

@@ -1,18 +1,9 @@
 -- Where a carrier's calls leave a replay no choice, an event has one trace, and what is traced where memory runs out is
 -- the first part of it.
-use Rattle.std.proofs.Common.{◌≡◌, ◌⊎◌, inl, inr, ℕ, List, [], ◌∷◌, ◌++◌, refl, sym, ap, ap₂, ◌∙◌, subst}
+use Rattle.trace.proofs.Common.{◌≡◌, ◌⊎◌, inl, inr, ℕ, List, [], ◌∷◌, ◌++◌, refl, sym, ap, ap₂, ◌∙◌, subst, Calls, Shown, AreSettled, Element, Spot, by_round, elements_in, trace_line, EndsEvent, EndsRound, Inside, IsStill, StopsElement, TellsElement, TellsEvent, TellsMoving, TellsRound, TellsRounds, change_text}
 use Rattle.std.proofs.lemmas.List.{append_assoc, append-nil}
-use Rattle.interface.specs.Calls.{Calls}
 use Rattle.replay.proofs.lemmas.{OneReplay, ends_front, in_turn_once, replays_once}
 use Rattle.replay.specs.InTurn.{HappensOnce, InTurn, ShowsFront}
-use Rattle.replay.specs.Output.{Shown}
-use Rattle.replay.specs.Settled.{AreSettled}
-use Rattle.trace.specs.declared.element.Element.{Element}
-use Rattle.trace.specs.declared.element.Spot.{Spot}
-use Rattle.trace.specs.Elements.{by_round, elements_in}
-use Rattle.trace.specs.Texts.{trace_line}
-use Rattle.trace.specs.Traces.{EndsEvent, EndsRound, Inside, IsStill, StopsElement, TellsElement, TellsEvent}
-use Rattle.trace.specs.Traces.{TellsMoving, TellsRound, TellsRounds, change_text}
 use Rattle.trace.proofs.Rounds.Whole.{Opened, none_told, opened_rounds}
 
 -- ---- an elementary event

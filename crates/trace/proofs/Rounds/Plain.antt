@@ -1,19 +1,8 @@
 -- What is traced of a calm of plain mailboxes says all of it: no round of theirs is still.
-use Rattle.std.proofs.Common.{◌≡◌, ◌&&◌, ◌+◌, ℕ, zero, suc, Bool, true, false, List, [], ◌∷◌, ◌++◌, length, Option}
-use Rattle.std.proofs.Common.{Some, None, Ok, is_some, arith, refl, sym, ap, subst}
+use Rattle.trace.proofs.Common.{◌≡◌, ◌&&◌, ◌+◌, ℕ, zero, suc, Bool, true, false, List, [], ◌∷◌, ◌++◌, length, Option, Some, None, Ok, is_some, arith, refl, sym, ap, subst, Host, Crossing, Shown, shown_crossings, Happens, Replays, RawEvent, Element, Spot, Course, all_takings, events_of, from_boxes, is_given, round_of, taking, takings, then_course, IsStill, SaysAll, TellsEvent, plain_inside}
 use Rattle.std.proofs.lemmas.List.{length-append}
-use Rattle.interface.specs.Host.{Host}
 use Rattle.interface.specs.declared.Inbound.{Inbound}
-use Rattle.interface.specs.declared.crossing.Crossing.{Crossing}
 use Rattle.leader1822.specs.Boxes.{Boxes, inbound_taken, is_running, next_for, plain_calls}
-use Rattle.replay.specs.Output.{Shown, shown_crossings}
-use Rattle.replay.specs.Replay.{Happens, Replays}
-use Rattle.script.specs.declared.event.RawEvent.{RawEvent}
-use Rattle.trace.specs.declared.element.Element.{Element}
-use Rattle.trace.specs.declared.element.Spot.{Spot}
-use Rattle.trace.specs.Elements.{Course, all_takings, events_of, from_boxes, is_given, round_of, taking, takings}
-use Rattle.trace.specs.Elements.{then_course}
-use Rattle.trace.specs.Traces.{IsStill, SaysAll, TellsEvent, plain_inside}
 use Rattle.trace.proofs.Calms.{goes_round, taken_log, traced}
 use Rattle.trace.proofs.Courses.{none_given, one_given}
 use Rattle.trace.proofs.Going.{Goes}

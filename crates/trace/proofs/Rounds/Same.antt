@@ -1,12 +1,8 @@
 -- Members and logs that are as they were.
-use Rattle.std.proofs.Common.{◌≡◌, ◌⊎◌, inl, inr, ℕ, suc, ◌+◌, ◌<◌, Bool, true, false, nat_eq, nat_lt, not, List, []}
-use Rattle.std.proofs.Common.{◌∷◌, ◌++◌, length, map, arith, refl, sym, ap, ap₂, ◌∙◌}
-use Rattle.std.proofs.lemmas.Bool.{false≢true, lt-ltb}
+use Rattle.trace.proofs.Common.{◌≡◌, ◌⊎◌, inl, inr, ℕ, suc, ◌+◌, ◌<◌, Bool, true, false, nat_eq, nat_lt, not, List, [], ◌∷◌, ◌++◌, length, map, arith, refl, sym, ap, ap₂, ◌∙◌, false≢true, lt-ltb, bytes_decides, pointwise, changed}
 use Rattle.std.proofs.lemmas.List.{length-append}
 use Rattle.std.specs.Bool.{OnFalse, OnTrue}
-use Rattle.std.specs.Cmp.Lexicographic.{bytes_decides, pointwise}
 use Rattle.std.specs.List.{AllZip}
-use Rattle.trace.specs.Changes.{changed}
 use Rattle.trace.proofs.Changes.Changed.{none_changed}
 use Rattle.trace.proofs.Changes.Changing.{first, unless}
 

@@ -1,17 +1,11 @@
 -- The calls of plain mailboxes leave a replay no choice.
-use Rattle.std.proofs.Common.{◌≡◌, ◌||◌, Bool, true, false, [], ◌∷◌, Option, Some, None, Result, Ok, Err, refl, sym, ap}
-use Rattle.std.proofs.Common.{◌∙◌}
-use Rattle.std.proofs.lemmas.Bool.{false≢true}
-use Rattle.interface.specs.Calls.{is_halt, is_memory}
-use Rattle.interface.specs.Host.{Host}
+use Rattle.trace.proofs.Common.{◌≡◌, ◌||◌, Bool, true, false, [], ◌∷◌, Option, Some, None, Result, Ok, Err, refl, sym, ap, ◌∙◌, false≢true, is_halt, is_memory, Host, GoesOn, outcome_of}
 use Rattle.interface.specs.declared.carrier.CarrierFault.{CarrierFault}
 use Rattle.interface.specs.declared.carrier.CarrierFault.TheVariants as fault
 use Rattle.interface.specs.declared.crossing.Crossing.TheVariants as crossing
 use Rattle.interface.specs.declared.crossing.Inbound.{Inbound}
 use Rattle.interface.specs.declared.crossing.Inbound.TheVariants as inbound
-use Rattle.leader1822.specs.Boxes.{Boxes, BoxesDecided, BoxesRound, BoxesTake, host_refusal, next_for, offer_refusal}
-use Rattle.leader1822.specs.Boxes.{offered, plain_calls, step_grows, step_refusal, stepped, take_grows, inbound_taken}
-use Rattle.replay.specs.Replay.{GoesOn, outcome_of}
+use Rattle.leader1822.specs.Boxes.{Boxes, BoxesDecided, BoxesRound, BoxesTake, host_refusal, next_for, offer_refusal, offered, plain_calls, step_grows, step_refusal, stepped, take_grows, inbound_taken}
 use Rattle.replay.specs.Settled.{AreSettled, Grows, SameEnd}
 
 -- ---- one call

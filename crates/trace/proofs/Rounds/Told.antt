@@ -1,28 +1,16 @@
 -- A calm is traced round by round.
-use Rattle.std.proofs.Common.{◌≡◌, ◌⊎◌, inl, inr, ℕ, ◌<◌, Bool, List, [], ◌∷◌, ◌++◌, length, Option, Some, Result, Ok}
-use Rattle.std.proofs.Common.{Err, false, true, arith, refl, reverse, sym, ap, subst, ◌∙◌, suc}
+use Rattle.trace.proofs.Common.{◌≡◌, ◌⊎◌, inl, inr, ℕ, ◌<◌, Bool, List, [], ◌∷◌, ◌++◌, length, Option, Some, Result, Ok, Err, false, true, arith, refl, reverse, sym, ap, subst, ◌∙◌, suc, Calls, Crossing, appends_none, last_shown, last_written, one_written, IsOneCall, RawEvent, Element, Spot, begins_in, by_round, elements_in, EndsRound, GoesOnWith, Inside, IsStill, MayTell, StopsElement, TellsElement, TellsMoving, TellsRound, TellsRounds, TellsStill, WritesTrace, AllParts}
 use Rattle.std.proofs.lemmas.Bool.{eq-eqb, eqb-true}
 use Rattle.std.proofs.lemmas.List.{append_assoc, append-nil}
-use Rattle.interface.specs.Calls.{Calls}
-use Rattle.interface.specs.declared.crossing.Crossing.{Crossing}
 use Rattle.replay.specs.InTurn.{EndsInTurn, Happening, InTurn}
 use Rattle.replay.specs.declared.events.ReplayFault.{ReplayFault}
 use Rattle.replay.specs.declared.events.ReplayFault.TheVariants as fault
-use Rattle.replay.proofs.lemmas.{appends_none, last_shown, last_written, one_written}
-use Rattle.replay.specs.Replay.{IsOneCall}
-use Rattle.script.specs.declared.event.RawEvent.{RawEvent}
 use Rattle.script.specs.declared.event.RawEvent.TheVariants as event
-use Rattle.trace.specs.declared.element.Element.{Element}
-use Rattle.trace.specs.declared.element.Spot.{Spot}
-use Rattle.trace.specs.Elements.{begins_in, by_round, elements_in}
 use Rattle.trace.specs.Steps.{ElementEnds, EndsAs, EventEnds, IsAsBegun, RoundEnds}
-use Rattle.trace.specs.Traces.{EndsRound, GoesOnWith, Inside, IsStill, MayTell, StopsElement, TellsElement, TellsMoving}
-use Rattle.trace.specs.Traces.{TellsRound, TellsRounds, TellsStill, WritesTrace}
 use Rattle.trace.proofs.Rounds.Listed.{AllIn, Begins, one_more_in, round_begun, round_over}
 use Rattle.trace.proofs.Changes.Deciding.{parts_or_not}
 use Rattle.trace.proofs.Rounds.Same.{as_long, grew_or_not}
 use Rattle.trace.proofs.Telling.{SoFar, all_told, ends_told, fails_told}
-use Rattle.trace.specs.declared.all_parts.AllParts.{AllParts}
 
 -- ---- a round that is still, or is not
 

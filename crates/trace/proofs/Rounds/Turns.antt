@@ -1,23 +1,13 @@
 -- In the middle of a calm of plain mailboxes.
-use Rattle.std.proofs.Common.{◌≡◌, ◌&&◌, ◌||◌, not, nat_lt, is_some, ◌-◌, ◌<◌, ◌+◌, ℕ, suc, true, false, List, [], ◌∷◌}
-use Rattle.std.proofs.Common.{drop, length, Option, Some, None, Result, Ok, Err, refl, sym, ap, ◌∙◌, subst, arith}
-use Rattle.std.proofs.lemmas.Bool.{lt-ltb}
-use Rattle.leader1822.specs.Boxes.{Boxes, WaitingAnswer, answer_first, first_of_list, for_host, host_refusal}
-use Rattle.leader1822.specs.Boxes.{inbound_taken, is_running, next_for, take_grows, plain_calls}
-use Rattle.interface.specs.Calls.{is_halt, is_memory}
-use Rattle.interface.specs.Host.{Host, is_host}
+use Rattle.trace.proofs.Common.{◌≡◌, ◌&&◌, ◌||◌, not, nat_lt, is_some, ◌-◌, ◌<◌, ◌+◌, ℕ, suc, true, false, List, [], ◌∷◌, drop, length, Option, Some, None, Result, Ok, Err, refl, sym, ap, ◌∙◌, subst, arith, lt-ltb, is_halt, is_memory, Host, is_host, Shown, GoesOn, Happens, outcome_of, Element, GoesOnWith}
+use Rattle.leader1822.specs.Boxes.{Boxes, WaitingAnswer, answer_first, first_of_list, for_host, host_refusal, inbound_taken, is_running, next_for, take_grows, plain_calls}
 use Rattle.interface.specs.declared.CarrierFault.{CarrierFault}
 use Rattle.interface.specs.declared.HostMessage.{HostMessage}
 use Rattle.interface.specs.declared.Inbound.{Inbound}
-use Rattle.replay.specs.Output.{Shown}
-use Rattle.replay.specs.Replay.{GoesOn, Happens, outcome_of}
 use Rattle.script.specs.declared.event.RawEvent.TheVariants as event
-use Rattle.trace.specs.declared.element.Element.{Element}
 use Rattle.trace.specs.declared.turn.Turn.{Turn}
-use Rattle.trace.specs.Elements.{Course, calm_left, from_boxes, is_given, no_course, rest_of_calm, round_left, round_of}
-use Rattle.trace.specs.Elements.{rounds_from, takings_from, then_course}
+use Rattle.trace.specs.Elements.{Course, calm_left, from_boxes, is_given, no_course, rest_of_calm, round_left, round_of, rounds_from, takings_from, then_course}
 use Rattle.trace.specs.Steps.{IsNext}
-use Rattle.trace.specs.Traces.{GoesOnWith}
 use Rattle.trace.proofs.Calms.{refused_is}
 use Rattle.trace.proofs.Courses.{idle_rounds, idle_takings, takings_all}
 use Rattle.trace.proofs.Each.{Went, went}

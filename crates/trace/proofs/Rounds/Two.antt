@@ -1,15 +1,11 @@
 -- A calm of two rounds in which a message and its answer are taken.
-use Rattle.std.proofs.Common.{◌≡◌, ℕ, true, false, List, [], ◌∷◌, ◌++◌, Option, Some, is_some, refl, ap, ap₂, ◌∙◌}
-use Rattle.leader1822.specs.Boxes.{Boxes, WaitingAnswer, answer_first, first_of_list, for_host, inbound_taken, next_for}
-use Rattle.leader1822.specs.Boxes.{opening_boxes, rest}
-use Rattle.interface.specs.Host.{Host}
+use Rattle.trace.proofs.Common.{◌≡◌, ℕ, true, false, List, [], ◌∷◌, ◌++◌, Option, Some, is_some, refl, ap, ap₂, ◌∙◌, Host, Course, all_takings, elements_of, from_boxes, is_given, no_course, round_of, rounds_from, takings, then_course}
+use Rattle.leader1822.specs.Boxes.{Boxes, WaitingAnswer, answer_first, first_of_list, for_host, inbound_taken, next_for, opening_boxes, rest}
 use Rattle.interface.specs.declared.Inbound.{Inbound}
 use Rattle.interface.specs.declared.Inbound.TheVariants as inbound
 use Rattle.interface.specs.declared.HostMessage.{HostMessage}
 use Rattle.interface.specs.declared.crossing.Answer.TheVariants as answer
 use Rattle.script.specs.declared.event.RawEvent.TheVariants as event
-use Rattle.trace.specs.Elements.{Course, all_takings, elements_of, from_boxes, is_given, no_course, round_of}
-use Rattle.trace.specs.Elements.{rounds_from, takings, then_course}
 use Rattle.trace.specs.Worked.{first, flow, one_waits, short, third}
 use Rattle.trace.proofs.Courses.{none_given, one_given}
 use Rattle.trace.proofs.Queues.{for_here, for_other, none_for}

@@ -1,22 +1,12 @@
 -- What is traced of a calm says all of it: over any carrier whose calls leave a replay no choice.
-use Rattle.std.proofs.Common.{◌≡◌, ◌⊎◌, inl, inr, ◌==◌, ◌<◌, ℕ, zero, suc, Bool, true, false, List, [], ◌∷◌, ◌++◌}
-use Rattle.std.proofs.Common.{length, Result, Ok, Err, arith, refl, sym, ap, ◌∙◌, subst}
-use Rattle.std.proofs.lemmas.Bool.{eqb-true}
+use Rattle.trace.proofs.Common.{eqb-true, Calls, Shown, shown_crossings, shown_refusal, AreSettled, RawEvent, Element, Spot, Course, begins_in, by_round, events_of, rounds_from, Inside, IsStill, SaysAll, TellsElement, TellsEvent, TellsMoving, TellsRound, TellsRounds, TellsStill}
+use Rattle.std.proofs.Common.{◌≡◌, ◌⊎◌, inl, inr, ◌==◌, ◌<◌, ℕ, zero, suc, Bool, true, false, List, [], ◌∷◌, ◌++◌, length, Result, Ok, Err, arith, refl, sym, ap, ◌∙◌, subst}
 use Rattle.std.proofs.lemmas.List.{append_assoc, append-nil, map-append}
-use Rattle.interface.specs.Calls.{Calls}
 use Rattle.interface.specs.declared.CarrierFault.{CarrierFault}
 use Rattle.replay.proofs.lemmas.{replays_once}
 use Rattle.replay.specs.InTurn.{Happening, InTurn}
-use Rattle.replay.specs.Output.{Shown, shown_crossings, shown_refusal}
 use Rattle.replay.specs.Replay.{GoesOn, Happens, Onward, Replays, Round, Rounds}
-use Rattle.replay.specs.Settled.{AreSettled}
-use Rattle.script.specs.declared.event.RawEvent.{RawEvent}
 use Rattle.script.specs.declared.event.RawEvent.TheVariants as event
-use Rattle.trace.specs.declared.element.Element.{Element}
-use Rattle.trace.specs.declared.element.Spot.{Spot}
-use Rattle.trace.specs.Elements.{Course, begins_in, by_round, events_of, rounds_from}
-use Rattle.trace.specs.Traces.{Inside, IsStill, SaysAll, TellsElement, TellsEvent, TellsMoving, TellsRound, TellsRounds}
-use Rattle.trace.specs.Traces.{TellsStill}
 use Rattle.trace.proofs.Closed.{first_same, rest_same}
 use Rattle.trace.proofs.Going.{AllRoundsGo, Goes, Run, Traced, crossings_are, run_none, run_then}
 use Rattle.trace.proofs.Rounds.Listed.{AllIn, whole_round}

@@ -1,6 +1,5 @@
-use Rattle.std.proofs.Common.{◌≡◌, length, rules, sym, ap, ◌∙◌}
+use Rattle.trace.proofs.Common.{◌≡◌, length, rules, sym, ap, ◌∙◌, Calls}
 use Rattle.std.proofs.lemmas.List.{length-reverse}
-use Rattle.interface.specs.Calls.{Calls}
 use Rattle.trace.proofs.events.begin_round.Goals as goal
 
 pub returns-clause-begun : goal.returns-clause-begun

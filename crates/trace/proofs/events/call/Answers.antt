@@ -1,9 +1,6 @@
+use Rattle.trace.proofs.Common.{outcome_of, Calls, RawEvent, Called}
 use Rattle.std.proofs.Common.{◌≡◌, Ok, IfOk, ap, rules, subst, sym, ◌∙◌}
-use Rattle.replay.specs.Replay.{outcome_of}
-use Rattle.interface.specs.Calls.{Calls}
-use Rattle.script.specs.declared.event.RawEvent.{RawEvent}
 use Rattle.script.specs.declared.event.RawEvent.TheVariants as event
-use Rattle.trace.specs.Steps.{Called}
 use Rattle.trace.proofs.Calling.{called_offer, called_take}
 use Rattle.trace.proofs.events.call.Goals.{in-Ok, in-Err}
 use Rattle.trace.proofs.events.call.Goals as goal

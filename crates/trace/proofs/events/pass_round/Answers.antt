@@ -1,9 +1,6 @@
-use Rattle.std.proofs.Common.{◌≡◌, Err, rules, subst, sym}
-use Rattle.interface.specs.Calls.{Calls}
+use Rattle.trace.proofs.Common.{◌≡◌, Err, rules, subst, sym, Calls, RoundEnds, Inside, TellsRound}
 use Rattle.replay.proofs.lemmas.{kept_written}
 use Rattle.replay.specs.declared.events.ReplayFault.TheVariants as fault
-use Rattle.trace.specs.Steps.{RoundEnds}
-use Rattle.trace.specs.Traces.{Inside, TellsRound}
 use Rattle.trace.proofs.Rounds.Handing.{unhanded}
 use Rattle.trace.proofs.events.pass_round.Goals as goal
 

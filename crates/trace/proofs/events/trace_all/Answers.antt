@@ -1,11 +1,8 @@
-use Rattle.std.proofs.Common.{◌≡◌, ◌≤◌, ◌+◌, ℕ, Err, arith, drop, length, refl, rules, subst}
-use Rattle.interface.specs.Calls.{Calls}
+use Rattle.trace.proofs.Common.{◌≡◌, ◌≤◌, ◌+◌, ℕ, Err, arith, drop, length, refl, rules, subst, Calls, EventEnds, EndsEvent, Inside, MayTell, StopsElement, TellsEvent, numbered_from}
 use Rattle.replay.specs.declared.events.ReplayFault.TheVariants as fault
 use Rattle.replay.specs.Seen.{IsSeen}
 use Rattle.trace.specs.Seen.{EventHandsOn}
-use Rattle.trace.specs.Steps.{EventEnds}
 use Rattle.trace.proofs.Rounds.Handing.{event_seen, events_seen}
-use Rattle.trace.specs.Traces.{EndsEvent, Inside, MayTell, StopsElement, TellsEvent, numbered_from}
 use Rattle.trace.proofs.Telling.{all_told, at_place, ends_told, fails_told, none_yet, numbered_more, numbered_none, one_more}
 use Rattle.trace.proofs.events.trace_all.Goals as goal
 

@@ -1,6 +1,4 @@
-use Rattle.std.proofs.Common.{◌≡◌, ◌+◌, IfSome, drop, false, length}
-use Rattle.interface.specs.Calls.{Calls}
-use Rattle.trace.specs.Traces.{Inside, TellsEvent, numbered_from}
+use Rattle.trace.proofs.Common.{◌≡◌, ◌+◌, IfSome, drop, false, length, Calls, Inside, TellsEvent, numbered_from}
 use Rattle.trace.proofs.Rounds.Handing.{SeenSoFar}
 use Rattle.trace.proofs.Telling.{SoFar}
 use Rattle.trace.proofs.events.trace_all.Given as goal

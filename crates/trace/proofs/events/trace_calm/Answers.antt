@@ -1,11 +1,6 @@
-use Rattle.std.proofs.Common.{◌≡◌, Err, List, ap, refl, rules, subst, sym}
-use Rattle.interface.specs.Calls.{Calls}
+use Rattle.trace.proofs.Common.{◌≡◌, Err, List, ap, refl, rules, subst, sym, Calls, by_round, EventEnds, RoundEnds, Inside, Element}
 use Rattle.replay.specs.declared.events.ReplayFault.TheVariants as fault
 use Rattle.script.specs.declared.event.RawEvent.TheVariants as event
-use Rattle.trace.specs.Elements.{by_round}
-use Rattle.trace.specs.Steps.{EventEnds, RoundEnds}
-use Rattle.trace.specs.Traces.{Inside}
-use Rattle.trace.specs.declared.element.Element.{Element}
 use Rattle.trace.proofs.Rounds.Handing.{Passing, all_seen, none_passing, one_passing, still_seen}
 use Rattle.trace.proofs.Rounds.Told.{is_fault, is_still, round_stops, rounds_early, still_told}
 use Rattle.trace.proofs.events.trace_calm.Goals as goal

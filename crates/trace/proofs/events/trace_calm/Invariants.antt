@@ -1,7 +1,4 @@
-use Rattle.std.proofs.Common.{◌≡◌, IfSome, false, length}
-use Rattle.interface.specs.Calls.{Calls}
-use Rattle.trace.specs.Elements.{by_round}
-use Rattle.trace.specs.Traces.{Inside}
+use Rattle.trace.proofs.Common.{◌≡◌, IfSome, false, length, Calls, by_round, Inside}
 use Rattle.trace.proofs.Rounds.Handing.{Passing}
 use Rattle.trace.proofs.events.trace_calm.Given as goal
 

@@ -1,18 +1,7 @@
-use Rattle.std.proofs.Common.{◌≡◌, ◌∙◌, ◌++◌, inr, Err, List, Option, ℕ, ap, drop, length, refl, reverse, rules, subst, sym}
-use Rattle.std.specs.Io.KnownBytes.{Appends}
-use Rattle.interface.specs.Calls.{Calls}
-use Rattle.interface.specs.declared.crossing.Crossing.{Crossing}
+use Rattle.trace.proofs.Common.{◌≡◌, ◌∙◌, ◌++◌, inr, Err, List, Option, ℕ, ap, drop, length, refl, reverse, rules, subst, sym, Appends, Calls, Crossing, shown_crossings, shown_refusal, ended_line, changed_parts, object, trace_line, Inside, change_text, AllParts, Element, Fate}
 use Rattle.replay.proofs.lemmas.{gained}
-use Rattle.replay.specs.Output.{shown_crossings, shown_refusal}
 use Rattle.replay.specs.declared.events.ReplayFault.TheVariants as fault
-use Rattle.script.specs.Input.{ended_line}
-use Rattle.trace.specs.Changes.{changed_parts}
 use Rattle.trace.specs.Steps.{ElementEnds}
-use Rattle.trace.specs.Texts.{object, trace_line}
-use Rattle.trace.specs.Traces.{Inside, change_text}
-use Rattle.trace.specs.declared.all_parts.AllParts.{AllParts}
-use Rattle.trace.specs.declared.element.Element.{Element}
-use Rattle.trace.specs.declared.fate.Fate.{Fate}
 use Rattle.trace.proofs.Calling.{may_do, stops, tells}
 use Rattle.trace.proofs.events.trace_element.Goals as goal
 

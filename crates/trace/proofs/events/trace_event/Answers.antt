@@ -1,8 +1,4 @@
-use Rattle.std.proofs.Common.{rules}
-use Rattle.replay.specs.Replay.{IsOneCall}
-use Rattle.interface.specs.Calls.{Calls}
-use Rattle.trace.specs.Traces.{Inside}
-use Rattle.replay.proofs.lemmas.{on_ok}
+use Rattle.trace.proofs.Common.{rules, IsOneCall, Calls, Inside, on_ok}
 use Rattle.trace.proofs.Rounds.Handing.{one_call_seen}
 use Rattle.trace.proofs.Rounds.Told.{one_element, one_ends}
 use Rattle.trace.proofs.events.trace_event.Goals as goal

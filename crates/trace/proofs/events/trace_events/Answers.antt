@@ -1,5 +1,4 @@
-use Rattle.interface.specs.Calls.{Calls}
-use Rattle.replay.proofs.lemmas.{on_ok}
+use Rattle.trace.proofs.Common.{Calls, on_ok}
 use Rattle.trace.specs.Traces.{Inside, StopsElement, TraceEnds, Traces}
 use Rattle.trace.proofs.Telling.{opened}
 use Rattle.trace.proofs.events.trace_events.Goals as goal

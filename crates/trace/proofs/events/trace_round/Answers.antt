@@ -1,7 +1,4 @@
-use Rattle.std.proofs.Common.{◌≡◌, Err, ap, arith, rules}
-use Rattle.interface.specs.Calls.{Calls}
-use Rattle.trace.specs.Elements.{begins_in}
-use Rattle.trace.specs.Traces.{Inside}
+use Rattle.trace.proofs.Common.{◌≡◌, Err, ap, arith, rules, Calls, begins_in, Inside}
 use Rattle.trace.proofs.Rounds.Told.{is_fault, over_here, round_early, round_ends, round_more, round_shorter}
 use Rattle.trace.proofs.events.trace_round.Goals as goal
 

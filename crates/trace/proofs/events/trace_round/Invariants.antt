@@ -1,6 +1,4 @@
-use Rattle.std.proofs.Common.{◌≡◌, IfSome, false, is_some, length, true}
-use Rattle.interface.specs.Calls.{Calls}
-use Rattle.trace.specs.Traces.{Inside}
+use Rattle.trace.proofs.Common.{◌≡◌, IfSome, false, is_some, length, true, Calls, Inside}
 use Rattle.trace.proofs.Rounds.Told.{InRound}
 use Rattle.trace.proofs.events.trace_round.Given as goal
 

@@ -1,7 +1,4 @@
-use Rattle.std.proofs.Common.{◌≡◌, drop, filter, length, map, not}
-use Rattle.trace.specs.Changes.{altered, is_told}
-use Rattle.trace.specs.Flows.{told}
-use Rattle.trace.specs.Joined.{extended}
+use Rattle.trace.proofs.Common.{◌≡◌, drop, filter, length, map, not, altered, is_told, told, extended}
 use Rattle.trace.proofs.flow_lists.add_altered.Given as goal
 
 -- with those that are left all are added

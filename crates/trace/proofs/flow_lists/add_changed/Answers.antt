@@ -1,8 +1,5 @@
-use Rattle.std.proofs.Common.{◌≡◌, ◌∙◌, ap, map}
-use Rattle.std.proofs.lemmas.Result.{IfOk-weaker}
+use Rattle.trace.proofs.Common.{◌≡◌, ◌∙◌, ap, map, IfOk-weaker, gone, told, extended}
 use Rattle.trace.specs.Changes.{altered, changed_flows, lost}
-use Rattle.trace.specs.Flows.{gone, told}
-use Rattle.trace.specs.Joined.{extended}
 use Rattle.trace.proofs.Changes.Extending.{extended_twice}
 use Rattle.trace.proofs.flow_lists.add_changed.Goals as goal
 

@@ -1,7 +1,5 @@
-use Rattle.std.proofs.Common.{◌≡◌, drop, filter, length, map, not}
+use Rattle.trace.proofs.Common.{◌≡◌, drop, filter, length, map, not, gone, extended}
 use Rattle.trace.specs.Changes.{lost, is_there}
-use Rattle.trace.specs.Flows.{gone}
-use Rattle.trace.specs.Joined.{extended}
 use Rattle.trace.proofs.flow_lists.add_lost.Given as goal
 
 -- with those that are left all are added

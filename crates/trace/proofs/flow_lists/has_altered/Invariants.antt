@@ -1,5 +1,4 @@
-use Rattle.std.proofs.Common.{◌≡◌, drop, filter, length, not}
-use Rattle.trace.specs.Changes.{altered, is_told}
+use Rattle.trace.proofs.Common.{◌≡◌, drop, filter, length, not, altered, is_told}
 use Rattle.trace.proofs.flow_lists.has_altered.Given as goal
 
 -- none before this place is among them

@@ -1,7 +1,4 @@
-use Rattle.std.proofs.Common.{◌<◌, ◌≤◌, ◌++◌, arith, codes, length, subst, ℕ, List, ◌∙◌}
-use Rattle.std.specs.Io.KnownBytes.{Appends}
-use Rattle.replay.proofs.lemmas.{on_ok}
-use Rattle.trace.specs.Texts.{listed}
+use Rattle.trace.proofs.Common.{◌<◌, ◌≤◌, ◌++◌, arith, codes, length, subst, ℕ, List, ◌∙◌, Appends, on_ok, listed}
 use Rattle.trace.proofs.Left.{all_printed, item_printed}
 use Rattle.trace.proofs.json.print_some.Goals as goal
 

@@ -1,5 +1,4 @@
-use Rattle.std.proofs.Common.{◌≡◌, ◌++◌, codes, drop, false, length}
-use Rattle.trace.specs.Texts.{listed}
+use Rattle.trace.proofs.Common.{◌≡◌, ◌++◌, codes, drop, false, length, listed}
 use Rattle.trace.proofs.Left.{Remains, left}
 use Rattle.trace.proofs.json.print_some.Given as goal
 

@@ -1,14 +1,7 @@
-use Rattle.std.proofs.Common.{◌≡◌, true, List, sym, subst, ◌∙◌}
-use Rattle.std.proofs.lemmas.List.Elements.{All-weaker}
-use Rattle.std.specs.List.{All}
-use Rattle.leader1822.specs.Boxes.{Boxes, WaitingAnswer, for_host}
-use Rattle.interface.specs.Host.{Host, is_host}
+use Rattle.trace.proofs.Common.{◌≡◌, true, List, sym, subst, ◌∙◌, All-weaker, All, Boxes, WaitingAnswer, for_host, Host, is_host, AreQueues, IsTold, IsValidAnswer, IsFlowNamed, IsHostNamed, part_text}
 use Rattle.interface.specs.declared.message.HostMessage.{HostMessage}
 use Rattle.script.specs.Spelling.{IsHost, IsMessage}
-use Rattle.trace.specs.Kept.{AreQueues, IsTold, IsValidAnswer}
-use Rattle.trace.specs.Named.{IsFlowNamed, IsHostNamed}
 use Rattle.trace.specs.Parts.{Part, Down, Waiting, IsPart}
-use Rattle.trace.specs.Texts.{part_text}
 use Rattle.trace.proofs.Queues.{same_queues}
 use Rattle.trace.proofs.Named.{SameQueues, flow_named, host_named, hosts_spelled, queues_once}
 use Rattle.trace.proofs.Keeping.{reached}

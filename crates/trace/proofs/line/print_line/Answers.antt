@@ -1,7 +1,4 @@
-use Rattle.std.proofs.Common.{List, ℕ, subst}
-use Rattle.std.specs.Io.KnownBytes.{Appends}
-use Rattle.interface.specs.declared.crossing.Crossing.{Crossing}
-use Rattle.replay.proofs.lemmas.{on_ok}
+use Rattle.trace.proofs.Common.{List, ℕ, subst, Appends, Crossing, on_ok}
 use Rattle.trace.specs.Joined.{fate_text, head_text, outcome_text}
 use Rattle.trace.proofs.Joined.{line_is, line_printed}
 use Rattle.trace.proofs.line.print_line.Goals as goal

@@ -1,7 +1,4 @@
-use Rattle.std.proofs.Common.{◌++◌, codes, map}
-use Rattle.replay.specs.Output.{shown_crossings, shown_refusal, shown_text}
-use Rattle.replay.specs.declared.print.Detail.TheVariants.{Sizes}
-use Rattle.replay.proofs.lemmas.{appends_more, on_ok}
+use Rattle.trace.proofs.Common.{◌++◌, codes, map, shown_crossings, shown_refusal, shown_text, Sizes, appends_more, on_ok}
 use Rattle.trace.specs.Texts.{array, crossing_object, strings}
 use Rattle.trace.proofs.Printed.{three}
 use Rattle.trace.proofs.line.print_outcome.Goals as goal

@@ -1,8 +1,5 @@
+use Rattle.trace.proofs.Common.{slice_get_read, Crossed, shown_crossings, shown_refusal, shown_text, Sizes, on_ok}
 use Rattle.std.proofs.Common.{◌≡◌, ◌++◌, Some, arith, length, slice_get}
-use Rattle.std.proofs.lemmas.Option.{slice_get_read}
-use Rattle.replay.specs.Output.{Crossed, shown_crossings, shown_refusal, shown_text}
-use Rattle.replay.specs.declared.print.Detail.TheVariants.{Sizes}
-use Rattle.replay.proofs.lemmas.{on_ok}
 use Rattle.trace.proofs.Joined.{crossed_at, one_more, shown_printed}
 use Rattle.trace.proofs.line.print_shown.Goals as goal
 

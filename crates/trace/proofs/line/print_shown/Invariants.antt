@@ -1,7 +1,4 @@
-use Rattle.std.proofs.Common.{◌≡◌, ◌≤◌, ◌++◌, false, length}
-use Rattle.std.specs.Io.KnownBytes.{Appends}
-use Rattle.replay.specs.Output.{shown_crossings, shown_refusal, shown_text}
-use Rattle.replay.specs.declared.print.Detail.TheVariants.{Sizes}
+use Rattle.trace.proofs.Common.{◌≡◌, ◌≤◌, ◌++◌, false, length, Appends, shown_crossings, shown_refusal, shown_text, Sizes}
 use Rattle.trace.proofs.Joined.{fronts}
 use Rattle.trace.proofs.line.print_shown.Given as goal
 

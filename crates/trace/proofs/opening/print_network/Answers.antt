@@ -1,6 +1,4 @@
-use Rattle.std.proofs.Common.{◌++◌, ap, codes, map, subst, ◌∙◌}
-use Rattle.std.specs.Io.KnownBytes.{Appends}
-use Rattle.replay.proofs.lemmas.{on_ok}
+use Rattle.trace.proofs.Common.{◌++◌, ap, codes, map, subst, ◌∙◌, Appends, on_ok}
 use Rattle.trace.specs.Texts.{array, bool_text, carrier_word, ends_text, site_text}
 use Rattle.trace.proofs.Joined.{network_is}
 use Rattle.trace.proofs.Printed.{five}

@@ -1,9 +1,5 @@
-use Rattle.std.proofs.Common.{codes, subst}
-use Rattle.std.specs.Io.KnownBytes.{Appends}
-use Rattle.replay.proofs.lemmas.{on_ok}
-use Rattle.trace.specs.Changes.{members_of}
+use Rattle.trace.proofs.Common.{codes, subst, Appends, on_ok, members_of, object}
 use Rattle.trace.specs.Joined.{network_front}
-use Rattle.trace.specs.Texts.{object}
 use Rattle.trace.proofs.Joined.{opening_is}
 use Rattle.trace.proofs.Printed.{three}
 use Rattle.trace.proofs.opening.print_opening.Goals as goal

@@ -1,6 +1,4 @@
-use Rattle.std.proofs.Common.{◌≡◌, ◌++◌, drop, map}
-use Rattle.trace.specs.Parts.{Waiting}
-use Rattle.trace.specs.Texts.{all_members, parts_members}
+use Rattle.trace.proofs.Common.{◌≡◌, ◌++◌, drop, map, Waiting, all_members, parts_members}
 use Rattle.trace.proofs.parts.all_members.Given as goal
 
 -- with those of the hosts that are left they are all

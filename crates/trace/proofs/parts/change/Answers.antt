@@ -1,11 +1,4 @@
-use Rattle.std.proofs.Common.{◌≡◌, ◌++◌, ◌+◌, ◌≤◌, ◌∙◌, List, ℕ, ap, arith, codes, length, rules, sym}
-use Rattle.std.proofs.lemmas.Result.{IfOk-weaker}
-use Rattle.interface.specs.Host.{Host}
-use Rattle.trace.specs.Changes.{changed, put_at, put_text}
-use Rattle.trace.specs.Joined.{mark}
-use Rattle.trace.specs.Parts.{Down}
-use Rattle.trace.specs.Steps.{OnlyReached}
-use Rattle.trace.specs.Texts.{all_members, member, object, part_name, part_text}
+use Rattle.trace.proofs.Common.{◌≡◌, ◌++◌, ◌+◌, ◌≤◌, ◌∙◌, List, ℕ, ap, arith, codes, length, rules, sym, IfOk-weaker, Host, changed, put_at, put_text, mark, Down, OnlyReached, all_members, member, object, part_name, part_text}
 use Rattle.trace.proofs.Changes.Extending.{ended_object}
 use Rattle.trace.proofs.Changes.Putting.{AllPut, all_put}
 use Rattle.trace.proofs.Changes.Reached.{begin_put, host_put, waiting_left, waiting_none}

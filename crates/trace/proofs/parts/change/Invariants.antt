@@ -1,6 +1,4 @@
-use Rattle.std.proofs.Common.{◌+◌}
-use Rattle.trace.specs.Steps.{OnlyReached}
-use Rattle.trace.specs.Texts.{all_members}
+use Rattle.trace.proofs.Common.{◌+◌, OnlyReached, all_members}
 use Rattle.trace.proofs.Changes.Putting.{PutSoFar}
 use Rattle.trace.proofs.Changes.Reached.{waiting_left}
 use Rattle.trace.proofs.parts.change.Given as goal

@@ -1,6 +1,4 @@
-use Rattle.leader1822.specs.Boxes.{for_host}
-use Rattle.replay.proofs.lemmas.{on_ok}
-use Rattle.trace.specs.Texts.{queues_text}
+use Rattle.trace.proofs.Common.{for_host, on_ok, queues_text}
 use Rattle.trace.proofs.PartByPart.{host_member}
 use Rattle.trace.proofs.parts.print_host_part.Goals as goal
 

@@ -1,4 +1,4 @@
-use Rattle.replay.proofs.lemmas.{on_ok}
+use Rattle.trace.proofs.Common.{on_ok}
 use Rattle.trace.proofs.PartByPart.{whole_more, whole_printed}
 use Rattle.trace.proofs.parts.print_whole.Goals as goal
 

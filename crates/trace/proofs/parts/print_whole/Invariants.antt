@@ -1,7 +1,5 @@
-use Rattle.std.proofs.Common.{◌≡◌, ◌∷◌, false, map, take}
-use Rattle.std.specs.Io.KnownBytes.{Appends}
+use Rattle.trace.proofs.Common.{◌≡◌, ◌∷◌, false, map, take, Appends, Down, Waiting}
 use Rattle.trace.specs.Joined.{begun}
-use Rattle.trace.specs.Parts.{Down, Waiting}
 use Rattle.trace.proofs.parts.print_whole.Given as goal
 
 abbrev pub invariant-loop-host : goal.invariant-loop-host

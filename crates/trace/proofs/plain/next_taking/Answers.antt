@@ -1,6 +1,4 @@
-use Rattle.std.proofs.Common.{◌≡◌, ◌<◌, ◌-◌, ℕ, suc, false, true, List, arith, get_or, length, refl, subst, sym, ◌∙◌}
-use Rattle.interface.specs.Host.{Host}
-use Rattle.trace.specs.Elements.{from_boxes, is_given}
+use Rattle.trace.proofs.Common.{◌≡◌, ◌<◌, ◌-◌, ℕ, suc, false, true, List, arith, get_or, length, refl, subst, sym, ◌∙◌, Host, from_boxes, is_given}
 use Rattle.trace.proofs.Courses.{passes, takes_here}
 use Rattle.trace.proofs.plain.next_taking.Goals.{else-times-gt0-via-then-times-gt0+else-is_given, else-times-gt0-via-else-times-gt0}
 use Rattle.trace.proofs.plain.next_taking.Goals as goal

@@ -1,12 +1,5 @@
-use Rattle.std.proofs.Common.{◌≡◌, ℕ, ap, length, subst, ◌∙◌}
-use Rattle.std.specs.Fmt.{decimal}
-use Rattle.std.specs.Io.KnownBytes.{Appends}
-use Rattle.hex.specs.Hex.{encode_upper}
-use Rattle.bit_messages.specs.Octets.{octets_of}
-use Rattle.interface.specs.Printed.{host_text}
-use Rattle.replay.proofs.lemmas.{on_ok}
+use Rattle.trace.proofs.Common.{◌≡◌, ℕ, ap, length, subst, ◌∙◌, decimal, Appends, encode_upper, octets_of, host_text, on_ok, quoted}
 use Rattle.trace.proofs.Printed.{crossed_front, crossed_printed}
-use Rattle.trace.specs.Texts.{quoted}
 use Rattle.trace.proofs.values.print_crossed.Goals as goal
 
 pub returns-clause-written : goal.returns-clause-written

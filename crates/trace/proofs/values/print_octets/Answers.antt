@@ -1,6 +1,4 @@
-use Rattle.std.proofs.Common.{◌≡◌, ◌∷◌, ◌++◌, ℕ, List, [], length, ap, subst, sym, ◌∙◌}
-use Rattle.std.specs.Io.KnownBytes.{Appends}
-use Rattle.replay.proofs.lemmas.{on_ok}
+use Rattle.trace.proofs.Common.{◌≡◌, ◌∷◌, ◌++◌, ℕ, List, [], length, ap, subst, sym, ◌∙◌, Appends, on_ok}
 use Rattle.trace.proofs.Printed.{no_octets}
 use Rattle.trace.proofs.values.print_octets.Goals as goal
 

@@ -1,10 +1,8 @@
-use Rattle.std.proofs.Common.{◌≡◌, ℕ, zero, suc, true, false, [], ◌∷◌, arith, refl, sym, ap, subst, ◌∙◌}
+use Rattle.trace.proofs.Common.{◌≡◌, ℕ, zero, suc, true, false, [], ◌∷◌, arith, refl, sym, ap, subst, ◌∙◌, is_lt, FlowPart}
 use Rattle.std.specs.Fmt.{digits}
 use Rattle.std.specs.List.Sorted.{IsStrictlySortedBy}
-use Rattle.std.specs.Ordering.{is_lt}
 use Rattle.trace.specs.Changes.{IsLostAt, is_there}
 use Rattle.trace.specs.Worked.{known}
-use Rattle.trace.specs.declared.flow_part.FlowPart.{FlowPart}
 use Rattle.trace.proofs.Changes.FlowLaws.{only_one}
 use Rattle.trace.proofs.worked.worked_flows.Goals as goal
 

@@ -1,9 +1,7 @@
-use Rattle.std.proofs.Common.{[], ◌∷◌, refl}
-use Rattle.std.specs.FinMap.{empty}
+use Rattle.trace.proofs.Common.{[], ◌∷◌, refl, empty, WaitingAnswer}
 use Rattle.std.specs.Fmt.{digits}
 use Rattle.hex.specs.Hex.{encode_with}
 use Rattle.bit_messages.specs.Octets.{octets_of}
-use Rattle.leader1822.specs.Boxes.{WaitingAnswer}
 use Rattle.interface.specs.declared.crossing.Answer.TheVariants as answer
 use Rattle.interface.specs.declared.message.HostMessage.{HostMessage}
 use Rattle.trace.specs.Worked.{first, flow, second, short, third}

@@ -1,7 +1,5 @@
-use Rattle.std.proofs.Common.{◌≡◌, List, [], ◌∷◌, refl, sym, ◌∙◌}
-use Rattle.std.specs.FinMap.{empty}
+use Rattle.trace.proofs.Common.{◌≡◌, List, [], ◌∷◌, refl, sym, ◌∙◌, empty, Host}
 use Rattle.leader1822.specs.Boxes.{for_host, with_queue}
-use Rattle.interface.specs.Host.{Host}
 use Rattle.interface.specs.declared.crossing.Answer.TheVariants as answer
 use Rattle.trace.specs.Worked.{first, flow, short, third}
 use Rattle.trace.proofs.Queues.{for_here, none_for}

@@ -1,8 +1,4 @@
-use Rattle.std.proofs.Common.{◌≡◌, ◌∙◌, ◌++◌, [], ap, codes, length, List, ℕ}
-use Rattle.std.proofs.lemmas.Result.{IfOk-weaker}
-use Rattle.trace.specs.Changes.{changed, changed_lists, changed_parts}
-use Rattle.trace.specs.Joined.{extended, mark}
-use Rattle.trace.specs.Texts.{object}
+use Rattle.trace.proofs.Common.{◌≡◌, ◌∙◌, ◌++◌, [], ap, codes, length, List, ℕ, IfOk-weaker, changed, changed_lists, changed_parts, extended, mark, object}
 use Rattle.trace.proofs.Changes.Extending.{ended_object, extended_twice}
 use Rattle.trace.proofs.all_parts.AllParts.changed.Goals as goal
 

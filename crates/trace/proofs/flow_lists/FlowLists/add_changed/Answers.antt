@@ -1,7 +1,4 @@
-use Rattle.std.proofs.Common.{◌<◌, arith, length, List, ℕ}
-use Rattle.trace.specs.Changes.{changed_lists}
-use Rattle.trace.specs.Joined.{extended}
-use Rattle.trace.specs.declared.flow_part.FlowPart.{FlowPart}
+use Rattle.trace.proofs.Common.{◌<◌, arith, length, List, ℕ, changed_lists, extended, FlowPart}
 use Rattle.trace.proofs.Changes.Flowing.{list_added}
 use Rattle.trace.proofs.flow_lists.FlowLists.add_changed.Goals as goal
 

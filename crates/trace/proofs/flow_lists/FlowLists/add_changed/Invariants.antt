@@ -1,6 +1,4 @@
-use Rattle.std.proofs.Common.{◌≡◌, drop, length}
-use Rattle.trace.specs.Changes.{changed_lists}
-use Rattle.trace.specs.Joined.{extended}
+use Rattle.trace.proofs.Common.{◌≡◌, drop, length, changed_lists, extended}
 use Rattle.trace.proofs.flow_lists.FlowLists.add_changed.Given as goal
 
 -- with the lists that are left all is added

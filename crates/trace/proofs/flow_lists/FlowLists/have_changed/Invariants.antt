@@ -1,5 +1,4 @@
-use Rattle.std.proofs.Common.{◌≡◌, drop, length}
-use Rattle.trace.specs.Changes.{changed_lists}
+use Rattle.trace.proofs.Common.{◌≡◌, drop, length, changed_lists}
 use Rattle.trace.proofs.flow_lists.FlowLists.have_changed.Given as goal
 
 -- nothing is other in the lists before this place

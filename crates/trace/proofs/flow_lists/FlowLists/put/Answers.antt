@@ -1,6 +1,4 @@
-use Rattle.std.proofs.Common.{◌∙◌, ap, List, slice_set}
-use Rattle.std.proofs.lemmas.List.{map-set}
-use Rattle.trace.specs.declared.flow_part.FlowPart.{FlowPart}
+use Rattle.trace.proofs.Common.{◌∙◌, ap, List, slice_set, map-set, FlowPart}
 use Rattle.trace.proofs.flow_lists.FlowLists.put.Goals as goal
 
 pub returns-clause-lists : goal.returns-clause-lists

@@ -1,7 +1,4 @@
-use Rattle.std.proofs.Common.{◌≡◌, ◌∙◌, ◌+◌, ◌<◌, [], ap, arith, drop, length, sym, List, ℕ}
-use Rattle.std.specs.Prelude.{slice_index_or}
-use Rattle.trace.specs.Changes.{changed}
-use Rattle.trace.specs.Joined.{extended}
+use Rattle.trace.proofs.Common.{◌≡◌, ◌∙◌, ◌+◌, ◌<◌, [], ap, arith, drop, length, sym, List, ℕ, slice_index_or, changed, extended}
 use Rattle.trace.proofs.Changes.Changing.{member_added, member_left_out, text_there}
 use Rattle.trace.proofs.members.Members.add_changed.Goals.{then-not-is_at+in_ok-text, else-not-is_at}
 use Rattle.trace.proofs.members.Members.add_changed.Goals as goal

@@ -1,6 +1,4 @@
-use Rattle.std.proofs.Common.{◌≡◌, drop, length}
-use Rattle.trace.specs.Changes.{changed}
-use Rattle.trace.specs.Joined.{extended}
+use Rattle.trace.proofs.Common.{◌≡◌, drop, length, changed, extended}
 use Rattle.trace.proofs.members.Members.add_changed.Given as goal
 
 -- with those that are left all are added

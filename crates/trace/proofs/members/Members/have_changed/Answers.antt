@@ -1,5 +1,4 @@
-use Rattle.std.proofs.Common.{◌≡◌, ◌∙◌, ◌<◌, [], arith, length, sym}
-use Rattle.std.specs.Prelude.{slice_index_or}
+use Rattle.trace.proofs.Common.{◌≡◌, ◌∙◌, ◌<◌, [], arith, length, sym, slice_index_or}
 use Rattle.trace.proofs.Changes.Changing.{next_same, some_changed, text_there}
 use Rattle.trace.proofs.members.Members.have_changed.Goals as goal
 

@@ -1,5 +1,4 @@
-use Rattle.std.proofs.Common.{◌≡◌, drop, length}
-use Rattle.trace.specs.Changes.{changed}
+use Rattle.trace.proofs.Common.{◌≡◌, drop, length, changed}
 use Rattle.trace.proofs.members.Members.have_changed.Given as goal
 
 -- no member before this place is other than it was

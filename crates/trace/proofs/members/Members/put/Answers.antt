@@ -1,5 +1,4 @@
-use Rattle.std.proofs.Common.{◌≡◌, ◌∙◌, List, ℕ, ◌++◌, ◌-◌, ap, drop, length, rules, slice_set, sym, take, true}
-use Rattle.trace.specs.Changes.{is_at, put_at}
+use Rattle.trace.proofs.Common.{◌≡◌, ◌∙◌, List, ℕ, ◌++◌, ◌-◌, ap, drop, length, rules, slice_set, sym, take, true, is_at, put_at}
 use Rattle.trace.proofs.Changes.Putting.{after_front, as_was}
 use Rattle.trace.proofs.members.Members.put.Goals.{then-is_at, else-is_at+in_ok-set}
 use Rattle.trace.proofs.members.Members.put.Goals as goal

@@ -1,5 +1,4 @@
-use Rattle.std.proofs.Common.{◌++◌, ◌∙◌, List, ℕ, ap, slice_set}
-use Rattle.std.proofs.lemmas.List.{map-set}
+use Rattle.trace.proofs.Common.{◌++◌, ◌∙◌, List, ℕ, ap, slice_set, map-set}
 use Rattle.trace.proofs.members.Members.set.Goals as goal
 
 pub returns : goal.returns

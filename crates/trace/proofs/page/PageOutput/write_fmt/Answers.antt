@@ -1,7 +1,6 @@
-use Rattle.std.proofs.Common.{◌≡◌, ◌++◌, ℕ, List, Option, Some, None, IfSome}
+use Rattle.trace.proofs.Common.{◌≡◌, ◌++◌, ℕ, List, Option, Some, None, IfSome, Appends}
 use Rattle.std.proofs.lemmas.Fmt.{contents_after_writes}
 use Rattle.std.specs.Fmt.{WritesText}
-use Rattle.std.specs.Io.KnownBytes.{Appends}
 use Rattle.trace.specs.declared.page.Page.{Page}
 use Rattle.trace.proofs.page.PageOutput.write_fmt.Goals as goal
 

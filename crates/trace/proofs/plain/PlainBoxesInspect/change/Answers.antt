@@ -1,13 +1,5 @@
-use Rattle.std.proofs.Common.{◌≡◌, ◌∙◌, ◌++◌, [], List, ap, ap₂, codes, length, rules, subst, sym, ℕ}
-use Rattle.std.proofs.lemmas.Result.{IfOk-weaker}
+use Rattle.trace.proofs.Common.{◌≡◌, ◌∙◌, ◌++◌, [], List, ap, ap₂, codes, length, rules, subst, sym, ℕ, IfOk-weaker, on_ok, changed, changed_parts, mark, all_members, object, HasHappened, plain_inside, AllParts, FlowPart}
 use Rattle.leader1822.specs.Boxes.{plain_calls}
-use Rattle.replay.proofs.lemmas.{on_ok}
-use Rattle.trace.specs.Changes.{changed, changed_parts}
-use Rattle.trace.specs.Joined.{mark}
-use Rattle.trace.specs.Texts.{all_members, object}
-use Rattle.trace.specs.Traces.{HasHappened, plain_inside}
-use Rattle.trace.specs.declared.all_parts.AllParts.{AllParts}
-use Rattle.trace.specs.declared.flow_part.FlowPart.{FlowPart}
 use Rattle.trace.proofs.Changes.Flowing.{none_changed_now, without_flows}
 use Rattle.trace.proofs.Changes.Reached.{only_reached, refused_texts}
 use Rattle.trace.proofs.plain.PlainBoxesInspect.change.Goals as goal

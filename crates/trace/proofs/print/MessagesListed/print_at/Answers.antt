@@ -1,7 +1,5 @@
+use Rattle.trace.proofs.Common.{Appends, for_host, on_ok}
 use Rattle.std.proofs.Common.{◌≡◌, Some, ap, option_copied, slice_get, subst, sym, ◌∙◌}
-use Rattle.std.specs.Io.KnownBytes.{Appends}
-use Rattle.leader1822.specs.Boxes.{for_host}
-use Rattle.replay.proofs.lemmas.{on_ok}
 use Rattle.trace.specs.Texts.{message_object}
 use Rattle.trace.proofs.Left.{text_at}
 use Rattle.trace.proofs.print.MessagesListed.print_at.Goals as goal

@@ -1,7 +1,4 @@
-use Rattle.std.proofs.Common.{ap, subst, sym, ◌∙◌}
-use Rattle.std.specs.Io.KnownBytes.{Appends}
-use Rattle.interface.specs.Printed.{host_text}
-use Rattle.replay.proofs.lemmas.{on_ok}
+use Rattle.trace.proofs.Common.{ap, subst, sym, ◌∙◌, Appends, host_text, on_ok}
 use Rattle.trace.specs.Texts.{crossing_object}
 use Rattle.trace.proofs.Printed.{down_is, up_is}
 use Rattle.trace.proofs.values.CrossingItem.print.Goals as goal
