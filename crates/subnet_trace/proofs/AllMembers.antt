@@ -1,8 +1,8 @@
 -- All parts of a subnet are listed, one after the other.
-use Rattle.subnet_trace.proofs.Common.{◌≡◌, ℕ, suc, ◌<◌, ◌≤◌, ◌+◌, ◌-◌, Bool, true, false, List, [], ◌∷◌, ◌++◌, filter, length, map, refl, sym, ap, ◌∙◌, arith, range_with_len, is_imp, Net, Imp, Line, all_parts, parts_members, named, append-nil}
-use Rattle.std.proofs.lemmas.List.{append_assoc}
-use Rattle.subnet_trace.specs.Parts.{Part}
-use Rattle.subnet_trace.specs.Printing.{imp_members}
+use Rattle.subnet_trace.proofs.Common.{◌≡◌, ℕ, suc, ◌<◌, ◌≤◌, ◌+◌, ◌-◌, Bool, true, false, List, [], ◌∷◌, ◌++◌, filter, length, map, refl, sym, ap, ◌∙◌, arith, range_with_len, is_imp, Net}
+use Rattle.subnet_trace.specs.Parts.{Imp, Line, all_parts, parts_members, Part}
+use Rattle.subnet_trace.specs.Printing.{named, imp_members}
+use Rattle.std.proofs.lemmas.List.{append-nil, append_assoc}
 
 -- those that are left from an IMP on, and from a line on
 abbrev pub imps_left : Net → ℕ → List (List ℕ)

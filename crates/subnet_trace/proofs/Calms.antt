@@ -1,21 +1,24 @@
 -- A calm of a subnet is its elementary events one after another.
-use Rattle.subnet_trace.proofs.Common.{◌≡◌, ◌<◌, ◌≤◌, ◌-◌, ◌&&◌, ◌||◌, ℕ, zero, suc, nat_lt, Bool, false, List, [], ◌∷◌, ◌++◌, if◌then◌else◌, length, Option, Some, None, Result, Ok, Err, is_none, is_some, slice_get, refl, sym, ap, ◌∙◌, subst, arith, false≢true, lt-ltb, nat_tests, get_or_past, length-map, All-cons, All-nil, All-weaker, All, range_with_len, is_halt, is_memory, Host, CarrierFault, Inbound, NetEvent, Crossing, Direction, Frame, from_line, resend, route, holds_packet, ImpTurn, State, to_host, Shown, shown_crossings, AllTake, GoesOn, Happens, IsOneCall, Quiet, Replays, calmly, outcome_of, RawEvent, Fails, Kept, refusal_of, running, take_grows, all_refreshed, all_turns, at_imp, carried, crossings_of, deliver, delivered, drop_frame, frame_refusal, imp_refusal, is_imp, quiet_round, refreshed, step_refusal, stepped, take_refusal, taken_by_host, turn_of, imp_is_up, Net, Wire, far_end, frames_on, imp_at, no_wire, port_of, wire_at, all_refreshing, all_turning, calling, can_resend, carrying, delivering, from_subnet, is_heard, is_working, live_frames, numbers_from, refreshing, round_from_line, round_of, round_of_hosts, sending, telling, turning, subnet_calls, IsPlaced, Course, no_course, then_course, goes_calmly, or_first, then_twice, round_log, AllRoundsGo, Goes, Traced}
-use Rattle.std.proofs.Common.{true}
-use Rattle.interface.specs.Calls.{crossing_of}
+use Rattle.subnet_trace.proofs.Common.{nat_tests, get_or_past, length-map, All-cons, All-nil, All-weaker, All, range_with_len, Host, CarrierFault, Inbound, NetEvent, Crossing, Direction, Frame, from_line, resend, route, holds_packet, ImpTurn, State, to_host, RawEvent, imp_is_up, Net, Wire, far_end, frames_on, imp_at, no_wire, port_of, wire_at, subnet_calls, IsPlaced}
+use Rattle.std.proofs.Common.{◌≡◌, ◌<◌, ◌≤◌, ◌-◌, ◌&&◌, ◌||◌, ℕ, zero, suc, nat_lt, Bool, false, List, [], ◌∷◌, ◌++◌, if◌then◌else◌, length, Option, Some, None, Result, Ok, Err, is_none, is_some, slice_get, refl, sym, ap, ◌∙◌, subst, arith, true}
+use Rattle.std.proofs.lemmas.Bool.{false≢true, lt-ltb}
+use Rattle.interface.specs.Calls.{is_halt, is_memory, crossing_of}
+use Rattle.replay.specs.Output.{Shown, shown_crossings, Crossed}
+use Rattle.replay.specs.Replay.{AllTake, GoesOn, Happens, IsOneCall, Quiet, Replays, calmly, outcome_of}
+use Rattle.subnet.specs.Calls.{Fails, Kept, refusal_of, running, take_grows, round_grows}
+use Rattle.subnet.specs.Events.{all_refreshed, all_turns, at_imp, carried, crossings_of, deliver, delivered, drop_frame, frame_refusal, imp_refusal, is_imp, quiet_round, refreshed, step_refusal, stepped, take_refusal, taken_by_host, turn_of, first_of}
+use Rattle.subnet_trace.specs.Elements.{all_refreshing, all_turning, calling, can_resend, carrying, delivering, from_subnet, is_heard, is_working, live_frames, numbers_from, refreshing, round_from_line, round_of, round_of_hosts, sending, telling, turning, IsOfRound, dropping, elements_of}
+use Rattle.trace.specs.Elements.{Course, no_course, then_course, all_takings, events_of}
+use Rattle.trace.proofs.lemmas.{goes_calmly, or_first, then_twice, AllRoundsGo, Goes, Traced, AllEvents, AllTakeSo, TakesSo, all_takings_events, calm_holds, crossings_are, elementary_of, goes_all, goes_chain, goes_none, goes_then, none_events, one_events, rounds_events, run_one, then_events}
+use Rattle.subnet.proofs.lemmas.{round_log}
 use Rattle.interface.specs.declared.CarrierFault.TheVariants as fault
 use Rattle.interface.specs.declared.NetEvent.TheVariants as net
 use Rattle.interface.specs.declared.event.Direction.TheVariants as way
-use Rattle.replay.specs.Output.{Crossed}
 use Rattle.script.specs.declared.event.RawEvent.TheVariants as event
 use Rattle.subnet.specs.Alive.{says}
-use Rattle.subnet.specs.Calls.{round_grows}
-use Rattle.subnet.specs.Events.{first_of}
-use Rattle.subnet_trace.specs.Elements.{IsOfRound, dropping, elements_of}
 use Rattle.subnet_trace.proofs.Rest.{is_there, network, not_some, placed, some_is}
 use Rattle.subnet_trace.proofs.Settled.{IsSettled, quiet_settled, take_settled}
 use Rattle.subnet_trace.proofs.Nothing.{none_carried, none_resent, none_taken, still_live}
-use Rattle.trace.specs.Elements.{all_takings, events_of}
-use Rattle.trace.proofs.lemmas.{AllEvents, AllTakeSo, TakesSo, all_takings_events, calm_holds, crossings_are, elementary_of, goes_all, goes_chain, goes_none, goes_then, none_events, one_events, rounds_events, run_one, then_events}
 
 -- ---- what holds all the while
 

@@ -1,6 +1,6 @@
 -- What becomes of a frame that is delivered.
-use Rattle.subnet_trace.proofs.Common.{◌≡◌, ℕ, Option, Some, ap, slice_get, ◌∙◌, Frame, State, Direction, Net, Wire, far_end, frames_on, imp_at, port_of, wire_at, end_fate}
-use Rattle.subnet_trace.specs.Fates.{frame_fate, imp_fate}
+use Rattle.subnet_trace.proofs.Common.{◌≡◌, ℕ, Option, Some, ap, slice_get, ◌∙◌, Frame, State, Direction, Net, Wire, far_end, frames_on, imp_at, port_of, wire_at}
+use Rattle.subnet_trace.specs.Fates.{end_fate, frame_fate, imp_fate}
 
 -- the frame at this place of this line, at this IMP
 pub fate_is : (n : Net) (l k : ℕ) (d : Direction) (w : Wire) (f : Frame) (s : State) → wire_at n.lines l ≡ w → slice_get (frames_on d w) k ≡ Some f → imp_at n.imps (far_end d w) ≡ Some s

@@ -1,9 +1,10 @@
 -- The flows of all IMPs are listed, and those that an event can have changed are put in the place of those before.
-use Rattle.subnet_trace.proofs.Common.{◌≡◌, ℕ, zero, suc, ◌<◌, ◌≤◌, ◌+◌, ◌-◌, Bool, true, false, List, [], ◌∷◌, ◌++◌, filter, if◌then◌else◌, length, map, slice_set, refl, sym, ap, ap₂, ◌∙◌, arith, subst, Option, range_with_len, State, is_imp, Net, imp_at, has_imp, Scope, append-nil, length-append, flat_map, all_flows, flows_at, changed_at, flows_there, HasFlowsIn, kept_of, sources_of, changed_flows, changed_lists, extended, FlowPart, extended_twice}
-use Rattle.std.proofs.lemmas.List.{append_assoc}
+use Rattle.subnet_trace.proofs.Common.{◌≡◌, ℕ, zero, suc, ◌<◌, ◌≤◌, ◌+◌, ◌-◌, Bool, true, false, List, [], ◌∷◌, ◌++◌, filter, if◌then◌else◌, length, map, slice_set, refl, sym, ap, ap₂, ◌∙◌, arith, subst, Option, range_with_len, flat_map, State, is_imp, Net, imp_at, has_imp, HasFlowsIn, Scope, kept_of, sources_of, changed_flows, changed_lists, extended, FlowPart}
+use Rattle.std.proofs.lemmas.List.{append-nil, length-append, append_assoc}
+use Rattle.subnet_trace.specs.Parts.{all_flows, flows_at}
+use Rattle.subnet_trace.specs.Printing.{changed_at, flows_there, put_lists}
+use Rattle.trace.proofs.lemmas.{extended_twice, no_flow_changed}
 use Rattle.std.specs.Prelude.{slice_index_or}
-use Rattle.subnet_trace.specs.Printing.{put_lists}
-use Rattle.trace.proofs.lemmas.{no_flow_changed}
 
 -- ---- all lists, one IMP after the other
 

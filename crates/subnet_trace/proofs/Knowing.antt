@@ -1,34 +1,33 @@
 -- What an IMP keeps of flows and channels can be printed, after each of its calls.
-use Rattle.subnet_trace.proofs.Common.{◌≡◌, ℕ, zero, suc, ◌+◌, ◌<◌, Bool, true, false, List, [], ◌∷◌, ◌++◌, if◌then◌else◌, length, map, Option, Some, None, Result, Ok, Err, refl, sym, ap, subst, arith, length-set, All-append, All-cons, All-head, All-nil, All-set, All-tail, All, HostMessage, Flow, Sources, handed, Fate, PacketFields, flow_of, PacketKind, carried_by, End, answer_to, is_free, submitted_on, Channel, ChannelFault, Content, Frame, Received, Table, next_of, vector_of, arrival, arrival_has_room, arrived, frame_taken, from_line, ignored, taken_frame, resend, resent_from, route, told_from, from_host, Pumped, packet_sent, pump, pumped, sent_on, target, HostState, ImpTurn, State, down_port, host_at, port_at, taken_by, to_host, Outgoing, Port, Message, Told, IsAnswerTold, IsFlowNamed, IsHostTold, IsKeptTold, IsMessageTold, IsPacketTold, IsSourceTold}
-use Rattle.std.proofs.Common.{replicate}
+use Rattle.subnet_trace.proofs.Common.{length-set, All, HostMessage, Flow, Fate, PacketFields, flow_of, PacketKind, carried_by, Channel, ChannelFault, Content, Frame, Received, Table, next_of, vector_of, Outgoing, Port, Message, Told}
+use Rattle.std.proofs.Common.{◌≡◌, ℕ, zero, suc, ◌+◌, ◌<◌, Bool, true, false, List, [], ◌∷◌, ◌++◌, if◌then◌else◌, length, map, Option, Some, None, Result, Ok, Err, refl, sym, ap, subst, arith, replicate}
+use Rattle.std.proofs.lemmas.List.Elements.{All-append, All-cons, All-head, All-nil, All-set, All-tail, All-map, All-push, All-replicate}
+use Rattle.link_table.specs.Flows.{Sources, handed, release_in}
+use Rattle.imp_channel.specs.Line.{End, answer_to, is_free, submitted_on, all_acknowledged, channel_at, expected_after, frames_from, frames_of, holding, is_foreign, resent, routes_frame, state_after, submitted}
+use Rattle.imp_node.specs.Arrival.{arrival, arrival_has_room, arrived, frame_taken, from_line, ignored, taken_frame, Answering, Arrival, NoSlot, Old, Passing, Piece, Replying, Undeliverable, Unmarked}
+use Rattle.imp_node.specs.Lines.{resend, resent_from, route, told_from, end_down, end_up, on_port, resent_by, told_by}
+use Rattle.imp_node.specs.Offering.{from_host, Away, Here, Nowhere, Way, offered, way_of}
+use Rattle.imp_node.specs.Pump.{Pumped, packet_sent, pump, pumped, sent_on, target, stored}
+use Rattle.imp_node.specs.State.{HostState, ImpTurn, State, down_port, host_at, port_at, is_up, no_host, opening_node, up_host, up_port, with_host}
+use Rattle.imp_node.specs.Taking.{taken_by, to_host, is_from_here, replied, reply_has_room}
+use Rattle.subnet_trace.specs.Told.{IsAnswerTold, IsFlowNamed, IsHostTold, IsKeptTold, IsMessageTold, IsPacketTold, IsSourceTold, IsShort}
 use Rattle.std.proofs.lemmas.List.Quantifiers.{position-Some}
-use Rattle.std.proofs.lemmas.List.Elements.{All-map, All-push, All-replicate}
 use Rattle.std.specs.FinMap as fin
 use Rattle.std.specs.Prelude.{position, slice_index_or}
 use Rattle.interface.specs.declared.crossing.Answer.{Answer}
 use Rattle.interface.specs.declared.crossing.Answer.TheVariants as answer
-use Rattle.link_table.specs.Flows.{release_in}
 use Rattle.link_table.specs.declared.destination.Fate.TheVariants as fate
 use Rattle.link_table.specs.declared.source.Release.{Release}
 use Rattle.link_table.specs.declared.source.Release.TheVariants as release
 use Rattle.packetiser.specs.declared.packet.PacketKind.TheVariants as kind
-use Rattle.imp_channel.specs.Line.{all_acknowledged, channel_at, expected_after, frames_from, frames_of, holding, is_foreign, resent, routes_frame, state_after, submitted}
 use Rattle.imp_channel.specs.declared.frame.Content.TheVariants as content
 use Rattle.imp_channel.specs.declared.line.Received.TheVariants as received
 use Rattle.imp_channel.proofs.lemmas.{fresh_carried}
-use Rattle.imp_node.specs.Arrival.{Answering, Arrival, NoSlot, Old, Passing, Piece, Replying, Undeliverable, Unmarked}
 use Rattle.imp_node.specs.Arrival as arrivals
 use Rattle.imp_node.specs.Asking.{ask, asked_by}
 use Rattle.imp_node.specs.Flows.{answer_packet, answer_queued, answered_by, fated, freed, given, message_queued, next_number, noted, with_begun}
-use Rattle.imp_node.specs.Lines.{end_down, end_up, on_port, resent_by, told_by}
-use Rattle.imp_node.specs.Offering.{Away, Here, Nowhere, Way, offered, way_of}
-use Rattle.imp_node.specs.Pump.{stored}
 use Rattle.imp_node.specs.Queries.{outstanding}
-use Rattle.imp_node.specs.State.{is_up, no_host, opening_node, up_host, up_port, with_host}
-use Rattle.imp_node.specs.Stopping.{abandon, forget, give_up, host_down, host_up}
-use Rattle.imp_node.specs.Stopping.{all_handed, all_returned, message_returned, stopped}
-use Rattle.imp_node.specs.Taking.{is_from_here, replied, reply_has_room}
-use Rattle.subnet_trace.specs.Told.{IsShort}
+use Rattle.imp_node.specs.Stopping.{abandon, forget, give_up, host_down, host_up, all_handed, all_returned, message_returned, stopped}
 use Rattle.subnet_trace.proofs.Tables.{TableHas, answered_has, begun_has, dropped_has, ended_has, given_up_has, handed_has, none_has, noted_has, number_short}
 
 -- ---- what is known

@@ -1,15 +1,20 @@
 -- All that is in a subnet can be printed after each event, if it could be before.
-use Rattle.subnet_trace.proofs.Common.{◌≡◌, ℕ, zero, suc, ◌+◌, List, [], ◌∷◌, length, map, Option, Some, None, IfSome, slice_get, refl, ap, ◌∙◌, arith, length-set, All-cons, All-head, All-nil, All-set, All-tail, All-weaker, All, Host, HostMessage, NetEvent, Crossing, Direction, PacketFields, SlotState, carried_by, Channel, Content, Frame, from_line, resend, route, ImpTurn, State, from_host, to_host, Port, IsNetEvent, at_imp, deliver, delivered, drop_frame, imp_started, imp_stopped, offer_out, quiet_round, site_at, stepped, step_refusal, take_in, Net, Wire, ends_at, far_end, frames_on, imp_at, port_of, wire_at, with_turn, opened_from, opened_imp, opening_subnet, IsSound, Ends, IsChannelTold, IsContentTold, IsFlowNamed, IsFrameTold, IsHeardTold, IsKeptTold, IsLineTold, IsOneNetwork, IsPacketTold, IsPieceTold, IsPlaced, IsPortTold, IsSlotTold, IsSourceTold, IsTold, IsToldAt, flow_named}
-use Rattle.std.proofs.Common.{count_by}
+use Rattle.subnet_trace.proofs.Common.{length-set, All, Host, HostMessage, NetEvent, Crossing, Direction, carried_by, Channel, Content, Frame, from_line, resend, route, ImpTurn, State, from_host, to_host, Port, Ends}
+use Rattle.std.proofs.Common.{◌≡◌, ℕ, zero, suc, ◌+◌, List, [], ◌∷◌, length, map, Option, Some, None, IfSome, slice_get, refl, ap, ◌∙◌, arith, count_by}
+use Rattle.std.proofs.lemmas.List.Elements.{All-cons, All-head, All-nil, All-set, All-tail, All-weaker}
+use Rattle.packetiser.specs.PacketFields.{PacketFields, IsPacket}
+use Rattle.packetiser.specs.Slots.{SlotState, IsPieceFor, IsSlot}
+use Rattle.script.specs.Spelling.{IsNetEvent}
+use Rattle.subnet.specs.Events.{at_imp, deliver, delivered, drop_frame, imp_started, imp_stopped, offer_out, quiet_round, site_at, stepped, step_refusal, take_in, hosts_at, started_imp}
+use Rattle.subnet.specs.Net.{Net, Wire, ends_at, far_end, frames_on, imp_at, port_of, wire_at, with_turn}
+use Rattle.subnet.specs.Opening.{opened_from, opened_imp, opening_subnet, empty_wire}
+use Rattle.subnet.specs.Sound.{IsSound, IsAt}
+use Rattle.subnet_trace.specs.Told.{IsChannelTold, IsContentTold, IsFlowNamed, IsFrameTold, IsHeardTold, IsKeptTold, IsLineTold, IsOneNetwork, IsPacketTold, IsPieceTold, IsPlaced, IsPortTold, IsSlotTold, IsSourceTold, IsTold, IsToldAt}
+use Rattle.trace.proofs.lemmas.{flow_named}
 use Rattle.interface.specs.declared.NetEvent.TheVariants as net
-use Rattle.packetiser.specs.PacketFields.{IsPacket}
-use Rattle.packetiser.specs.Slots.{IsPieceFor, IsSlot}
 use Rattle.imp_channel.specs.declared.frame.Content.TheVariants as content
 use Rattle.imp_channel.proofs.lemmas.{ContentHas}
-use Rattle.subnet.specs.Events.{hosts_at, started_imp}
-use Rattle.subnet.specs.Opening.{empty_wire}
 use Rattle.subnet.specs.Routed.{FrameTells, HeardVector, ImpHeard, TellsVector, WireTells}
-use Rattle.subnet.specs.Sound.{IsAt}
 use Rattle.subnet.specs.Working.{IsWhole}
 use Rattle.subnet.proofs.lemmas.{FrameHas, GotHas, ImpHas, Keeps, NetHas, WireHas, WireHolds, deliver_sound, drop_sound, dropped_holds, got_has, imp_has, packets_net, put_all_holds, resend_sound, round_keeps, route_sound, way_holds, wire_holds}
 use Rattle.subnet_trace.proofs.Knowing.{ContentFits, FrameFits, Knows, TurnKnows, abandon_knows, ask_knows, end_down_knows, end_up_knows, forget_knows, from_host_knows, from_line_knows, give_up_knows, host_down_knows, host_up_knows, opening_knows, resend_knows, route_knows, started_knows, to_host_knows}

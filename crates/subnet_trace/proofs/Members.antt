@@ -1,11 +1,7 @@
 -- The members of an object are printed one after the other.
-use Rattle.subnet_trace.proofs.Common.{◌≡◌, ℕ, List, [], ◌∷◌, ◌++◌, codes, Option, subst, Appends, Appends-trans, member, object, quoted, five, three}
-use Rattle.std.proofs.Common.{◌∙◌, Bool, None, Some, ap, drop, false, is_some, map, refl, true}
-use Rattle.std.specs.List.{flat_map}
+use Rattle.subnet_trace.proofs.Common.{Appends, Appends-trans, member, object, quoted, array, further, five, three, flat_map, PacketFields, channel_text}
+use Rattle.std.proofs.Common.{◌≡◌, ℕ, List, [], ◌∷◌, ◌++◌, codes, Option, subst, ◌∙◌, Bool, None, Some, ap, drop, false, is_some, map, refl, true}
 use Rattle.std.proofs.lemmas.List.{append_assoc}
-use Rattle.packetiser.specs.PacketFields.{PacketFields}
-use Rattle.subnet_trace.specs.Texts.{channel_text}
-use Rattle.trace.specs.Texts.{array, further}
 
 -- ---- packets and messages
 

@@ -1,9 +1,10 @@
 -- The calls of a subnet leave a replay no choice.
-use Rattle.subnet_trace.proofs.Common.{true, ◌≡◌, ◌||◌, Bool, false, [], Option, None, Result, Ok, Err, sym, ap, subst, ◌∙◌, false≢true, Host, GoesOn, outcome_of, Fails, Kept, refusal_of, running, subnet_calls, is_halt, is_memory, CarrierFault, Inbound, Decided, SubnetRound, SubnetTake, round_log}
+use Rattle.subnet_trace.proofs.Common.{true, ◌≡◌, ◌||◌, Bool, false, [], Option, None, Result, Ok, Err, sym, ap, subst, ◌∙◌, false≢true, Host, GoesOn, outcome_of, Fails, Kept, refusal_of, running, Decided, is_halt, is_memory, CarrierFault, Inbound}
+use Rattle.subnet.specs.Working.{subnet_calls, SubnetRound, SubnetTake}
+use Rattle.subnet.proofs.lemmas.{round_log, take_log}
 use Rattle.replay.specs.Settled.{AreSettled, Grows, SameEnd}
 use Rattle.subnet.specs.Calls as subnet
 use Rattle.subnet.specs.Events as events
-use Rattle.subnet.proofs.lemmas.{take_log}
 use Rattle.trace.proofs.lemmas.{Continues, IsDecided, goes_as, goes_back, same_answer, same_step}
 use Rattle.interface.proofs.lemmas.{or_second}
 

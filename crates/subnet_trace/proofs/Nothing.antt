@@ -1,10 +1,13 @@
 -- Calls that change nothing: those that a calm makes beside its elementary events.
-use Rattle.subnet_trace.proofs.Common.{◌≡◌, ◌<◌, ◌==◌, ◌⊎◌, inl, inr, ℕ, zero, suc, nat_lt, Bool, true, false, List, [], ◌∷◌, ◌++◌, if◌then◌else◌, length, Option, Some, None, slice_get, slice_set, refl, sym, ap, ◌∙◌, subst, arith, nil_from_length, set-get_or, Host, Direction, Frame, resend, pump, holds_packet, ImpTurn, State, host_at, taken_by, to_host, Outgoing, Message, Told, at_imp, carried, crossings_of, deliver, delivered, drop_frame, take_in, taken_by_host, Net, Wire, far_end, followed_by, frames_on, imp_at, line_from, no_wire, put_all, put_on, put_one, wire_at, with_frame, with_turn, live_frames, length-append}
+use Rattle.subnet_trace.proofs.Common.{◌≡◌, ◌<◌, ◌==◌, ◌⊎◌, inl, inr, ℕ, zero, suc, nat_lt, Bool, true, false, List, [], ◌∷◌, ◌++◌, if◌then◌else◌, length, Option, Some, None, slice_get, slice_set, refl, sym, ap, ◌∙◌, subst, arith, Host, Direction, Frame, resend, pump, holds_packet, Outgoing, Message, Told}
+use Rattle.std.proofs.lemmas.List.{nil_from_length, set-get_or, length-append}
+use Rattle.imp_node.specs.State.{ImpTurn, State, host_at}
+use Rattle.imp_node.specs.Taking.{taken_by, to_host, first_of}
+use Rattle.subnet.specs.Events.{at_imp, carried, crossings_of, deliver, delivered, drop_frame, take_in, taken_by_host, given_at, logging}
+use Rattle.subnet.specs.Net.{Net, Wire, far_end, followed_by, frames_on, imp_at, line_from, no_wire, put_all, put_on, put_one, wire_at, with_frame, with_turn, line_places}
+use Rattle.subnet_trace.specs.Elements.{live_frames}
 use Rattle.interface.specs.declared.event.Direction.TheVariants as way
-use Rattle.imp_node.specs.Taking.{first_of}
 use Rattle.imp_node.proofs.lemmas.{resending_rests}
-use Rattle.subnet.specs.Events.{given_at, logging}
-use Rattle.subnet.specs.Net.{line_places}
 use Rattle.subnet.specs.Net as lines
 use Rattle.subnet_trace.proofs.Rest.{not_some}
 use Rattle.subnet_trace.proofs.Settled.{IsSettled, IsSettledAt, set_at}

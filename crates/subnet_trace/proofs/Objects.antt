@@ -1,11 +1,15 @@
 -- Texts of frames, hosts, ports and slots are closed, and no two alike.
-use Rattle.subnet_trace.proofs.Common.{◌≡◌, ℕ, suc, ◌+◌, ◌<◌, ◌≤◌, nat_lt, Bool, true, false, List, [], ◌∷◌, ◌++◌, codes, if◌then◌else◌, length, map, Option, Some, None, refl, sym, ap, ap₂, ◌∙◌, arith, subst, nat_tests, All-cons, All-head, All-nil, All-tail, All-weaker, decimal, All, PacketFields, SlotState, Table, next_of, infinite, Carriage, Content, Frame, HostState, Port, array, bool_text, member, quoted, AreClosed, IsClosed, Spelled, also_closed, decimal_closed, first_same, lists_spelled, member_once, none_closed, object_closed, object_once, rest_same, short_once, bit_text, bits_text, channel_text, content_members, distances_text, finite_from, frame_text, heard_text, host_object, next_from, next_members, packet_text, port_object, slot_text, told_text, whole_text, IsAnswerTold, IsChannelTold, IsContentTold, IsFrameTold, IsHeardTold, IsHostTold, IsMessageTold, IsPacketTold, IsPieceTold, IsPortTold, IsSlotTold}
-use Rattle.std.proofs.Common.{lit<, append_assoc}
-use Rattle.routing.specs.Vector.{IsVector}
+use Rattle.subnet_trace.proofs.Common.{nat_tests, All-cons, All-head, All-nil, All-tail, All-weaker, decimal, All, PacketFields, Table, next_of, Carriage, Content, Frame, Port, array, bool_text, member, quoted}
+use Rattle.std.proofs.Common.{◌≡◌, ℕ, suc, ◌+◌, ◌<◌, ◌≤◌, nat_lt, Bool, true, false, List, [], ◌∷◌, ◌++◌, codes, if◌then◌else◌, length, map, Option, Some, None, refl, sym, ap, ap₂, ◌∙◌, arith, subst, lit<, append_assoc}
+use Rattle.packetiser.specs.Slots.{SlotState}
+use Rattle.routing.specs.Vector.{infinite, IsVector}
+use Rattle.imp_node.specs.State.{HostState}
+use Rattle.trace.proofs.lemmas.{AreClosed, IsClosed, Spelled, also_closed, decimal_closed, first_same, lists_spelled, member_once, none_closed, object_closed, object_once, rest_same, short_once, decimal_lacks, member_closed}
+use Rattle.subnet_trace.specs.Texts.{bit_text, bits_text, channel_text, content_members, distances_text, finite_from, frame_text, heard_text, host_object, next_from, next_members, packet_text, port_object, slot_text, told_text, whole_text}
+use Rattle.subnet_trace.specs.Told.{IsAnswerTold, IsChannelTold, IsContentTold, IsFrameTold, IsHeardTold, IsHostTold, IsMessageTold, IsPacketTold, IsPieceTold, IsPortTold, IsSlotTold}
 use Rattle.imp_channel.specs.declared.frame.Content.TheVariants as content
 use Rattle.script.proofs.lemmas.{SameCut, same_cut}
 use Rattle.trace.specs.Named.{IsShort}
-use Rattle.trace.proofs.lemmas.{decimal_lacks, member_closed}
 use Rattle.subnet_trace.proofs.Spelling.{bit_spelled, bits_spelled, bool_spelled, channel_spelled, packet_spelled, told_spelled, whole_spelled, word_closed}
 use Rattle.subnet_trace.proofs.Spelling.{none_left}
 

@@ -1,15 +1,19 @@
 -- A calm of a subnet continues.
-use Rattle.subnet_trace.proofs.Common.{◌≡◌, ℕ, suc, ◌+◌, ◌-◌, ◌<◌, ◌&&◌, nat_lt, not, is_none, is_some, Bool, List, [], if◌then◌else◌, length, Option, Some, None, Result, Ok, Err, slice_get, slice_set, refl, sym, ap, ◌∙◌, subst, arith, ltb-false, get_or_past, nil_from_length, set-get_or, is_halt, is_memory, Host, CarrierFault, Inbound, NetEvent, Direction, Frame, State, Shown, GoesOn, Happens, IsOneCall, outcome_of, RawEvent, Kept, refusal_of, step_grows, take_grows, SubnetStep, SubnetTake, subnet_calls, accepted, at_up, deliver, delivered, drop_frame, frame_refusal, gives, imp_refusal, is_imp, step_refusal, stepped, take_in, take_refusal, taken_by_host, imp_is_up, Net, Wire, frames_on, imp_at, no_wire, wire_at, Course, no_course, rounds_from, then_course, GoesOnWith, or_first, calm_left, is_working, round_left, round_of, IsNext, Stage, Element}
-use Rattle.std.proofs.Common.{true, false}
+use Rattle.subnet_trace.proofs.Common.{is_halt, is_memory, Host, CarrierFault, Inbound, NetEvent, Direction, Frame, State, Shown, GoesOn, Happens, IsOneCall, outcome_of, RawEvent, Kept, refusal_of, step_grows, take_grows, imp_is_up, GoesOnWith, Stage, Element}
+use Rattle.std.proofs.Common.{◌≡◌, ℕ, suc, ◌+◌, ◌-◌, ◌<◌, ◌&&◌, nat_lt, not, is_none, is_some, Bool, List, [], if◌then◌else◌, length, Option, Some, None, Result, Ok, Err, slice_get, slice_set, refl, sym, ap, ◌∙◌, subst, arith, true, false}
+use Rattle.std.proofs.lemmas.Bool.{ltb-false}
+use Rattle.std.proofs.lemmas.List.{get_or_past, nil_from_length, set-get_or}
+use Rattle.subnet.specs.Working.{SubnetStep, SubnetTake, subnet_calls}
+use Rattle.subnet.specs.Events.{accepted, at_up, deliver, delivered, drop_frame, frame_refusal, gives, imp_refusal, is_imp, step_refusal, stepped, take_in, take_refusal, taken_by_host, first_of}
+use Rattle.subnet.specs.Net.{Net, Wire, frames_on, imp_at, no_wire, wire_at, dropping, without_at}
+use Rattle.trace.specs.Elements.{Course, no_course, rounds_from, then_course, rest_of_calm}
+use Rattle.trace.proofs.lemmas.{or_first, idle_rounds}
+use Rattle.subnet_trace.specs.Elements.{calm_left, is_working, round_left, round_of}
+use Rattle.subnet_trace.specs.Steps.{IsNext, MayCall, MayCome, after}
 use Rattle.interface.specs.declared.CarrierFault.TheVariants as fault
 use Rattle.interface.specs.declared.NetEvent.TheVariants as net
 use Rattle.interface.specs.declared.event.Direction.TheVariants as way
 use Rattle.script.specs.declared.event.RawEvent.TheVariants as event
-use Rattle.subnet.specs.Events.{first_of}
-use Rattle.subnet.specs.Net.{dropping, without_at}
-use Rattle.trace.specs.Elements.{rest_of_calm}
-use Rattle.trace.proofs.lemmas.{idle_rounds}
-use Rattle.subnet_trace.specs.Steps.{MayCall, MayCome, after}
 use Rattle.subnet_trace.specs.declared.place.Place.{Place}
 use Rattle.subnet_trace.specs.declared.place.Stage.TheVariants as stage
 use Rattle.subnet_trace.proofs.Calms.{refusal_is, refused}

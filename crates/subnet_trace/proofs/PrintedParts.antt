@@ -1,11 +1,11 @@
 -- All parts of a subnet are printed: the IMPs, the lines, and after them the flows of each IMP.
-use Rattle.subnet_trace.proofs.Common.{◌≡◌, ℕ, suc, Bool, true, false, ◌<◌, ◌≤◌, ◌+◌, List, [], ◌∷◌, ◌++◌, codes, if◌then◌else◌, length, map, Option, Some, None, refl, sym, ap, subst, ◌∙◌, arith, Appends, Appends-trans, is_imp, Net, Imp, Line, all_parts, parts_members, named, mark, place_behind, object, Remains, append-nil, flat_map, all_flows, parts_of_net, flows_there, members_behind, place_after_members, told, further, FlowPart}
-use Rattle.std.proofs.lemmas.List.{append_assoc}
+use Rattle.subnet_trace.proofs.Common.{◌≡◌, ℕ, suc, Bool, true, false, ◌<◌, ◌≤◌, ◌+◌, List, [], ◌∷◌, ◌++◌, codes, if◌then◌else◌, length, map, Option, Some, None, refl, sym, ap, subst, ◌∙◌, arith, Appends, Appends-trans, is_imp, Net, Imp, Line, all_parts, parts_members, all_flows, parts_of_net, object, further, flat_map, told, FlowPart}
+use Rattle.subnet_trace.specs.Printing.{named, flows_there, members_behind, place_after_members, flow_members, imp_members}
+use Rattle.trace.specs.Joined.{mark, place_behind, part_behind}
+use Rattle.trace.proofs.lemmas.{Remains, more_printed}
+use Rattle.std.proofs.lemmas.List.{append-nil, append_assoc}
 use Rattle.replay.proofs.lemmas.{appends_none}
-use Rattle.subnet_trace.specs.Printing.{flow_members, imp_members}
 use Rattle.trace.specs.Changes.{members_of}
-use Rattle.trace.specs.Joined.{part_behind}
-use Rattle.trace.proofs.lemmas.{more_printed}
 use Rattle.subnet_trace.proofs.AllMembers.{imps_left, imps_next, imps_over, lines_left, lines_next, lines_over, none_listed}
 use Rattle.subnet_trace.proofs.FlowLists.{all_left, flows_left, flows_next, flows_over}
 

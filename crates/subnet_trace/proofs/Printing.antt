@@ -1,12 +1,15 @@
 -- Parts of a subnet are printed item by item.
-use Rattle.subnet_trace.proofs.Common.{◌≡◌, ℕ, suc, Bool, true, false, ◌<◌, ◌≤◌, ◌+◌, ◌-◌, List, [], ◌∷◌, ◌++◌, codes, drop, length, nat_lt, Option, None, Some, sym, ap, ap₂, subst, ◌∙◌, arith, Appends, decimal, range_with_len, Appends-trans, most_imps, Carriage, Content, Table, next_of, infinite, next_behind, place_after, bit_text, bits_text, content_members, distances_text, finite_from, next_from, next_members, next_text, packet_text, mark, place_behind, member, object, quoted, Remains, three, further}
-use Rattle.trace.proofs.lemmas.{end_printed, left, maybe_printed}
-use Rattle.std.proofs.Common.{◌/◌, ◌%◌}
+use Rattle.subnet_trace.proofs.Common.{Appends, decimal, range_with_len, Appends-trans, most_imps, Carriage, Content, Table, next_of, member, object, quoted, further}
+use Rattle.std.proofs.Common.{◌≡◌, ℕ, suc, Bool, true, false, ◌<◌, ◌≤◌, ◌+◌, ◌-◌, List, [], ◌∷◌, ◌++◌, codes, drop, length, nat_lt, Option, None, Some, sym, ap, ap₂, subst, ◌∙◌, arith, ◌/◌, ◌%◌}
+use Rattle.routing.specs.Vector.{infinite}
+use Rattle.subnet_trace.specs.Printing.{next_behind, place_after, distance_behind, number_behind}
+use Rattle.subnet_trace.specs.Texts.{bit_text, bits_text, content_members, distances_text, finite_from, next_from, next_members, next_text, packet_text}
+use Rattle.trace.specs.Joined.{mark, place_behind}
+use Rattle.trace.proofs.lemmas.{Remains, three, end_printed, left, maybe_printed}
 use Rattle.std.proofs.lemmas.Fmt.{decimal_digit, decimal_step}
 use Rattle.std.proofs.lemmas.List.{append_assoc, at_drop_all, at_drop_more, drop_all, drop_more}
 use Rattle.std.specs.Prelude.{slice_index_or}
 use Rattle.imp_channel.specs.declared.frame.Content.TheVariants as contents
-use Rattle.subnet_trace.specs.Printing.{distance_behind, number_behind}
 
 -- ---- distances
 

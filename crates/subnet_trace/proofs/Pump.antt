@@ -1,8 +1,9 @@
 -- The pump moves in one pass all that it can move: a second pass finds nothing.
-use Rattle.subnet_trace.proofs.Common.{◌≡◌, ℕ, List, [], ◌∷◌, ◌++◌, Option, Some, None, refl, sym, ap, ◌∙◌, subst, get_or-set_other, PacketFields, End, is_free, submitted_on, Frame, Table, next_of, Pumped, packet_sent, pump, pumped, sent_on, target, State, down_port, port_at, Outgoing, Port}
+use Rattle.subnet_trace.proofs.Common.{◌≡◌, ℕ, List, [], ◌∷◌, ◌++◌, Option, Some, None, refl, sym, ap, ◌∙◌, subst, get_or-set_other, PacketFields, Frame, Table, next_of, Outgoing, Port}
+use Rattle.imp_channel.specs.Line.{End, is_free, submitted_on, submitted}
+use Rattle.imp_node.specs.Pump.{Pumped, packet_sent, pump, pumped, sent_on, target, and_then}
+use Rattle.imp_node.specs.State.{State, down_port, port_at}
 use Rattle.std.specs.List.{position}
-use Rattle.imp_channel.specs.Line.{submitted}
-use Rattle.imp_node.specs.Pump.{and_then}
 
 -- no channel of this end is free, so that a packet waits for one
 abbrev IsFull : End → Type 0

@@ -1,11 +1,15 @@
 -- Each subnet that a replay comes to is determined by the texts of its parts.
-use Rattle.subnet_trace.proofs.Common.{◌≡◌, ℕ, zero, suc, ◌+◌, ◌≤◌, ◌||◌, Bool, true, false, List, [], ◌∷◌, length, Option, Some, None, Result, Ok, Err, refl, sym, ap, ◌∙◌, subst, arith, false≢true, nat_tests, All-head, All-tail, All, is_halt, is_memory, Host, most_imps, CarrierFault, HostMessage, Inbound, NetEvent, or_false, Shown, AllTake, GoesOn, Happens, Quiet, Replays, calmly, outcome_of, IsNetEvent, RawEvent, Fails, Kept, running, offer_out, quiet_round, stepped, step_refusal, take_in, Net, opening_subnet, IsSound, SubnetStep, SubnetTake, subnet_calls, Ends, IsOneNetwork, IsTold, SameTexts, flow_named, goes_calmly, hosts_from, SubnetRound, IsReached}
-use Rattle.interface.specs.Host.{IsAddress}
-use Rattle.replay.specs.Replay.{Chain, Onward, Part, Round, Rounds, Takings}
-use Rattle.script.specs.Spelling.{IsEvent, IsHost, IsMessage}
+use Rattle.subnet_trace.proofs.Common.{◌≡◌, ℕ, zero, suc, ◌+◌, ◌≤◌, ◌||◌, Bool, true, false, List, [], ◌∷◌, length, Option, Some, None, Result, Ok, Err, refl, sym, ap, ◌∙◌, subst, arith, false≢true, nat_tests, All-head, All-tail, All, is_halt, is_memory, CarrierFault, HostMessage, Inbound, NetEvent, Shown, RawEvent, Fails, Kept, running, Net, opening_subnet, hosts_from, Ends, IsOneNetwork, IsTold, SameTexts, IsReached}
+use Rattle.interface.specs.Host.{Host, most_imps, IsAddress}
+use Rattle.interface.proofs.lemmas.{or_false}
+use Rattle.replay.specs.Replay.{AllTake, GoesOn, Happens, Quiet, Replays, calmly, outcome_of, Chain, Onward, Part, Round, Rounds, Takings}
+use Rattle.script.specs.Spelling.{IsNetEvent, IsEvent, IsHost, IsMessage}
+use Rattle.subnet.specs.Events.{offer_out, quiet_round, stepped, step_refusal, take_in}
+use Rattle.subnet.specs.Sound.{IsSound}
+use Rattle.subnet.specs.Working.{SubnetStep, SubnetTake, subnet_calls, SubnetRound, IsWorking, SubnetOffer}
+use Rattle.trace.proofs.lemmas.{flow_named, goes_calmly}
 use Rattle.script.specs.declared.event.RawEvent.TheVariants as event
 use Rattle.subnet.specs.Routed.{IsHostMessage}
-use Rattle.subnet.specs.Working.{IsWorking, SubnetOffer}
 use Rattle.subnet.proofs.lemmas.{offer_working, opening_working, round_working, step_working, take_working}
 use Rattle.subnet_trace.proofs.Known.{IsKnown, offer_known, opening_known, round_known, step_known, take_known, told}
 use Rattle.subnet_trace.proofs.Rest.{runs}

@@ -1,16 +1,17 @@
 -- What an event's parts do not name is as before.
-use Rattle.subnet_trace.proofs.Common.{◌≡◌, ◌≢◌, ℕ, zero, suc, ◌+◌, ◌-◌, ◌<◌, ◌≤◌, ◌==◌, ◌&&◌, ◌||◌, ◌⊎◌, inl, inr, nat_lt, not, Bool, false, List, [], ◌∷◌, if◌then◌else◌, filter, length, map, Option, Some, None, Result, Ok, Err, is_some, slice_get, slice_set, refl, sym, ap, ◌∙◌, subst, arith, false≢true, nat_tests, get_or-set_other, length-set, range_with_len, is_halt, is_memory, Host, CarrierFault, HostMessage, Inbound, NetEvent, Crossing, Direction, or_false, Frame, ImpTurn, State, from_host, to_host, Outgoing, Shown, GoesOn, Happens, IsOneCall, outcome_of, RawEvent, Fails, Kept, running, accepted, at_imp, at_up, deliver, delivered, drop_frame, frame_refusal, imp_refusal, imp_started, imp_stopped, is_imp, offer_out, site_at, step_refusal, stepped, take_in, Ends, Net, Wire, ends_at, far_end, followed_by, frames_on, imp_at, line_from, no_wire, put_all, put_on, put_one, wire_at, with_frame, with_turn, opened_from, opened_imp, opening_subnet, subnet_calls, Imp, Line, is_part, IsOneNetwork, IsPlaced, ends_of, eqb-true, Decided}
-use Rattle.std.proofs.Common.{true, slice_index_or}
+use Rattle.subnet_trace.proofs.Common.{false≢true, eqb-true, nat_tests, get_or-set_other, length-set, range_with_len, is_halt, is_memory, Host, CarrierFault, HostMessage, Inbound, NetEvent, Crossing, Direction, Frame, ImpTurn, State, from_host, to_host, Outgoing, Shown, GoesOn, Happens, IsOneCall, outcome_of, RawEvent, Fails, Kept, running, Decided, Ends, subnet_calls, IsOneNetwork, IsPlaced, ends_of}
+use Rattle.std.proofs.Common.{◌≡◌, ◌≢◌, ℕ, zero, suc, ◌+◌, ◌-◌, ◌<◌, ◌≤◌, ◌==◌, ◌&&◌, ◌||◌, ◌⊎◌, inl, inr, nat_lt, not, Bool, false, List, [], ◌∷◌, if◌then◌else◌, filter, length, map, Option, Some, None, Result, Ok, Err, is_some, slice_get, slice_set, refl, sym, ap, ◌∙◌, subst, arith, true, slice_index_or}
+use Rattle.interface.proofs.lemmas.{or_false, and_first}
+use Rattle.subnet.specs.Events.{accepted, at_imp, at_up, deliver, delivered, drop_frame, frame_refusal, imp_refusal, imp_started, imp_stopped, is_imp, offer_out, site_at, step_refusal, stepped, take_in, first_of, starting_refusal}
+use Rattle.subnet.specs.Net.{Net, Wire, ends_at, far_end, followed_by, frames_on, imp_at, line_from, no_wire, put_all, put_on, put_one, wire_at, with_frame, with_turn, dropping}
+use Rattle.subnet.specs.Opening.{opened_from, opened_imp, opening_subnet}
+use Rattle.subnet_trace.specs.Parts.{Imp, Line, is_part, Part, SamePart, imp_alone, imp_and_lines, is_named, line_alone, lines_at, parts_in, parts_of}
 use Rattle.std.proofs.Math.Seq.{map-set_same}
 use Rattle.interface.specs.declared.CarrierFault.TheVariants as fault
 use Rattle.interface.specs.declared.NetEvent.TheVariants as net
 use Rattle.interface.specs.declared.event.Direction.TheVariants as way
 use Rattle.script.specs.declared.event.RawEvent.TheVariants as event
-use Rattle.subnet.specs.Events.{first_of, starting_refusal}
-use Rattle.subnet.specs.Net.{dropping}
-use Rattle.subnet_trace.specs.Parts.{Part, SamePart, imp_alone, imp_and_lines, is_named, line_alone, lines_at, parts_in, parts_of}
 use Rattle.subnet_trace.specs.declared.parts.Scope.TheVariants as scope
-use Rattle.interface.proofs.lemmas.{and_first}
 
 -- ---- frames that an IMP puts on lines
 

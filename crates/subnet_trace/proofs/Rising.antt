@@ -1,24 +1,13 @@
 -- In the lists of a subnet flows rise, and two subnets over one network have the same lists and parts.
-use Rattle.subnet_trace.proofs.Common.{◌≡◌, ℕ, suc, true, List, [], ◌∷◌, ◌++◌, filter, length, map, None, Option, Some}
-use Rattle.subnet_trace.proofs.Common.{refl, sym, ap, ap₂, ◌∙◌, range_with_len, flat_map, All, All-cons, All-nil, Flow}
-use Rattle.subnet_trace.proofs.Common.{flow_cmp, State, named, is_imp, Net, Imp, Line, all_parts, flows_at, FlowPart}
-use Rattle.subnet_trace.proofs.Common.{IsOneNetwork, IsTold, kept_of, sources_of}
-use Rattle.std.proofs.lemmas.List.{length-map}
-use Rattle.std.proofs.lemmas.List.Elements.{All-append}
+use Rattle.subnet_trace.proofs.Common.{◌≡◌, ℕ, suc, true, List, [], ◌∷◌, ◌++◌, filter, length, map, None, Option, Some, refl, sym, ap, ap₂, ◌∙◌, All-cons, All-nil, All-append, Flow, flow_cmp, State, named, is_imp, Net, imp_at, FlowPart, IsOneNetwork, IsTold, ends_of, kept_of, sources_of, kept_part, source_part, length-map, Ordering, Less, Equal, Greater, and_parts}
+use Rattle.std.specs.List.{range_with_len, flat_map, All, AllByRecursion}
+use Rattle.subnet_trace.specs.Parts.{Imp, Line, all_parts, flows_at, Part, parts_of_net}
 use Rattle.std.specs.FinMap as fin
 use Rattle.std.specs.FinMap.Entries.{below_all, is_sorted}
-use Rattle.std.specs.List.{AllByRecursion}
 use Rattle.std.specs.List.Sorted.{IsStrictlySortedBy}
 use Rattle.std.specs.Option.{is_some}
 use Rattle.std.specs.Ordering.{is_lt}
 use Rattle.std.specs.Prelude.{slice_index_or}
-use Rattle.std.specs.declared.cmp.Ordering.{Ordering}
-use Rattle.std.specs.declared.cmp.Ordering.TheVariants.{Less, Equal, Greater}
-use Rattle.std.proofs.lemmas.Bool.{and_parts}
-use Rattle.subnet.specs.Net.{imp_at}
-use Rattle.subnet_trace.specs.Parts.{Part, parts_of_net}
-use Rattle.subnet_trace.specs.Texts.{kept_part, source_part}
-use Rattle.subnet_trace.specs.Told.{ends_of}
 use Rattle.subnet_trace.proofs.Tables.{known}
 use Rattle.trace.specs.Changes.{AreOfOne, Rises}
 

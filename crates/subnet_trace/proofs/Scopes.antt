@@ -1,15 +1,18 @@
 -- What is outside of an event's scope stays, and the parts that are in it are put in their places.
-use Rattle.subnet_trace.proofs.Common.{◌≡◌, ◌≢◌, inl, inr, ℕ, zero, suc, ◌<◌, ◌≤◌, ◌+◌, ◌==◌, ◌||◌, Bool, true, false, List, [], ◌∷◌, ◌++◌, codes, if◌then◌else◌, length, map, nat_lt, Option, Some, None, Result, Ok, Err, slice_get, refl, sym, ap, ap₂, subst, ◌∙◌, arith, false≢true, nat_tests, get_or-set_other, length-map, Host, CarrierFault, Inbound, NetEvent, Crossing, Direction, Frame, ImpTurn, State, from_host, to_host, Shown, shown_crossings, GoesOn, Happens, IsOneCall, outcome_of, RawEvent, Kept, refusal_of, running, step_grows, take_grows, at_imp, deliver, delivered, drop_frame, frame_refusal, imp_started, imp_stopped, is_imp, offer_out, offer_refusal, step_refusal, stepped, take_in, take_refusal, taken_by_host, Net, Wire, far_end, frames_on, imp_at, no_wire, wire_at, subnet_calls, Imp, Line, all_parts, part_name, parts_members, named, OnlyIn, has_imp, has_line, scope_of, imp_text, line_text, IsOneNetwork, ends_of, Scope, put_at, put_text, member, object, HasHappened, subnet_inside, PutSoFar, parts_of_net, IsOnlyIn, change_text, AllParts, no_part_changed}
-use Rattle.std.proofs.Common.{is_ok}
+use Rattle.subnet_trace.proofs.Common.{false≢true, nat_tests, get_or-set_other, length-map, Host, CarrierFault, Inbound, NetEvent, Crossing, Direction, Frame, ImpTurn, State, from_host, to_host, RawEvent, Kept, refusal_of, running, step_grows, take_grows, subnet_calls, named, OnlyIn, has_imp, has_line, IsOnlyIn, IsOneNetwork, ends_of, Scope, put_at, put_text, member, object, subnet_inside, AllParts}
+use Rattle.std.proofs.Common.{◌≡◌, ◌≢◌, inl, inr, ℕ, zero, suc, ◌<◌, ◌≤◌, ◌+◌, ◌==◌, ◌||◌, Bool, true, false, List, [], ◌∷◌, ◌++◌, codes, if◌then◌else◌, length, map, nat_lt, Option, Some, None, Result, Ok, Err, slice_get, refl, sym, ap, ap₂, subst, ◌∙◌, arith, is_ok}
+use Rattle.replay.specs.Output.{Shown, shown_crossings, shown_refusal}
+use Rattle.replay.specs.Replay.{GoesOn, Happens, IsOneCall, outcome_of, EventGives}
+use Rattle.subnet.specs.Events.{at_imp, deliver, delivered, drop_frame, frame_refusal, imp_started, imp_stopped, is_imp, offer_out, offer_refusal, step_refusal, stepped, take_in, take_refusal, taken_by_host}
+use Rattle.subnet.specs.Net.{Net, Wire, far_end, frames_on, imp_at, no_wire, wire_at, dropping}
+use Rattle.subnet_trace.specs.Parts.{Imp, Line, all_parts, part_name, parts_members, scope_of, parts_of_net, scope_of_delivery}
+use Rattle.subnet_trace.specs.Texts.{imp_text, line_text}
+use Rattle.trace.specs.Traces.{HasHappened, change_text}
+use Rattle.trace.proofs.lemmas.{PutSoFar, no_part_changed, happens, is_within, none_put, put_more}
 use Rattle.interface.specs.declared.NetEvent.TheVariants as net
 use Rattle.interface.specs.declared.event.Direction.TheVariants as way
-use Rattle.replay.specs.Output.{shown_refusal}
-use Rattle.replay.specs.Replay.{EventGives}
 use Rattle.script.specs.declared.event.RawEvent.TheVariants as event
-use Rattle.subnet.specs.Net.{dropping}
-use Rattle.subnet_trace.specs.Parts.{scope_of_delivery}
 use Rattle.subnet_trace.specs.declared.parts.Scope.TheVariants as scope
-use Rattle.trace.proofs.lemmas.{happens, is_within, none_put, put_more}
 use Rattle.subnet_trace.proofs.AllMembers.{imps_left, imps_next, imps_over, lines_left, lines_next, none_listed}
 use Rattle.subnet_trace.proofs.Rest.{Left, all_other, apart_from, frame_there, keeps, left_of, went}
 

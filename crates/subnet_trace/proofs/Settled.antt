@@ -1,9 +1,13 @@
 -- After a quiet round the pump would move nothing more in any IMP, whatever waited before.
-use Rattle.subnet_trace.proofs.Common.{◌≡◌, ◌≤◌, ◌<◌, ◌==◌, ◌⊎◌, inl, inr, ℕ, zero, suc, ◌+◌, nat_lt, Bool, false, List, [], ◌∷◌, if◌then◌else◌, length, Option, Some, None, Result, Ok, Err, slice_get, slice_set, refl, sym, ap, ◌∙◌, subst, arith, nat_tests, get_or_past, range_with_len, Host, Direction, PacketFields, vector_of, answer_to, ChannelFault, Frame, Received, arrival, arrival_has_room, arrived, frame_taken, from_line, ignored, taken_frame, resend, resent_from, route, told_from, pump, ImpTurn, State, port_at, all_refreshed, all_turns, at_imp, carried, deliver, delivered, drop_frame, quiet_round, refreshed, take_in, turn_of, Net, far_end, frames_on, imp_at, port_of, wire_at}
-use Rattle.std.proofs.Common.{true, slice_index_or}
+use Rattle.subnet_trace.proofs.Common.{nat_tests, get_or_past, range_with_len, Host, Direction, PacketFields, vector_of, ChannelFault, Frame, Received, pump, Net, far_end, frames_on, imp_at, port_of, wire_at}
+use Rattle.std.proofs.Common.{◌≡◌, ◌≤◌, ◌<◌, ◌==◌, ◌⊎◌, inl, inr, ℕ, zero, suc, ◌+◌, nat_lt, Bool, false, List, [], ◌∷◌, if◌then◌else◌, length, Option, Some, None, Result, Ok, Err, slice_get, slice_set, refl, sym, ap, ◌∙◌, subst, arith, true, slice_index_or}
+use Rattle.imp_channel.specs.Line.{answer_to}
+use Rattle.imp_node.specs.Arrival.{arrival, arrival_has_room, arrived, frame_taken, from_line, ignored, taken_frame, acknowledged, vector_heard}
+use Rattle.imp_node.specs.Lines.{resend, resent_from, route, told_from}
+use Rattle.imp_node.specs.State.{ImpTurn, State, port_at}
+use Rattle.subnet.specs.Events.{all_refreshed, all_turns, at_imp, carried, deliver, delivered, drop_frame, quiet_round, refreshed, take_in, turn_of}
 use Rattle.interface.specs.declared.event.Direction.TheVariants as way
 use Rattle.imp_channel.specs.declared.line.Received.TheVariants as received
-use Rattle.imp_node.specs.Arrival.{acknowledged, vector_heard}
 use Rattle.subnet_trace.proofs.Pump.{IsStill, pump_still}
 use Rattle.subnet_trace.proofs.Rest.{not_some, some_is}
 

@@ -1,5 +1,6 @@
 -- Offers and takings that change no part.
-use Rattle.subnet_trace.proofs.Common.{◌≡◌, ◌∙◌, Bool, true, false, IfSome, length, Option, None, Ok, Err, ap, sym, subst, is_memory, Host, CarrierFault, HostMessage, State, Fails, Kept, refusal_of, take_grows, offer_refusal, take_refusal, Net, imp_at, subnet_calls, subnet_inside, parts_of_net}
+use Rattle.subnet_trace.proofs.Common.{◌≡◌, ◌∙◌, Bool, true, false, IfSome, length, Option, None, Ok, Err, ap, sym, subst, is_memory, Host, CarrierFault, HostMessage, State, Fails, Kept, refusal_of, take_grows, Net, imp_at, subnet_calls, subnet_inside, parts_of_net}
+use Rattle.subnet.specs.Events.{offer_refusal, take_refusal}
 use Rattle.imp_node.proofs.lemmas.{pump_rests}
 use Rattle.subnet_trace.proofs.Nothing.{none_taken_at}
 use Rattle.subnet_trace.proofs.Settled.{IsSettledAt}

@@ -1,15 +1,17 @@
 -- Words, bits, packets, messages, channels and what is known of flows have texts of their own.
-use Rattle.subnet_trace.proofs.Common.{◌≡◌, ℕ, ◌==◌, Bool, true, false, List, [], ◌∷◌, ◌++◌, codes, if◌then◌else◌, Option, Some, None, IfSome, refl, sym, ap, ap₂, ◌∙◌, All-append, All-nil, decimal, Flow, PacketFields, flow_of, PacketKind, Channel, last_of, Fate, Noted, Standing, State, Message, Told, bool_text, member, quoted, AreClosed, IsClosed, Spelled, also_closed, decimal_closed, first_same, member_once, none_closed, object_closed, object_once, rest_same, short_once, bit_text, bits_text, channel_text, held_members, kind_word, packet_text, told_text, whole_text, IsAnswerTold, IsChannelTold, IsFlowNamed, IsKeptTold, IsMessageTold, IsPacketTold, IsSourceTold, kept_part, source_part, told, FlowPart}
+use Rattle.subnet_trace.proofs.Common.{◌≡◌, ℕ, ◌==◌, Bool, true, false, List, [], ◌∷◌, ◌++◌, codes, if◌then◌else◌, Option, Some, None, IfSome, refl, sym, ap, ap₂, ◌∙◌, All-append, All-nil, decimal, Flow, PacketFields, flow_of, PacketKind, Channel, Fate, Noted, Standing, State, Message, Told, told, FlowPart}
+use Rattle.link_table.specs.Flows.{last_of}
+use Rattle.trace.specs.Texts.{bool_text, member, quoted, bits_members, flow_members}
+use Rattle.trace.proofs.lemmas.{AreClosed, IsClosed, Spelled, also_closed, decimal_closed, first_same, member_once, none_closed, object_closed, object_once, rest_same, short_once, Words, answer_spelled, bits_closed, bits_same, flow_closed, flow_same, other_first, part_once, strings_spelled}
+use Rattle.subnet_trace.specs.Texts.{bit_text, bits_text, channel_text, held_members, kind_word, packet_text, told_text, whole_text, kept_part, source_part, awaits_host, fate_state, piece_members, standing_state}
+use Rattle.subnet_trace.specs.Told.{IsAnswerTold, IsChannelTold, IsFlowNamed, IsKeptTold, IsMessageTold, IsPacketTold, IsSourceTold}
 use Rattle.std.specs.Str.{bytes_eq}
 use Rattle.packetiser.specs.declared.packet.PacketKind.TheVariants as kind
 use Rattle.link_table.specs.declared.destination.Fate.TheVariants as fate
 use Rattle.link_table.specs.declared.source.Standing.TheVariants as standing
 use Rattle.script.specs.Steps.{Lacks}
 use Rattle.script.proofs.lemmas.{unmarked_where}
-use Rattle.trace.specs.Texts.{bits_members, flow_members}
 pub use Rattle.trace.proofs.lemmas.{Any, bool_spelled, word_closed}
-use Rattle.trace.proofs.lemmas.{Words, answer_spelled, bits_closed, bits_same, flow_closed, flow_same, other_first, part_once, strings_spelled}
-use Rattle.subnet_trace.specs.Texts.{awaits_host, fate_state, piece_members, standing_state}
 use Rattle.trace.specs.declared.flow_part.FlowState.{FlowState}
 use Rattle.trace.specs.declared.flow_part.FlowState.TheVariants as state
 

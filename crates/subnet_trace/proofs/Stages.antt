@@ -1,16 +1,17 @@
 -- Stages of a round: what is left at one, and at the next.
-use Rattle.subnet_trace.proofs.Common.{◌≡◌, ℕ, zero, suc, ◌+◌, ◌-◌, ◌<◌, ◌≤◌, nat_lt, ◌⊎◌, inl, inr, Bool, true, false, List, [], ◌∷◌, ◌++◌, drop, if◌then◌else◌, length, get_or, Option, Some, None, slice_get, refl, sym, ap, ◌∙◌, subst, arith, false≢true, lt-ltb, ltb-false, length-set, range_with_len, Host, Direction, Frame, ImpTurn, State, Outgoing, RawEvent, at_imp, gives, delivered, drop_frame, stepped, take_in, Net, Wire, far_end, frames_on, imp_at, line_from, put_all, put_on, put_one, wire_at, with_frame, Course, no_course, takings_from, then_course, then_twice, all_refreshing, all_turning, calling, can_resend, carrying, delivering, from_subnet, imp_left, is_heard, is_working, live_frames, numbers_from, refreshing, round_from_line, round_left, round_of_hosts, sending, telling, turning, IsNext, call_of, turn_begun, Stage}
-use Rattle.std.proofs.lemmas.Bool.{ltb-true}
+use Rattle.subnet_trace.proofs.Common.{◌≡◌, ℕ, zero, suc, ◌+◌, ◌-◌, ◌<◌, ◌≤◌, nat_lt, ◌⊎◌, inl, inr, Bool, true, false, List, [], ◌∷◌, ◌++◌, drop, if◌then◌else◌, length, get_or, Option, Some, None, slice_get, refl, sym, ap, ◌∙◌, subst, arith, length-set, range_with_len, Host, Direction, Frame, ImpTurn, State, Outgoing, RawEvent, Stage}
+use Rattle.std.proofs.lemmas.Bool.{false≢true, lt-ltb, ltb-false, ltb-true}
+use Rattle.subnet.specs.Events.{at_imp, gives, delivered, drop_frame, stepped, take_in}
+use Rattle.subnet.specs.Net.{Net, Wire, far_end, frames_on, imp_at, line_from, put_all, put_on, put_one, wire_at, with_frame, dropping}
+use Rattle.trace.specs.Elements.{Course, no_course, takings_from, then_course, one_event, taking}
+use Rattle.trace.proofs.lemmas.{then_twice, passes, takes_here, takings_all}
+use Rattle.subnet_trace.specs.Elements.{all_refreshing, all_turning, calling, can_resend, carrying, delivering, from_subnet, imp_left, is_heard, is_working, live_frames, numbers_from, refreshing, round_from_line, round_left, round_of_hosts, sending, telling, turning, after_turn, round_from_imp, turn_left}
+use Rattle.subnet_trace.specs.Steps.{IsNext, call_of, turn_begun, frame_moved, other_turn_begun}
 use Rattle.std.proofs.Math.ListN.{drop_of_length-le}
 use Rattle.interface.specs.declared.NetEvent.TheVariants as net
 use Rattle.interface.specs.declared.event.Direction.TheVariants as way
 use Rattle.script.specs.declared.event.RawEvent.TheVariants as event
-use Rattle.subnet.specs.Net.{dropping}
-use Rattle.trace.specs.Elements.{one_event, taking}
-use Rattle.trace.proofs.lemmas.{passes, takes_here, takings_all}
-use Rattle.subnet_trace.specs.Elements.{after_turn, round_from_imp, turn_left}
 use Rattle.subnet_trace.specs.Elements as elements
-use Rattle.subnet_trace.specs.Steps.{frame_moved, other_turn_begun}
 use Rattle.subnet_trace.specs.declared.place.Stage.TheVariants as stage
 use Rattle.subnet_trace.proofs.Rest.{not_some, some_is}
 

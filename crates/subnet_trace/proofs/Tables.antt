@@ -1,27 +1,19 @@
 -- What holds of each flow in a table, after each change of the table.
-use Rattle.subnet_trace.proofs.Common.{◌≡◌, ℕ, ◌<◌, ◌==◌, ◌&&◌, Bool, true, false, List, [], ◌∷◌, if◌then◌else◌, Option}
-use Rattle.subnet_trace.proofs.Common.{Some, None, IfSome, refl, sym, ap, ◌∙◌, subst, arith, All-cons, All-nil, empty}
-use Rattle.subnet_trace.proofs.Common.{get, get-empty, All, Flow, Sources, handed, last_of, number_in, flow_cmp, Fate}
-use Rattle.subnet_trace.proofs.Common.{Noted, Standing, get_begun, get_put, IsFlowNamed, IsKeptTold, IsSourceTold}
-use Rattle.link_table.specs.Flows.{begun}
-use Rattle.std.proofs.Common.{cond, T}
+use Rattle.subnet_trace.proofs.Common.{All-cons, All-nil, All, Flow, Fate, Noted, Standing, Ordering, Less, Equal, Greater, and_parts}
+use Rattle.std.proofs.Common.{◌≡◌, ℕ, ◌<◌, ◌==◌, ◌&&◌, Bool, true, false, List, [], ◌∷◌, if◌then◌else◌, Option, Some, None, IfSome, refl, sym, ap, ◌∙◌, subst, arith, cond, T}
+use Rattle.std.specs.FinMap.{empty, get, get-empty, FinMap, entries, entries_sorted, get-entries}
+use Rattle.link_table.specs.Flows.{Sources, handed, last_of, number_in, begun, Destinations, answered_in, ended, ended_in, flow_answered, given_up, given_up_in, handed_in, noted}
+use Rattle.link_table.specs.Keys.{flow_cmp, drop_from, is_from}
+use Rattle.link_table.proofs.lemmas.{get_begun, get_put, get_answered, get_dropped, get_ended, get_given_up, get_handed, number_begun}
+use Rattle.subnet_trace.specs.Told.{IsFlowNamed, IsKeptTold, IsSourceTold, IsShort}
 use Rattle.std.specs.Cmp.{eq_by_cmp_equiv}
-use Rattle.std.specs.FinMap.{FinMap, entries, entries_sorted, get-entries}
 use Rattle.std.specs.FinMap.Entries.{below_all, find, is_sorted}
 use Rattle.std.specs.Option.{option_map}
 use Rattle.std.specs.Ordering.{eq_by_cmp, is_eq, is_lt, ordering_reverse}
-use Rattle.std.specs.declared.cmp.Ordering.{Ordering}
-use Rattle.std.specs.declared.cmp.Ordering.TheVariants.{Less, Equal, Greater}
-use Rattle.std.proofs.lemmas.Bool.{and_parts}
 use Rattle.interface.specs.Flow.{same_flow}
 use Rattle.interface.proofs.lemmas.{flows_total, same_flow-true}
-use Rattle.link_table.specs.Flows.{Destinations, answered_in, ended, ended_in, flow_answered, given_up, given_up_in}
-use Rattle.link_table.specs.Flows.{handed_in, noted}
-use Rattle.link_table.specs.Keys.{drop_from, is_from}
 use Rattle.link_table.specs.Numbers.{modulus}
 use Rattle.link_table.specs.declared.source.Standing.TheVariants as standing
-use Rattle.link_table.proofs.lemmas.{get_answered, get_dropped, get_ended, get_given_up, get_handed, number_begun}
-use Rattle.subnet_trace.specs.Told.{IsShort}
 
 -- of each flow that is found, with what is found
 abbrev pub TableHas : {V : Type 0} → (Flow × V → Type 0) → FinMap flow_cmp V → Type 0

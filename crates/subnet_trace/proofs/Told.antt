@@ -1,18 +1,18 @@
 -- What is traced of a calm of a subnet says all of it: a still round leaves the subnet as it was, and so do all rounds
 -- after it.
-use Rattle.subnet_trace.proofs.Common.{◌≡◌, ◌⊎◌, inl, inr, ◌==◌, ◌<◌, ◌≤◌, ◌+◌, ℕ, zero, suc, nat_lt, Bool, false, List, [], ◌∷◌, ◌++◌, if◌then◌else◌, filter, length, map, Option, None, length-map, is_some, refl, sym, ap, ◌∙◌, arith, false≢true, nat_tests, range_with_len, Host, Crossing, Direction, NetEvent, Shown, Happens, RawEvent, Kept, is_imp, Net, opening_subnet, ends_of, subnet_calls, Ends, Imp, Line, all_parts, is_part, part_name, parts_members, all_refreshing, all_turning, calling, can_resend, carrying, delivering, from_subnet, is_heard, is_working, live_frames, numbers_from, refreshing, round_from_line, round_of, round_of_hosts, sending, telling, turning, Course, no_course, then_course, IsOneNetwork, IsTold, SameTexts, subnet_inside, member, true, eqb-true, hosts_from, IsReached, AllRoundsGo, Goes, Traced, first_same, member_once, rest_same, Spot, IsStill, TellsEvent, flat_map, imp_at, all_flows, flows_at, parts_of_net, kept_of, sources_of, AllParts}
-use Rattle.std.proofs.Common.{slice_index_or}
+use Rattle.subnet_trace.proofs.Common.{length-map, false≢true, eqb-true, nat_tests, range_with_len, flat_map, Host, Crossing, Direction, NetEvent, Shown, Happens, RawEvent, Kept, is_imp, Net, imp_at, opening_subnet, hosts_from, ends_of, IsOneNetwork, IsTold, SameTexts, IsReached, subnet_calls, Ends, subnet_inside, member, Spot, kept_of, sources_of, AllParts}
+use Rattle.std.proofs.Common.{◌≡◌, ◌⊎◌, inl, inr, ◌==◌, ◌<◌, ◌≤◌, ◌+◌, ℕ, zero, suc, nat_lt, Bool, false, List, [], ◌∷◌, ◌++◌, if◌then◌else◌, filter, length, map, Option, None, is_some, refl, sym, ap, ◌∙◌, arith, true, slice_index_or}
+use Rattle.subnet_trace.specs.Parts.{Imp, Line, all_parts, is_part, part_name, parts_members, all_flows, flows_at, parts_of_net, Part, part_text}
+use Rattle.subnet_trace.specs.Elements.{all_refreshing, all_turning, calling, can_resend, carrying, delivering, from_subnet, is_heard, is_working, live_frames, numbers_from, refreshing, round_from_line, round_of, round_of_hosts, sending, telling, turning, dropping}
+use Rattle.trace.specs.Elements.{Course, no_course, then_course}
+use Rattle.trace.proofs.lemmas.{AllRoundsGo, Goes, Traced, first_same, member_once, rest_same, AreRounds, IsIn, all_takings_in, says_all, then_in}
+use Rattle.trace.specs.Traces.{IsStill, TellsEvent, SaysAll}
 use Rattle.interface.specs.declared.NetEvent.TheVariants as net
 use Rattle.interface.specs.declared.event.Direction.TheVariants as way
-use Rattle.subnet_trace.specs.Elements.{dropping}
-use Rattle.subnet_trace.specs.Parts.{Part, part_text}
 use Rattle.subnet_trace.proofs.Calms.{Held, goes_round, held_by, traced}
 use Rattle.subnet_trace.proofs.NoChoice.{subnet_settled}
 use Rattle.subnet_trace.proofs.Reached.{Holds, one_opening, reached_holds, round_holds}
 use Rattle.subnet_trace.proofs.Whole.{whole}
-use Rattle.trace.proofs.lemmas.{AreRounds, IsIn, all_takings_in, says_all}
-use Rattle.trace.proofs.lemmas.{then_in}
-use Rattle.trace.specs.Traces.{SaysAll}
 use Rattle.subnet_trace.proofs.Known.{told}
 use Rattle.trace.specs.Flows as flow
 

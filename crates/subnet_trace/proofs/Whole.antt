@@ -1,10 +1,12 @@
 -- The texts of all parts determine a subnet, but for its log.
-use Rattle.subnet_trace.proofs.Common.{◌≡◌, ℕ, suc, true, nat_lt, List, [], ◌∷◌, codes, length, map, Option, Some, None, is_some, refl, sym, ap, ap₂, ◌∙◌, arith, All-head, All-tail, nat_tests, All, range_with_len, State, Flow, Noted, Standing, is_imp, site_at, Net, Wire, imp_at, wire_at, most_imps, vector_of, array, member, object, AreClosed, Spelled, also_closed, first_same, lists_spelled, member_once, none_closed, object_closed, object_once, rest_same, Imp, Line, finite_from, frame_text, heard_text, host_object, imp_text, line_text, next_from, port_object, slot_text, IsFrameTold, IsHeardTold, IsHostTold, IsKeptTold, IsLineTold, IsOneNetwork, IsPortTold, IsSlotTold, IsSourceTold, IsTold, IsToldAt, SameTexts, ends_of, kept_of, kept_part, source_part, sources_of, told}
-use Rattle.std.proofs.Common.{slice_index_or}
+use Rattle.subnet_trace.proofs.Common.{All-head, All-tail, nat_tests, All, range_with_len, State, Flow, Noted, Standing, Net, Wire, imp_at, wire_at, most_imps, vector_of, array, member, object, Imp, Line, told}
+use Rattle.std.proofs.Common.{◌≡◌, ℕ, suc, true, nat_lt, List, [], ◌∷◌, codes, length, map, Option, Some, None, is_some, refl, sym, ap, ap₂, ◌∙◌, arith, slice_index_or}
+use Rattle.subnet.specs.Events.{is_imp, site_at}
+use Rattle.trace.proofs.lemmas.{AreClosed, Spelled, also_closed, first_same, lists_spelled, member_once, none_closed, object_closed, object_once, rest_same}
+use Rattle.subnet_trace.specs.Texts.{finite_from, frame_text, heard_text, host_object, imp_text, line_text, next_from, port_object, slot_text, kept_of, kept_part, source_part, sources_of, imp_members}
+use Rattle.subnet_trace.specs.Told.{IsFrameTold, IsHeardTold, IsHostTold, IsKeptTold, IsLineTold, IsOneNetwork, IsPortTold, IsSlotTold, IsSourceTold, IsTold, IsToldAt, SameTexts, ends_of, IsImpTold}
 use Rattle.std.proofs.lemmas.List.{get_or_default, same_lists}
 use Rattle.std.specs.FinMap as fin
-use Rattle.subnet_trace.specs.Texts.{imp_members}
-use Rattle.subnet_trace.specs.Told.{IsImpTold}
 use Rattle.subnet_trace.proofs.Objects.{finite_closed, frame_spelled, heard_spelled, host_spelled, not_null, packets_spelled, port_spelled, ports_closed, slot_spelled}
 use Rattle.subnet_trace.proofs.Spelling.{kept_once, source_once}
 

@@ -1,4 +1,5 @@
-use Rattle.subnet_trace.proofs.Common.{◌≡◌, ◌⊎◌, inl, inr, arith, sym, subst, Net, live_frames, round_left, IsNext}
+use Rattle.subnet_trace.proofs.Common.{◌≡◌, ◌⊎◌, inl, inr, arith, sym, subst, Net, IsNext}
+use Rattle.subnet_trace.specs.Elements.{live_frames, round_left}
 use Rattle.subnet_trace.specs.declared.place.Stage.TheVariants as stage
 use Rattle.subnet_trace.proofs.Stages.{turn_left_over}
 use Rattle.subnet_trace.proofs.calm.from_frame.Goals.{else-frames-gt0-via-then-frames-gt0+else-live-gt0, else-frames-gt0-via-else-frames-gt0}

@@ -1,4 +1,5 @@
-use Rattle.subnet_trace.proofs.Common.{◌≡◌, ◌<◌, ◌-◌, ◌≤◌, ℕ, suc, false, true, List, Some, arith, get_or, length, refl, subst, sym, ◌∙◌, Host, gives, Net}
+use Rattle.subnet_trace.proofs.Common.{◌≡◌, ◌<◌, ◌-◌, ◌≤◌, ℕ, suc, false, true, List, Some, arith, get_or, length, refl, subst, sym, ◌∙◌, Host, Net}
+use Rattle.subnet.specs.Events.{gives}
 use Rattle.script.specs.declared.event.RawEvent.TheVariants as event
 use Rattle.subnet_trace.specs.declared.place.Stage.TheVariants as stage
 use Rattle.subnet_trace.proofs.Stages.{hosts_over, next_as, taking_next, taking_passed}

@@ -1,4 +1,6 @@
-use Rattle.subnet_trace.proofs.Common.{◌≡◌, ℕ, drop, length, takings_from, from_subnet}
+use Rattle.std.proofs.Common.{◌≡◌, ℕ, drop, length}
+use Rattle.trace.specs.Elements.{takings_from}
+use Rattle.subnet_trace.specs.Elements.{from_subnet}
 use Rattle.subnet_trace.proofs.calm.from_host.Given as goal
 
 -- nothing was left for the hosts so far

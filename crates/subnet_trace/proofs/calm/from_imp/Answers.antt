@@ -1,4 +1,5 @@
-use Rattle.subnet_trace.proofs.Common.{◌≡◌, ◌<◌, ℕ, Some, None, length, arith, sym, ◌∙◌, Net, call_of}
+use Rattle.subnet_trace.proofs.Common.{◌≡◌, ◌<◌, ℕ, Some, None, length, arith, sym, ◌∙◌, Net}
+use Rattle.subnet_trace.specs.Steps.{call_of}
 use Rattle.subnet_trace.proofs.Stages.{imp_next, imp_passed, next_as}
 use Rattle.subnet_trace.proofs.calm.from_imp.Goals as goal
 

@@ -1,4 +1,5 @@
-use Rattle.subnet_trace.proofs.Common.{◌≡◌, ℕ, length, imp_left}
+use Rattle.std.proofs.Common.{◌≡◌, ℕ, length}
+use Rattle.subnet_trace.specs.Elements.{imp_left}
 use Rattle.subnet_trace.proofs.calm.from_imp.Given as goal
 
 -- the IMPs so far did nothing

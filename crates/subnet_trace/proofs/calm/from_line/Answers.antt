@@ -1,4 +1,5 @@
-use Rattle.subnet_trace.proofs.Common.{◌≡◌, ◌<◌, ◌≤◌, ℕ, Some, None, length, arith, sym, ◌∙◌, Net, turn_begun}
+use Rattle.subnet_trace.proofs.Common.{◌≡◌, ◌<◌, ◌≤◌, ℕ, Some, None, length, arith, sym, ◌∙◌, Net}
+use Rattle.subnet_trace.specs.Steps.{turn_begun}
 use Rattle.interface.specs.declared.event.Direction.TheVariants as way
 use Rattle.subnet_trace.proofs.Stages.{back_first, forward_next, line_passed, lines_over, next_as}
 use Rattle.subnet_trace.proofs.calm.from_line.Goals as goal

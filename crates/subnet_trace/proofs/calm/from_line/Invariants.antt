@@ -1,4 +1,5 @@
-use Rattle.subnet_trace.proofs.Common.{◌≡◌, ℕ, length, round_from_line}
+use Rattle.std.proofs.Common.{◌≡◌, ℕ, length}
+use Rattle.subnet_trace.specs.Elements.{round_from_line}
 use Rattle.subnet_trace.proofs.calm.from_line.Given as goal
 
 -- no frame was live on the lines so far

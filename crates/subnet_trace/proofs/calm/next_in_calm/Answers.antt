@@ -1,4 +1,5 @@
-use Rattle.subnet_trace.proofs.Common.{Some, sym, subst, calm_left, round_left, subnet_calls, IsNext, GoesOnWith}
+use Rattle.subnet_trace.proofs.Common.{Some, sym, subst, subnet_calls, IsNext, GoesOnWith}
+use Rattle.subnet_trace.specs.Elements.{calm_left, round_left}
 use Rattle.subnet_trace.proofs.Onward.{calm_idle, goes_on_with, in_next_round}
 use Rattle.subnet_trace.proofs.calm.next_in_calm.Goals as goal
 

@@ -1,5 +1,6 @@
-use Rattle.subnet_trace.proofs.Common.{◌≡◌, ◌<◌, ℕ, List, Some, ap, arith, get_or, length, refl, rules, slice_get, sym, ◌∙◌, get_or_read, Frame, State, Net, Wire, far_end, frames_on, imp_at, no_wire, port_of, wire_at, end_fate}
-use Rattle.std.proofs.Common.{deque_len}
+use Rattle.subnet_trace.proofs.Common.{get_or_read, Frame, State, Net, Wire, far_end, frames_on, imp_at, no_wire, port_of, wire_at}
+use Rattle.std.proofs.Common.{◌≡◌, ◌<◌, ℕ, List, Some, ap, arith, get_or, length, refl, rules, slice_get, sym, ◌∙◌, deque_len}
+use Rattle.subnet_trace.specs.Fates.{end_fate}
 use Rattle.std.proofs.lemmas.Option.{slice_get_read}
 use Rattle.subnet_trace.proofs.Delivered.{fate_is}
 use Rattle.subnet_trace.proofs.fates.frame_fate.Goals as goal

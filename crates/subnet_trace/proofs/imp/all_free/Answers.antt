@@ -1,8 +1,6 @@
+use Rattle.subnet_trace.proofs.Common.{PacketFields, Channel, channel_text}
 use Rattle.std.proofs.Common.{◌≡◌, ◌++◌, ◌+◌, ◌∷◌, [], ◌<◌, ◌∙◌, List, None, Option, ap, arith, codes, false, is_some, length, map, sym, take, ℕ}
 use Rattle.std.proofs.lemmas.List.{length-set, map-append, take_all, take_more, take_more_set}
-use Rattle.packetiser.specs.PacketFields.{PacketFields}
-use Rattle.imp_channel.specs.declared.channel.Channel.{Channel}
-use Rattle.subnet_trace.specs.Texts.{channel_text}
 use Rattle.subnet_trace.proofs.Members.{free_text}
 use Rattle.subnet_trace.proofs.imp.all_free.Goals as goal
 

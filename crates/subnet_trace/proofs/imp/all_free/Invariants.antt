@@ -1,5 +1,4 @@
-use Rattle.std.proofs.Common.{◌≡◌, ◌++◌, codes, length, map, take}
-use Rattle.subnet_trace.specs.Texts.{channel_text}
+use Rattle.subnet_trace.proofs.Common.{◌≡◌, ◌++◌, codes, length, map, take, channel_text}
 use Rattle.subnet_trace.proofs.imp.all_free.Given as goal
 
 -- the texts of the channels that were looked at

@@ -1,6 +1,4 @@
-use Rattle.subnet_trace.proofs.Common.{◌++◌, List, codes, map, subst, ℕ, Appends, on_ok, channel_text, three}
-use Rattle.std.proofs.Common.{drop}
-use Rattle.std.specs.List.{flat_map}
+use Rattle.subnet_trace.proofs.Common.{◌++◌, List, codes, map, subst, ℕ, drop, Appends, on_ok, channel_text, three, flat_map}
 use Rattle.subnet_trace.proofs.Members.{commas_array}
 use Rattle.subnet_trace.proofs.imp.print_channels.Goals as goal
 

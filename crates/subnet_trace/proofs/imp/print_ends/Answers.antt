@@ -1,4 +1,5 @@
-use Rattle.subnet_trace.proofs.Common.{◌++◌, codes, map, subst, Appends, Appends-trans, on_ok, Table, heard_list, host_object, port_object, five, array}
+use Rattle.subnet_trace.proofs.Common.{◌++◌, codes, map, subst, Appends, Appends-trans, on_ok, Table, heard_list, five, array}
+use Rattle.subnet_trace.specs.Texts.{host_object, port_object}
 use Rattle.subnet_trace.proofs.imp.print_ends.Goals as goal
 
 pub returns-clause-written : goal.returns-clause-written

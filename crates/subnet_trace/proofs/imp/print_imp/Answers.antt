@@ -1,4 +1,5 @@
-use Rattle.subnet_trace.proofs.Common.{map, subst, Appends, on_ok, Table, vector_of, concluded_text, distances_text, heard_text, host_object, next_text, packet_text, port_object, slot_text, array}
+use Rattle.subnet_trace.proofs.Common.{map, subst, Appends, on_ok, Table, vector_of, concluded_text, array}
+use Rattle.subnet_trace.specs.Texts.{distances_text, heard_text, host_object, next_text, packet_text, port_object, slot_text}
 use Rattle.subnet_trace.proofs.Members.{imp_printed}
 use Rattle.subnet_trace.proofs.imp.print_imp.Goals as goal
 

@@ -1,4 +1,6 @@
-use Rattle.subnet_trace.proofs.Common.{◌≡◌, ◌-◌, ap, arith, round_of, rounds_from, running, opening_subnet}
+use Rattle.subnet_trace.proofs.Common.{◌≡◌, ◌-◌, ap, arith, running, opening_subnet}
+use Rattle.subnet_trace.specs.Elements.{round_of}
+use Rattle.trace.specs.Elements.{rounds_from}
 use Rattle.subnet_trace.proofs.Calms.{all_one_call, elementary, placed_after, placed_later}
 use Rattle.subnet_trace.proofs.Rest.{opening}
 use Rattle.subnet_trace.proofs.law.elementary.Goals as goal

@@ -1,4 +1,5 @@
-use Rattle.subnet_trace.proofs.Common.{◌≡◌, ◌++◌, codes, subst, decimal, Appends, Carriage, on_ok, bit_text, packet_text}
+use Rattle.subnet_trace.proofs.Common.{◌≡◌, ◌++◌, codes, subst, decimal, Appends, Carriage, on_ok}
+use Rattle.subnet_trace.specs.Texts.{bit_text, packet_text}
 use Rattle.subnet_trace.proofs.Printing.{carried_printed, routes_printed}
 use Rattle.subnet_trace.proofs.packets.print_content.Goals as goal
 

@@ -1,4 +1,5 @@
-use Rattle.subnet_trace.proofs.Common.{◌+◌, ℕ, Option, ap, arith, subst, sym, ◌∙◌, Appends, on_ok, next_behind, place_after, next_text, Remains}
+use Rattle.subnet_trace.proofs.Common.{◌+◌, ℕ, Option, ap, arith, subst, sym, ◌∙◌, Appends, on_ok, next_text, Remains}
+use Rattle.subnet_trace.specs.Printing.{next_behind, place_after}
 use Rattle.subnet_trace.proofs.Printing.{next_printed, ports_left, ports_printed}
 use Rattle.subnet_trace.proofs.packets.print_ports.Goals as goal
 

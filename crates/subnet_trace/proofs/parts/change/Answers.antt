@@ -1,6 +1,6 @@
-use Rattle.subnet_trace.proofs.Common.{◌≡◌, ◌∙◌, ◌++◌, [], List, ap, codes, length, ℕ, IfOk-weaker, Net, all_parts, parts_members, mark, object, all_flows, parts_of_net, changed_lists, changed_parts, extended, extended_twice}
-use Rattle.trace.specs.Changes.{changed}
-use Rattle.trace.proofs.lemmas.{ended_object}
+use Rattle.subnet_trace.proofs.Common.{◌≡◌, ◌∙◌, ◌++◌, [], List, ap, codes, length, ℕ, IfOk-weaker, Net, all_parts, parts_members, all_flows, parts_of_net, mark, extended, object}
+use Rattle.trace.specs.Changes.{changed_lists, changed_parts, changed}
+use Rattle.trace.proofs.lemmas.{extended_twice, ended_object}
 use Rattle.subnet_trace.proofs.parts.change.Goals as goal
 
 pub returns-clause-changed : goal.returns-clause-changed

@@ -1,9 +1,9 @@
-use Rattle.subnet_trace.proofs.Common.{◌≡◌, ◌∙◌, ◌++◌, ◌+◌, ◌<◌, ◌≤◌, ℕ, List, ap, arith, length, rules, subst, sym, get_or_read, Net, Wire, no_wire, wire_at, Line, all_parts, part_name, parts_members, has_line, line_text, Scope, put_at, put_text, member, PutSoFar, IsOnlyIn}
+use Rattle.subnet_trace.proofs.Common.{◌≡◌, ◌∙◌, ◌++◌, ◌+◌, ◌<◌, ◌≤◌, ℕ, List, ap, arith, length, rules, subst, sym, get_or_read, Net, Wire, no_wire, wire_at, Line, all_parts, part_name, parts_members, has_line, IsOnlyIn, line_text, Scope, put_at, put_text, member}
+use Rattle.trace.proofs.lemmas.{PutSoFar, AllPut, all_put}
 use Rattle.subnet_trace.proofs.AllMembers.{imps_left, lines_left, lines_over}
 use Rattle.subnet_trace.proofs.Scopes.{imp_put, imp_there, imps_put, line_put, line_there, none_are, none_there}
 use Rattle.subnet_trace.proofs.parts.change_fixed.Goals.{then-is_imp+in_ok-text, else-is_imp}
 use Rattle.subnet_trace.proofs.parts.change_fixed.Goals as goal
-use Rattle.trace.proofs.lemmas.{AllPut, all_put}
 
 pub loop-number-init : goal.loop-number-init
 loop-number-init c =

@@ -1,4 +1,5 @@
-use Rattle.subnet_trace.proofs.Common.{◌≡◌, ◌≤◌, ◌+◌, length, all_parts, parts_members, PutSoFar, IsOnlyIn}
+use Rattle.subnet_trace.proofs.Common.{◌≡◌, ◌≤◌, ◌+◌, length, all_parts, parts_members, IsOnlyIn}
+use Rattle.trace.proofs.lemmas.{PutSoFar}
 use Rattle.subnet_trace.proofs.AllMembers.{imps_left, lines_left}
 use Rattle.subnet_trace.proofs.parts.change_fixed.Given as goal
 

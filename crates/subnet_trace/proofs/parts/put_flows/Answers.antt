@@ -1,4 +1,5 @@
-use Rattle.subnet_trace.proofs.Common.{◌≡◌, ◌∙◌, ◌+◌, List, Option, ap, [], rules, sym, true, ℕ, IfOk-weaker, imp_at, State, changed_at, kept_of, sources_of, changed_flows, extended, FlowPart}
+use Rattle.subnet_trace.proofs.Common.{◌≡◌, ◌∙◌, ◌+◌, List, Option, ap, [], rules, sym, true, ℕ, IfOk-weaker, imp_at, State, kept_of, sources_of, changed_flows, extended, FlowPart}
+use Rattle.subnet_trace.specs.Printing.{changed_at}
 use Rattle.std.specs.Prelude.{slice_index_or}
 use Rattle.subnet_trace.proofs.FlowLists.{both_put}
 use Rattle.subnet_trace.proofs.parts.put_flows.Goals as goal

@@ -1,6 +1,7 @@
-use Rattle.subnet_trace.proofs.Common.{◌≡◌, Option, Some, ap, refl, ◌∙◌, empty, get, get-empty, flow_cmp, number_in, Fate, Noted, Standing, get_begun, get_put}
-use Rattle.link_table.specs.Flows.{begun}
-use Rattle.std.specs.FinMap.{insert}
+use Rattle.subnet_trace.proofs.Common.{◌≡◌, Option, Some, ap, refl, ◌∙◌, flow_cmp, Fate, Noted, Standing}
+use Rattle.std.specs.FinMap.{empty, get, get-empty, insert}
+use Rattle.link_table.specs.Flows.{number_in, begun}
+use Rattle.link_table.proofs.lemmas.{get_begun, get_put}
 use Rattle.subnet.specs.Examples.{ours}
 use Rattle.link_table.specs.declared.destination.Fate.TheVariants as fate
 use Rattle.link_table.specs.declared.source.Standing.TheVariants as standing

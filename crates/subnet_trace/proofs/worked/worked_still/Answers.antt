@@ -1,14 +1,16 @@
-use Rattle.subnet_trace.proofs.Common.{◌≡◌, ◌⊎◌, inl, inr, ◌++◌, ℕ, List, [], ◌∷◌, None, Ok, codes, length, refl, sym, ap, ◌∙◌, subst, arith, Happens, Kept, running, stepped, subnet_calls, subnet_inside, object, append-nil, no_part_changed, IsStill, TellsEvent, change_text, Element, Spot}
+use Rattle.subnet_trace.proofs.Common.{◌≡◌, ◌⊎◌, inl, inr, ◌++◌, ℕ, List, [], ◌∷◌, None, Ok, codes, length, refl, sym, ap, ◌∙◌, subst, arith, Happens, Kept, running, subnet_calls, subnet_inside, Element, Spot}
+use Rattle.subnet.specs.Events.{stepped}
+use Rattle.trace.specs.Texts.{object, trace_line}
+use Rattle.std.proofs.lemmas.List.{append-nil}
+use Rattle.trace.proofs.lemmas.{no_part_changed, Opened, opened_rounds}
+use Rattle.trace.specs.Traces.{IsStill, TellsEvent, change_text, TellsElement, TellsRounds}
 use Rattle.interface.specs.declared.NetEvent.TheVariants as net
 use Rattle.routing.specs.RouteTable.{distance_to, next_of, vector_of}
 use Rattle.script.specs.declared.event.RawEvent.TheVariants as event
 use Rattle.subnet_trace.specs.Elements.{calm_of}
 use Rattle.subnet_trace.specs.Worked.{lonely, tells}
 use Rattle.subnet_trace.proofs.Rest.{Left, left_of}
-use Rattle.trace.proofs.lemmas.{Opened, opened_rounds}
 use Rattle.trace.specs.Elements.{by_round}
-use Rattle.trace.specs.Texts.{trace_line}
-use Rattle.trace.specs.Traces.{TellsElement, TellsRounds}
 use Rattle.subnet_trace.proofs.worked.worked_still.Goals as goal
 
 unmoved : stepped lonely (net.Route 1) ≡ lonely

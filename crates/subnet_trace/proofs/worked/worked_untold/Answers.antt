@@ -1,9 +1,8 @@
-use Rattle.subnet_trace.proofs.Common.{◌≡◌, zero, suc, false, List, Option, refl, arith, nat_tests, State, Imp, Line}
-use Rattle.subnet_trace.proofs.Common.{is_part}
+use Rattle.subnet_trace.proofs.Common.{◌≡◌, zero, suc, false, List, Option, refl, arith, nat_tests, State}
+use Rattle.subnet_trace.specs.Parts.{Imp, Line, is_part, Part}
 use Rattle.std.specs.Fmt.{digits}
 use Rattle.hex.specs.Hex.{encode_with}
 use Rattle.bit_messages.specs.Octets.{octets_of}
-use Rattle.subnet_trace.specs.Parts.{Part}
 use Rattle.subnet_trace.specs.Worked.{nowhere}
 use Rattle.subnet_trace.proofs.worked.worked_untold.Goals as goal
 

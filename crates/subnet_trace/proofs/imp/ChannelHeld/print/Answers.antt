@@ -1,4 +1,5 @@
-use Rattle.subnet_trace.proofs.Common.{◌++◌, ◌∷◌, ap, codes, subst, sym, Appends, on_ok, bit_text, held_members, packet_text, member, object}
+use Rattle.subnet_trace.proofs.Common.{◌++◌, ◌∷◌, ap, codes, subst, sym, Appends, on_ok, member, object}
+use Rattle.subnet_trace.specs.Texts.{bit_text, held_members, packet_text}
 use Rattle.subnet_trace.proofs.Members.{channel_printed}
 use Rattle.subnet_trace.proofs.imp.ChannelHeld.print.Goals as goal
 

@@ -1,4 +1,5 @@
-use Rattle.subnet_trace.proofs.Common.{◌≡◌, ◌++◌, ap, codes, map, subst, ◌∙◌, Appends, on_ok, told_text, whole_text, array, bool_text}
+use Rattle.subnet_trace.proofs.Common.{◌≡◌, ◌++◌, ap, codes, map, subst, ◌∙◌, Appends, on_ok, array, bool_text}
+use Rattle.subnet_trace.specs.Texts.{told_text, whole_text}
 use Rattle.subnet_trace.proofs.Members.{host_printed}
 use Rattle.subnet_trace.proofs.imp.HostHeld.print.Goals as goal
 

@@ -1,5 +1,6 @@
-use Rattle.subnet_trace.proofs.Common.{◌≡◌, Some, ap, slice_get, subst, sym, ◌∙◌, Appends, on_ok, whole_text}
-use Rattle.std.proofs.Common.{option_copied}
+use Rattle.subnet_trace.proofs.Common.{Appends, on_ok}
+use Rattle.std.proofs.Common.{◌≡◌, Some, ap, slice_get, subst, sym, ◌∙◌, option_copied}
+use Rattle.subnet_trace.specs.Texts.{whole_text}
 use Rattle.subnet_trace.proofs.imp.MessagesListed.print_at.Goals as goal
 use Rattle.trace.proofs.lemmas.{text_at}
 

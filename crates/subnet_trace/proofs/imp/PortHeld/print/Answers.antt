@@ -1,4 +1,5 @@
-use Rattle.subnet_trace.proofs.Common.{◌≡◌, ◌++◌, ap, codes, map, subst, ◌∙◌, Appends, on_ok, bits_text, channel_text, array, bool_text}
+use Rattle.subnet_trace.proofs.Common.{◌≡◌, ◌++◌, ap, codes, map, subst, ◌∙◌, Appends, on_ok, array, bool_text}
+use Rattle.subnet_trace.specs.Texts.{bits_text, channel_text}
 use Rattle.subnet_trace.proofs.Members.{port_printed}
 use Rattle.subnet_trace.proofs.imp.PortHeld.print.Goals as goal
 

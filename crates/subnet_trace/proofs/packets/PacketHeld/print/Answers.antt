@@ -1,4 +1,5 @@
-use Rattle.subnet_trace.proofs.Common.{◌≡◌, ◌∙◌, ℕ, List, Bool, ap, length, subst, decimal, Appends, encode_upper, octets_of, host_text, Flow, flow_of, on_ok, bool_text, quoted, kind_word}
+use Rattle.subnet_trace.proofs.Common.{◌≡◌, ◌∙◌, ℕ, List, Bool, ap, length, subst, decimal, Appends, encode_upper, octets_of, host_text, Flow, flow_of, on_ok, bool_text, quoted}
+use Rattle.subnet_trace.specs.Texts.{kind_word}
 use Rattle.subnet_trace.proofs.Members.{packet_four, packet_one, packet_printed, packet_three, packet_two}
 use Rattle.subnet_trace.proofs.packets.PacketHeld.print.Goals as goal
 

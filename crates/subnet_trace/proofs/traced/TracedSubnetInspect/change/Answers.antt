@@ -1,4 +1,7 @@
-use Rattle.subnet_trace.proofs.Common.{◌≡◌, ◌∙◌, ◌++◌, List, ℕ, codes, length, rules, subst, sym, IfOk-weaker, Kept, subnet_calls, OnlyIn, scope_of, mark, object, HasHappened, parts_of_net, changed_parts, AllParts}
+use Rattle.subnet_trace.proofs.Common.{◌≡◌, ◌∙◌, ◌++◌, List, ℕ, codes, length, rules, subst, sym, IfOk-weaker, Kept, subnet_calls, OnlyIn, mark, object, AllParts}
+use Rattle.subnet_trace.specs.Parts.{scope_of, parts_of_net}
+use Rattle.trace.specs.Traces.{HasHappened}
+use Rattle.trace.specs.Changes.{changed_parts}
 use Rattle.subnet_trace.proofs.Scopes.{only_in, refused_texts}
 use Rattle.subnet_trace.proofs.traced.TracedSubnetInspect.change.Goals as goal
 use Rattle.trace.proofs.lemmas.{none_changed_now}

@@ -1,4 +1,5 @@
-use Rattle.subnet_trace.proofs.Common.{codes, subst, Appends, on_ok, vector_of, distances_text, next_text, five}
+use Rattle.subnet_trace.proofs.Common.{codes, subst, Appends, on_ok, vector_of, five}
+use Rattle.subnet_trace.specs.Texts.{distances_text, next_text}
 use Rattle.subnet_trace.proofs.ways.ConcludedItem.print.Goals as goal
 
 pub returns-clause-written : goal.returns-clause-written
