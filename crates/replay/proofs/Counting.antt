@@ -1,10 +1,9 @@
 -- Rounds of a carrier that counts its calls.
+use Rattle.replay.proofs.Common.{Shown, RawEvent}
 use Rattle.std.proofs.Common.{◌≡◌, ℕ, ◌+◌, ◌≤◌, zero, suc, List, [], Result, Ok, Err, refl, subst, ◌∙◌, arith}
 use Rattle.interface.specs.declared.CarrierFault.{CarrierFault}
-use Rattle.replay.specs.Output.{Shown}
 use Rattle.replay.specs.Replay.{AllTake, EventGives, MayDo, Onward, Round, Rounds}
 use Rattle.replay.specs.Worked.{counting}
-use Rattle.script.specs.declared.event.RawEvent.{RawEvent}
 use Rattle.script.specs.declared.event.RawEvent.TheVariants as event
 
 one_round : (old : ℕ) → Round counting old (Ok tt) (suc old)

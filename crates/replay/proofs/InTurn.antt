@@ -1,10 +1,7 @@
 -- Events in turn continue, and end.
+use Rattle.replay.proofs.Common.{flat_map-append, Appends, Appends-nil, Appends-trans, ended_line}
 use Rattle.std.proofs.Common.{◌≡◌, ℕ, ◌<◌, ◌+◌, List, [], ◌∷◌, ◌++◌, drop, get_or, length, take, Option, refl, ap, ap₂, sym, subst, ◌∙◌}
-use Rattle.std.proofs.lemmas.Grind.{flat_map-append}
 use Rattle.std.proofs.lemmas.List.{append_assoc, append-nil, drop_more, take-append-drop, take_more}
-use Rattle.std.specs.Io.KnownBytes.{Appends}
-use Rattle.std.proofs.KnownBytes.{Appends-nil, Appends-trans}
-use Rattle.script.specs.Input.{ended_line}
 use Rattle.replay.specs.InTurn.{EndsInTurn, Happening, HappensOnce, InTurn, ShowsFront, WritesLines, text_of}
 
 pub text_of-append : {L : Type 0} (text : L → List ℕ) (xs ys : List L) → text_of text (xs ++ ys) ≡ text_of text xs ++ text_of text ys

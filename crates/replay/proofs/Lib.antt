@@ -1,3 +1,4 @@
+pub mod Common
 mod Counting
 pub mod Handing
 pub mod InTurn

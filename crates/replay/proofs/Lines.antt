@@ -1,7 +1,6 @@
 -- A line that is put together from its end to its beginning.
+use Rattle.replay.proofs.Common.{decimal, Host}
 use Rattle.std.proofs.Common.{◌≡◌, ℕ, ◌++◌, List, ◌∷◌, codes, append_assoc}
-use Rattle.std.specs.Fmt.{decimal}
-use Rattle.interface.specs.Host.{Host}
 use Rattle.interface.specs.Printed.{answer_text, crossing_text, flow_text, host_text}
 use Rattle.interface.specs.declared.address.Flow.{Flow}
 use Rattle.interface.specs.declared.crossing.Answer.{Answer}

@@ -1,21 +1,14 @@
 -- A calm continues, and ends.
+use Rattle.replay.proofs.Common.{Appends, Appends-trans, Host, Crossing, output, shown_crossings, shown_refusal, EventEnds, Grew, PrintEnds, ReplayFault, Detail}
 use Rattle.std.proofs.Common.{◌≡◌, ℕ, zero, suc, Bool, true, false, ◌||◌, if◌then◌else◌, ◌+◌, ◌-◌, ◌<◌, ◌≤◌, List, [], ◌∷◌, ◌++◌, Option, Some, None, Result, Ok, Err, IfErr, drop, length, get_or, reverse, refl, sym, ap, subst, ◌∙◌, arith, inr}
 use Rattle.std.proofs.lemmas.Bool.{false≢true}
 use Rattle.std.proofs.lemmas.List.{append_assoc, append-nil, drop_all, drop_more, reverse-append}
-use Rattle.std.specs.Io.KnownBytes.{Appends}
-use Rattle.std.proofs.KnownBytes.{Appends-trans}
 use Rattle.interface.specs.Calls.{Calls, Seen, is_halt, is_memory}
 use Rattle.interface.specs.Rest.{BringsNothing, Rests, TakesNothing}
-use Rattle.interface.specs.Host.{Host}
 use Rattle.interface.specs.declared.CarrierFault.{CarrierFault}
 use Rattle.interface.specs.declared.Inbound.{Inbound}
-use Rattle.interface.specs.declared.crossing.Crossing.{Crossing}
-use Rattle.replay.specs.Output.{output, shown_crossings, shown_refusal}
 use Rattle.replay.specs.Replay.{AllTake, GoesOn, Halts, Onward, Round, Rounds, Takings, calmly}
-use Rattle.replay.specs.Steps.{EventEnds, Grew, PrintEnds}
-use Rattle.replay.specs.declared.events.ReplayFault.{ReplayFault}
 use Rattle.replay.specs.declared.events.ReplayFault.TheVariants as fault
-use Rattle.replay.specs.declared.print.Detail.{Detail}
 use Rattle.script.specs.declared.event.RawEvent.TheVariants as event
 use Rattle.replay.proofs.Shown.{gained, output-append, shown_crossings-append}
 

@@ -1,10 +1,9 @@
 -- What replays show.
+use Rattle.replay.proofs.Common.{Calls, RawEvent}
 use Rattle.std.proofs.Common.{◌≡◌, List, [], ◌∷◌, ◌++◌, reverse, ap, sym, ◌∙◌}
 use Rattle.std.proofs.lemmas.List.{append_assoc, reverse-append}
 use Rattle.replay.specs.Output.{Shown, crossings_of}
 use Rattle.replay.specs.Replay.{EndsIn, Replays, StopsIn}
-use Rattle.interface.specs.Calls.{Calls}
-use Rattle.script.specs.declared.event.RawEvent.{RawEvent}
 use Rattle.replay.proofs.Shown.{crossings_again, crossings_of-append, happens_shows}
 
 -- what a replay shows is what its log gained

@@ -1,18 +1,15 @@
 -- A settled carrier leaves a replay no choice.
+use Rattle.replay.proofs.Common.{Host, Crossing, Shown, shown_crossings, shown_refusal, RawEvent}
 use Rattle.std.proofs.Common.{◌≡◌, ◌||◌, ◌⊎◌, ℕ, zero, suc, Bool, true, false, List, [], ◌∷◌, ◌++◌, Option, Some, None, Result, Ok, Err, if◌then◌else◌, reverse, refl, sym, ap, ap₂, subst, ◌∙◌, inl, inr}
 use Rattle.std.proofs.lemmas.List.{append_assoc, append_cancel_right, reverse-reverse, reverse-append}
 use Rattle.interface.specs.Calls.{Calls, is_halt, is_memory}
-use Rattle.interface.specs.Host.{Host}
 use Rattle.interface.specs.declared.CarrierFault.{CarrierFault}
 use Rattle.interface.specs.declared.Inbound.{Inbound}
-use Rattle.interface.specs.declared.crossing.Crossing.{Crossing}
 use Rattle.replay.specs.InTurn.{HappensOnce}
-use Rattle.replay.specs.Output.{Shown, shown_crossings, shown_refusal}
 use Rattle.replay.specs.Replay.{AllTake, Chain, EndsIn, EventGives, GoesOn, Halts, Happens, IfGiven, IsCopied, Nothing, Onward, Part, Quiet, Replays, Round, Rounds, StopsIn, Takings, calmly, outcome_of}
 use Rattle.replay.specs.Settled.{AreSettled, Grows, SameEnd}
 use Rattle.replay.proofs.InTurn.{ends_front, in_turn_once}
 use Rattle.replay.proofs.Shown.{shown_crossings-append}
-use Rattle.script.specs.declared.event.RawEvent.{RawEvent}
 use Rattle.script.specs.declared.event.RawEvent.TheVariants as event
 
 -- ---- running out of memory

@@ -1,25 +1,15 @@
 -- What a replay shows, call by call.
+use Rattle.replay.proofs.Common.{flat_map-append, Appends-trans, Appends, Host, Crossing, HostMessage, ended_line, EventEnds, Grew, PrintEnds, ReplayFault, Detail, RawEvent}
 use Rattle.std.proofs.Common.{◌≡◌, ℕ, ◌<◌, ◌+◌, Bool, true, false, List, [], ◌∷◌, ◌++◌, length, get_or, take, drop, reverse, Option, Some, None, Result, Ok, Err, if◌then◌else◌, inr, refl, sym, ap, ◌∙◌, subst, arith, IfErr, OnOk}
 use Rattle.std.proofs.lemmas.List.{append-nil, take_more, drop_all, drop_at, reverse-append, reverse-reverse}
-use Rattle.std.proofs.lemmas.Grind.{flat_map-append}
-use Rattle.std.proofs.KnownBytes.{Appends-trans}
-use Rattle.std.specs.Io.KnownBytes.{Appends}
-use Rattle.interface.specs.Host.{Host}
 use Rattle.interface.specs.Calls.{Calls, Seen, halted, is_memory, crossing_of, step_crossings, ShowsRefusal, ShowsCrossings, ShowsOffer, ShowsRound, ShowsStep, ShowsTake}
 use Rattle.interface.specs.declared.carrier.CarrierFault.{CarrierFault}
-use Rattle.interface.specs.declared.crossing.Crossing.{Crossing}
 use Rattle.interface.specs.declared.crossing.Crossing.TheVariants as crossing
 use Rattle.interface.specs.declared.crossing.Inbound.{Inbound}
 use Rattle.interface.specs.declared.event.NetEvent.{NetEvent}
-use Rattle.interface.specs.declared.message.HostMessage.{HostMessage}
-use Rattle.script.specs.Input.{ended_line}
 use Rattle.replay.specs.Output.{Shown, Writes, Crossed, Refused, crossing_line, shown_text, output, crossings_of, shown_crossings, shown_refusal}
-use Rattle.replay.specs.Steps.{EventEnds, Grew, PrintEnds}
 use Rattle.replay.specs.Replay.{BeginsWith, EventGives, GoesOn, Halts, Happens, outcome_of}
-use Rattle.replay.specs.declared.events.ReplayFault.{ReplayFault}
 use Rattle.replay.specs.declared.events.ReplayFault.TheVariants as fault
-use Rattle.replay.specs.declared.print.Detail.{Detail}
-use Rattle.script.specs.declared.event.RawEvent.{RawEvent}
 
 same_seen : (b : Bool) (s : Seen) → Grew s (if b then halted s else s)
 same_seen true s = record { crossings = []; grown = refl; hosts = refl }

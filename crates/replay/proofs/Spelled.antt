@@ -1,20 +1,14 @@
 -- Texts are printed as a script spells them.
+use Rattle.replay.proofs.Common.{decimal, Appends, Appends-nil, Appends-trans, Crossing, HostMessage, ended_line, Detail}
 use Rattle.std.proofs.Common.{◌≡◌, ℕ, ◌+◌, ◌/◌, ◌%◌, ◌<◌, ◌≤◌, List, [], ◌∷◌, ◌++◌, drop, slice_index, Option, Result, Ok, Err, OnOk, codes, length, refl, sym, ap, subst, ◌∙◌}
 use Rattle.std.proofs.lemmas.List.{append_assoc, append-nil, drop_all}
-use Rattle.std.specs.Fmt.{decimal}
-use Rattle.std.specs.Io.KnownBytes.{Appends}
-use Rattle.std.proofs.KnownBytes.{Appends-nil, Appends-trans}
 use Rattle.hex.specs.Hex.{encode_upper, encode_with, upper_digits}
 use Rattle.hex.proofs.Pairs.{encode_with-drop}
 use Rattle.interface.specs.Printed.{crossing_text, flow_text}
-use Rattle.interface.specs.declared.crossing.Crossing.{Crossing}
 use Rattle.interface.specs.declared.crossing.Crossing.TheVariants as crossing
-use Rattle.interface.specs.declared.message.HostMessage.{HostMessage}
-use Rattle.script.specs.Input.{ended_line}
 use Rattle.script.specs.Spelling.{octets_text, spelling}
 use Rattle.script.specs.declared.event.RawEvent.TheVariants as event
 use Rattle.replay.specs.Output.{crossing_line, spelled}
-use Rattle.replay.specs.declared.print.Detail.{Detail}
 use Rattle.replay.specs.declared.print.Detail.TheVariants.{Texts}
 
 -- ---- octets

@@ -1,6 +1,6 @@
+use Rattle.replay.proofs.Common.{Calls}
 use Rattle.std.proofs.Common.{◌≡◌, ◌<◌, ◌≤◌, length, get_or, sym, subst, ◌∙◌, Err, rules}
 use Rattle.replay.specs.Replay.{Round}
-use Rattle.interface.specs.Calls.{Calls}
 use Rattle.replay.proofs.Passing.{all_turned, grew_more, none_turned, one_turned, turn_ends}
 use Rattle.replay.proofs.Shown.{grew_round}
 use Rattle.replay.proofs.calm.pass_round.Goals as goal

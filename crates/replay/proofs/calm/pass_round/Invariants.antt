@@ -1,4 +1,4 @@
-use Rattle.interface.specs.Calls.{Calls}
+use Rattle.replay.proofs.Common.{Calls}
 use Rattle.replay.proofs.Passing.{Turned}
 use Rattle.replay.proofs.calm.pass_round.Given as goal
 

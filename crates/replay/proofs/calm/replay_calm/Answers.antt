@@ -1,7 +1,6 @@
+use Rattle.replay.proofs.Common.{EventEnds, Calls}
 use Rattle.std.proofs.Common.{◌≡◌, Err, rules, subst, sym}
-use Rattle.replay.specs.Steps.{EventEnds}
 use Rattle.script.specs.declared.event.RawEvent.TheVariants as event
-use Rattle.interface.specs.Calls.{Calls}
 use Rattle.replay.proofs.Passing.{all_passed, one_passed, passed_ends, rest_passed}
 use Rattle.replay.proofs.calm.replay_calm.Goals as goal
 

@@ -1,5 +1,4 @@
-use Rattle.std.proofs.Common.{◌≡◌, false}
-use Rattle.interface.specs.Calls.{Calls}
+use Rattle.replay.proofs.Common.{◌≡◌, false, Calls}
 use Rattle.replay.proofs.Passing.{Passed}
 use Rattle.replay.proofs.calm.replay_calm.Given as goal
 

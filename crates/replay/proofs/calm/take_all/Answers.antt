@@ -1,5 +1,5 @@
+use Rattle.replay.proofs.Common.{Calls}
 use Rattle.std.proofs.Common.{Ok}
-use Rattle.interface.specs.Calls.{Calls}
 use Rattle.replay.proofs.Passing.{all_took, one_took, took_none, took_refused}
 use Rattle.replay.proofs.Shown.{grew_take}
 use Rattle.replay.proofs.calm.take_all.Goals as goal

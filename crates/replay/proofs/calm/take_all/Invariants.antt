@@ -1,4 +1,4 @@
-use Rattle.interface.specs.Calls.{Calls}
+use Rattle.replay.proofs.Common.{Calls}
 use Rattle.replay.proofs.Passing.{Took}
 use Rattle.replay.proofs.calm.take_all.Given as goal
 

@@ -1,10 +1,8 @@
+use Rattle.replay.proofs.Common.{Calls, EventEnds, RawEvent}
 use Rattle.std.proofs.Common.{rules, ◌≡◌, ◌+◌, ◌++◌, Err, List, drop, take, subst}
 use Rattle.std.proofs.lemmas.List.{take_all}
 use Rattle.replay.specs.Output.{Shown, Writes, shown_text}
 use Rattle.replay.specs.Replay.{Happens, MayDo, Replays, StopsIn}
-use Rattle.interface.specs.Calls.{Calls}
-use Rattle.replay.specs.Steps.{EventEnds}
-use Rattle.script.specs.declared.event.RawEvent.{RawEvent}
 use Rattle.replay.proofs.InTurn.{cut_at, last_shown, last_written, nothing_written, one_more, one_written}
 use Rattle.replay.specs.declared.events.ReplayFault.TheVariants as fault
 use Rattle.replay.proofs.events.replay_in_turn.Goals as goal

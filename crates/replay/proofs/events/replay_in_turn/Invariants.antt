@@ -1,7 +1,6 @@
-use Rattle.std.proofs.Common.{◌≡◌, false, take}
+use Rattle.replay.proofs.Common.{◌≡◌, false, take, Calls}
 use Rattle.replay.specs.Output.{Writes}
 use Rattle.replay.specs.Replay.{Replays}
-use Rattle.interface.specs.Calls.{Calls}
 use Rattle.replay.proofs.events.replay_in_turn.Given as goal
 
 -- the events so far are replayed, and what they showed is written; no write has failed

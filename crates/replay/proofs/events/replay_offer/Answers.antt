@@ -1,5 +1,4 @@
-use Rattle.std.proofs.Common.{refl}
-use Rattle.interface.specs.Calls.{Calls}
+use Rattle.replay.proofs.Common.{refl, Calls}
 use Rattle.script.specs.declared.event.RawEvent.TheVariants as event
 use Rattle.replay.proofs.Shown.{call_ends, grew_offer, refused_offer}
 use Rattle.replay.proofs.events.replay_offer.Goals as goal

@@ -1,5 +1,4 @@
-use Rattle.std.proofs.Common.{refl}
-use Rattle.interface.specs.Calls.{Calls}
+use Rattle.replay.proofs.Common.{refl, Calls}
 use Rattle.script.specs.declared.event.RawEvent.TheVariants as event
 use Rattle.replay.proofs.Shown.{call_ends, grew_step, refused_step}
 use Rattle.replay.proofs.events.replay_step.Goals as goal

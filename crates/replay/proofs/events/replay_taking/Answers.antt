@@ -1,5 +1,5 @@
+use Rattle.replay.proofs.Common.{Calls}
 use Rattle.std.proofs.Common.{◌≡◌, refl, sym, subst, IfErr}
-use Rattle.interface.specs.Calls.{Calls}
 use Rattle.script.specs.declared.event.RawEvent.TheVariants as event
 use Rattle.replay.proofs.Shown.{call_ends, grew_take, refused_take}
 use Rattle.replay.proofs.events.replay_taking.Goals as goal

@@ -1,4 +1,4 @@
-use Rattle.interface.specs.Calls.{Calls}
+use Rattle.replay.proofs.Common.{Calls}
 use Rattle.replay.proofs.Settled.{first_part, replays_once}
 use Rattle.replay.proofs.law.one_replay.Goals as goal
 

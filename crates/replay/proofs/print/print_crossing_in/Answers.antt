@@ -1,6 +1,6 @@
+use Rattle.replay.proofs.Common.{Appends}
 use Rattle.std.proofs.Common.{◌≡◌, ℕ, List, ◌++◌, ap, subst, ◌∙◌}
 use Rattle.std.proofs.lemmas.List.{append-nil}
-use Rattle.std.specs.Io.KnownBytes.{Appends}
 use Rattle.interface.specs.Printed.{crossing_text}
 use Rattle.replay.proofs.Spelled.{text_line}
 use Rattle.replay.proofs.print.print_crossing_in.Goals as goal

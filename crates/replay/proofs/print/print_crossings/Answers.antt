@@ -1,6 +1,5 @@
+use Rattle.replay.proofs.Common.{Appends, ended_line}
 use Rattle.std.proofs.Common.{subst}
-use Rattle.std.specs.Io.KnownBytes.{Appends}
-use Rattle.script.specs.Input.{ended_line}
 use Rattle.replay.specs.Output.{crossing_line}
 use Rattle.replay.proofs.Shown.{crossing_written}
 use Rattle.replay.proofs.print.print_crossings.Goals as goal

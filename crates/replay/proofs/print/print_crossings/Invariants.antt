@@ -1,6 +1,4 @@
-use Rattle.std.proofs.Common.{◌≡◌, false, take}
-use Rattle.std.specs.Io.KnownBytes.{Appends}
-use Rattle.replay.specs.Output.{output, shown_crossings}
+use Rattle.replay.proofs.Common.{◌≡◌, false, take, Appends, output, shown_crossings}
 use Rattle.replay.proofs.print.print_crossings.Given as goal
 
 abbrev pub invariant-loop-crossing : goal.invariant-loop-crossing

@@ -1,5 +1,5 @@
+use Rattle.replay.proofs.Common.{Appends}
 use Rattle.std.proofs.Common.{ℕ, [], ◌∷◌, ap₂, subst}
-use Rattle.std.specs.Io.KnownBytes.{Appends}
 use Rattle.replay.proofs.Spelled.{all_written, none_written, one_written}
 use Rattle.replay.proofs.print.print_octets.Goals as goal
 
