@@ -1,16 +1,8 @@
 -- A document describes only topologies that keep the rules.
-use Rattle.std.proofs.Common.{◌≡◌, ◌+◌, ◌&&◌, ◌==◌, ℕ, Bool, true, false, List, Option, Some, None, codes}
-use Rattle.std.proofs.Common.{if◌then◌else◌, refl}
-use Rattle.std.proofs.Common.{subst}
-use Rattle.interface.specs.Host.{most_imps}
+use Rattle.topology.proofs.Common.{most_imps, parse_document, CarrierKind, ImpHosts, LineEnds}
+use Rattle.std.proofs.Common.{◌≡◌, ◌+◌, ◌&&◌, ◌==◌, ℕ, Bool, true, false, List, Option, Some, None, codes, if◌then◌else◌, refl, subst}
 use Rattle.toml.specs.Data.{Data, Members, get, table}
-use Rattle.toml.specs.Parse.{parse_document}
-use Rattle.topology.specs.Topology.{IsTopology, TopologyFields, all_placed, are_imps, are_lines, by_number, carrier_of}
-use Rattle.topology.specs.Topology.{imps_of, known_members, lines_of, raw_of, size, topology_by}
-use Rattle.topology.specs.Topology.{topology_from, topology_if, topology_if_read, topology_in, topology_of}
-use Rattle.topology.specs.declared.network.CarrierKind.{CarrierKind}
-use Rattle.topology.specs.declared.network.ImpHosts.{ImpHosts}
-use Rattle.topology.specs.declared.network.LineEnds.{LineEnds}
+use Rattle.topology.specs.Topology.{IsTopology, TopologyFields, all_placed, are_imps, are_lines, by_number, carrier_of, imps_of, known_members, lines_of, raw_of, size, topology_by, topology_from, topology_if, topology_if_read, topology_in, topology_of}
 use Rattle.topology.proofs.Order.{numbered_rising}
 
 fits : (placed good joined : Bool) (n t : TopologyFields) → topology_if (placed && (good && joined)) n ≡ Some t

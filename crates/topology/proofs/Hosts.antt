@@ -1,19 +1,11 @@
 -- The hosts of a topology are those that its IMPs have.
-use Rattle.std.proofs.Common.{◌≡◌, ◌≢◌, ℕ, zero, suc, ◌<◌, ◌≤◌, ◌+◌, ◌*◌, ◌-◌, ◌/◌, ◌%◌, ◌==◌, ◌&&◌, ◌||◌, nat_lt}
-use Rattle.std.proofs.Common.{nat_le, Bool, true, false, List, [], ◌∷◌, ◌++◌, length, filter, ap, refl, sym, ◌∙◌, subst}
-use Rattle.std.proofs.Common.{arith, lit<, inl, inr, ◌⊎◌, eqb-true, Result, Ok, Err, IfErr}
-use Rattle.std.proofs.Math.Nat.{div-add-mod}
-use Rattle.std.proofs.lemmas.Nat.{mod_below}
+use Rattle.topology.proofs.Common.{div-add-mod, mod_below, nat_tests, list_all, Host, is_host, most_imps, same_host, ImpHosts}
+use Rattle.std.proofs.Common.{◌≡◌, ◌≢◌, ℕ, zero, suc, ◌<◌, ◌≤◌, ◌+◌, ◌*◌, ◌-◌, ◌/◌, ◌%◌, ◌==◌, ◌&&◌, ◌||◌, nat_lt, nat_le, Bool, true, false, List, [], ◌∷◌, ◌++◌, length, filter, ap, refl, sym, ◌∙◌, subst, arith, lit<, inl, inr, ◌⊎◌, eqb-true, Result, Ok, Err, IfErr}
 use Rattle.std.proofs.lemmas.Bool.{false≢true, and_parts, or_right, or_cases, or_left}
-use Rattle.std.proofs.lemmas.Bool.Decides.{nat_tests}
 use Rattle.std.proofs.lemmas.List.Elements.{filter-append}
 use Rattle.std.proofs.lemmas.List.Folds.{list_any-append}
-use Rattle.std.specs.List.{list_all}
-use Rattle.interface.specs.Host.{Host, is_host, most_imps, same_host}
 use Rattle.interface.proofs.lemmas.{both_ways, same_host-refl, same_host-true}
-use Rattle.topology.specs.declared.network.ImpHosts.{ImpHosts}
-use Rattle.topology.specs.Topology.{TopologyFields, IsTopology, has_host, host_if, hosts_below, hosts_of, is_imp}
-use Rattle.topology.specs.Topology.{most_hosts}
+use Rattle.topology.specs.Topology.{TopologyFields, IsTopology, has_host, host_if, hosts_below, hosts_of, is_imp, most_hosts}
 
 abbrev pub place_of : ℕ → Host
 place_of n = record { imp = n / 4 + 1; host = n % 4 }

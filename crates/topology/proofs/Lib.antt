@@ -1,3 +1,4 @@
+pub mod Common
 pub mod Described
 mod Documents
 mod Hosts

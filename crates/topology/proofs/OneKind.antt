@@ -1,20 +1,12 @@
 -- A document describes a topology with strangers or one without, and never both.
-use Rattle.std.proofs.Common.{◌≡◌, ◌≢◌, ℕ, ◌+◌, ◌==◌, ◌&&◌, not, nat_le, Bool, true, false, List, [], ◌∷◌, filter, length, Option}
-use Rattle.std.proofs.Common.{Some, None, if◌then◌else◌, arith, ap, refl, sym, ◌∙◌, eqb-true, codes}
+use Rattle.topology.proofs.Common.{parse_document, Host, CarrierKind, ImpHosts, LineEnds}
+use Rattle.std.proofs.Common.{◌≡◌, ◌≢◌, ℕ, ◌+◌, ◌==◌, ◌&&◌, not, nat_le, Bool, true, false, List, [], ◌∷◌, filter, length, Option, Some, None, if◌then◌else◌, arith, ap, refl, sym, ◌∙◌, eqb-true, codes}
 use Rattle.std.specs.Prelude.{is_some, option_and_then}
 use Rattle.toml.specs.Data.{Data, Items, Members, as_array, get, item, no_items, table}
-use Rattle.toml.specs.Parse.{parse_document}
-use Rattle.interface.specs.Host.{Host}
 use Rattle.interface.proofs.lemmas.{and_none, and_second}
-use Rattle.topology.specs.Mixed.{MixedFields, all_foreign, is_foreign, is_number, items_at, items_in, mixed_by}
-use Rattle.topology.specs.Mixed.{mixed_if_read, mixed_in, mixed_of, names_host}
+use Rattle.topology.specs.Mixed.{MixedFields, all_foreign, is_foreign, is_number, items_at, items_in, mixed_by, mixed_if_read, mixed_in, mixed_of, names_host}
 use Rattle.topology.specs.Naming.{imp_naming, imps_naming, network_of}
-use Rattle.topology.specs.Topology.{TopologyFields, all_of, carrier_of, each_of, has, hosts_of, imp_from, imp_of, imps_of}
-use Rattle.topology.specs.Topology.{joined_option, known_members, lines_of, number_at, one_if, raw_of, size, topology_from}
-use Rattle.topology.specs.Topology.{topology_if_read, topology_in, topology_of}
-use Rattle.topology.specs.declared.network.CarrierKind.{CarrierKind}
-use Rattle.topology.specs.declared.network.ImpHosts.{ImpHosts}
-use Rattle.topology.specs.declared.network.LineEnds.{LineEnds}
+use Rattle.topology.specs.Topology.{TopologyFields, all_of, carrier_of, each_of, has, hosts_of, imp_from, imp_of, imps_of, joined_option, known_members, lines_of, number_at, one_if, raw_of, size, topology_from, topology_if_read, topology_in, topology_of}
 
 -- ---- what is there
 

@@ -1,14 +1,11 @@
 -- IMPs and hosts in order.
+use Rattle.topology.proofs.Common.{div-add-mod, mod_below, ImpHosts}
 use Rattle.std.proofs.Common.{◌≡◌, ℕ, zero, suc, ◌<◌, ◌≤◌, ◌+◌, ◌*◌, ◌/◌, ◌%◌, ◌==◌, Bool, true, false, List, [], ◌∷◌, ◌++◌, Option, Some, None, refl, sym, ap, ◌∙◌, subst, arith, lit<, inl, inr, add-one, append-nil, cond, eqb-true}
-use Rattle.std.proofs.Math.Nat.{div-add-mod}
-use Rattle.std.proofs.lemmas.Nat.{mod_below}
 use Rattle.std.proofs.lemmas.Bool.{cases_lt}
 use Rattle.std.proofs.lemmas.List.Elements.{All-nil, All-cons, All-append, All-head, All-tail}
 use Rattle.std.specs.List.{All, cons_option}
-use Rattle.interface.specs.Host.{Host}
-use Rattle.interface.specs.Host.{host_before, InOrder}
+use Rattle.interface.specs.Host.{Host, host_before, InOrder}
 use Rattle.interface.proofs.lemmas.{before_from_numbers}
-use Rattle.topology.specs.declared.network.ImpHosts.{ImpHosts}
 use Rattle.topology.specs.Topology.{hosts_below, host_if, has_host, numbered_below, imp_of_number, IsRising}
 use Rattle.topology.proofs.Documents.{some_same}
 

@@ -1,12 +1,8 @@
 -- A topology has few lines, since its IMPs have few ends.
+use Rattle.topology.proofs.Common.{list_all, nat_tests, most_imps, ImpHosts, LineEnds}
 use Rattle.std.proofs.Common.{◌≡◌, ℕ, suc, ◌≤◌, ◌+◌, ◌*◌, ◌==◌, ◌&&◌, ◌||◌, nat_le, not, Bool, true, false, List, [], ◌∷◌, length, cond, refl, sym, ◌∙◌, arith, eqb-true, eq-eqb, inl, inr}
-use Rattle.std.specs.List.{list_all}
 use Rattle.std.proofs.lemmas.List.Sums.{sum_by-cons}
 use Rattle.std.proofs.lemmas.Bool.{cases_Bool, and_parts, false≢true}
-use Rattle.std.proofs.lemmas.Bool.Decides.{nat_tests}
-use Rattle.interface.specs.Host.{most_imps}
-use Rattle.topology.specs.declared.network.ImpHosts.{ImpHosts}
-use Rattle.topology.specs.declared.network.LineEnds.{LineEnds}
 use Rattle.topology.specs.Topology.{IsTopology, TopologyFields, are_apart, has_ports, is_imp, is_line, is_there, line_count, most_lines, most_network_lines}
 use Rattle.interface.proofs.lemmas.{not_true}
 

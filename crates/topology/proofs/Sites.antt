@@ -1,14 +1,9 @@
 -- What sites are like, and which hosts they list.
+use Rattle.topology.proofs.Common.{div-add-mod, mod_below, nat_tests, list_all, range_with_len, Host, most_imps, ImpHosts}
 use Rattle.std.proofs.Common.{◌≡◌, ℕ, zero, suc, ◌<◌, ◌≤◌, ◌+◌, ◌*◌, ◌/◌, ◌%◌, ◌==◌, ◌&&◌, ◌||◌, nat_lt, nat_le, Bool, true, false, List, [], ◌∷◌, ◌++◌, All, length, map, Option, Some, None, refl, sym, ap, ◌∙◌, arith, lit<, append-nil, append_assoc, IfSome, eqb-true, inl, inr}
-use Rattle.std.proofs.Math.Nat.{div-add-mod}
-use Rattle.std.proofs.lemmas.Nat.{mod_below}
 use Rattle.std.proofs.lemmas.Bool.{cases_Bool, and_parts}
-use Rattle.std.proofs.lemmas.Bool.Decides.{nat_tests}
 use Rattle.std.proofs.lemmas.List.Elements.{All-nil, All-cons}
 use Rattle.std.proofs.lemmas.List.FromFn.{map-range_with_len_more, length-map-range_with_len}
-use Rattle.std.specs.List.{list_all, range_with_len}
-use Rattle.interface.specs.Host.{Host, most_imps}
-use Rattle.topology.specs.declared.network.ImpHosts.{ImpHosts}
 use Rattle.topology.specs.Topology.{AreSites, IsRising, IsTopology, TopologyFields, has_host, host_if, hosts_at, hosts_below, hosts_from, hosts_of, is_imp, site_of, sites_of}
 use Rattle.topology.proofs.Hosts.{place_of}
 use Rattle.interface.proofs.lemmas.{or_nothing}

@@ -1,12 +1,10 @@
 -- Strangers are hosts of the network, and there are some where one is named.
-use Rattle.std.proofs.Common.{◌≡◌, ◌≢◌, Bool, false, true, IsSome, List, [], ◌∷◌, Some, arith, filter, length, nat_le}
-use Rattle.std.proofs.Common.{refl, subst, sym}
+use Rattle.topology.proofs.Common.{nat_tests, Host, is_host, same_host}
+use Rattle.std.proofs.Common.{◌≡◌, ◌≢◌, Bool, false, true, IsSome, List, [], ◌∷◌, Some, arith, filter, length, nat_le, refl, subst, sym}
 use Rattle.std.proofs.lemmas.Bool.{or_left, or_right}
 use Rattle.std.proofs.lemmas.List.Elements.{All-cons, All-filter, All-nil, All-weaker}
-use Rattle.std.proofs.lemmas.Bool.Decides.{nat_tests}
 use Rattle.std.specs.List.{All}
 use Rattle.toml.specs.Data.{Items}
-use Rattle.interface.specs.Host.{Host, is_host, same_host}
 use Rattle.interface.proofs.lemmas.{same_host-refl}
 use Rattle.topology.specs.Mixed.{all_foreign, is_foreign, mixed_by}
 use Rattle.topology.specs.Topology.{TopologyFields, hosts_of}

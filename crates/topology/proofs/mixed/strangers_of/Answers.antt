@@ -1,6 +1,5 @@
+use Rattle.topology.proofs.Common.{items_view, most_imps}
 use Rattle.std.proofs.Common.{◌<◌, add-one, ap, filter, sym, ◌∙◌, ◌++◌, ◌*◌}
-use Rattle.toml.specs.View.{items_view}
-use Rattle.interface.specs.Host.{most_imps}
 use Rattle.topology.specs.Mixed.{is_foreign, named_at}
 use Rattle.topology.specs.Topology.{hosts_below, most_hosts}
 use Rattle.topology.proofs.Order.{hosts_none}

@@ -1,7 +1,6 @@
+use Rattle.topology.proofs.Common.{items_view, hosts_below}
 use Rattle.std.proofs.Common.{◌≡◌, filter}
-use Rattle.toml.specs.View.{items_view}
 use Rattle.topology.specs.Mixed.{is_foreign}
-use Rattle.topology.specs.Topology.{hosts_below}
 use Rattle.topology.proofs.mixed.strangers_of.Given as goal
 
 abbrev pub invariant-loop-place : goal.invariant-loop-place

@@ -1,6 +1,6 @@
+use Rattle.topology.proofs.Common.{numbered_below}
 use Rattle.std.proofs.Common.{sym, ap, ◌∙◌, ◌++◌, []}
 use Rattle.std.specs.List.{cons_option}
-use Rattle.topology.specs.Topology.{numbered_below}
 use Rattle.topology.proofs.Order.{numbered_next, numbered_none}
 use Rattle.topology.proofs.network.by_number.Goals as goal
 

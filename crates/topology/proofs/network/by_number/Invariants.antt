@@ -1,5 +1,4 @@
-use Rattle.std.proofs.Common.{◌≡◌}
-use Rattle.topology.specs.Topology.{numbered_below}
+use Rattle.topology.proofs.Common.{◌≡◌, numbered_below}
 use Rattle.topology.proofs.network.by_number.Given as goal
 
 abbrev pub invariant-loop-number : goal.invariant-loop-number

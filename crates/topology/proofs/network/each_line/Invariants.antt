@@ -1,5 +1,4 @@
-use Rattle.std.proofs.Common.{◌≡◌, drop}
-use Rattle.toml.specs.View.{items_view}
+use Rattle.topology.proofs.Common.{◌≡◌, drop, items_view}
 use Rattle.topology.specs.Topology.{each_of, line_of}
 use Rattle.topology.proofs.Documents.{behind}
 use Rattle.topology.proofs.network.each_line.Given as goal

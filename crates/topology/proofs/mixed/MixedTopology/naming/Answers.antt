@@ -1,9 +1,7 @@
+use Rattle.topology.proofs.Common.{items_view, most_imps, ImpHosts}
 use Rattle.std.proofs.Common.{◌≡◌, ◌≢◌, ◌*◌, List, [], ap, false, rules, subst, true}
-use Rattle.toml.specs.View.{items_view}
-use Rattle.interface.specs.Host.{most_imps}
 use Rattle.topology.specs.Mixed.{all_foreign, is_foreign, named_in}
 use Rattle.topology.specs.Topology.{IsTopology, hosts_below, hosts_of, most_hosts}
-use Rattle.topology.specs.declared.network.ImpHosts.{ImpHosts}
 use Rattle.topology.proofs.Strangers.{named_there, names_some}
 use Rattle.topology.proofs.mixed.MixedTopology.naming.Goals as goal
 

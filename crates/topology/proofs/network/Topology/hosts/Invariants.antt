@@ -1,5 +1,4 @@
-use Rattle.std.proofs.Common.{◌≡◌}
-use Rattle.topology.specs.Topology.{hosts_below}
+use Rattle.topology.proofs.Common.{◌≡◌, hosts_below}
 use Rattle.topology.proofs.network.Topology.hosts.Given as goal
 
 abbrev pub invariant-loop-place : goal.invariant-loop-place

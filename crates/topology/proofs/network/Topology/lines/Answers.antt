@@ -1,5 +1,5 @@
+use Rattle.topology.proofs.Common.{LineEnds}
 use Rattle.std.proofs.Common.{◌≤◌, length, sym, subst, List}
-use Rattle.topology.specs.declared.network.LineEnds.{LineEnds}
 use Rattle.topology.specs.Topology.{most_network_lines}
 use Rattle.topology.proofs.Ports.{few_lines}
 use Rattle.topology.proofs.network.Topology.lines.Goals as goal

@@ -1,8 +1,4 @@
-use Rattle.std.proofs.Common.{◌≡◌, codes, subst, true}
-use Rattle.toml.specs.Data.{Data}
-use Rattle.toml.specs.View.{table_view}
-use Rattle.toml.proofs.Views.{view-Table}
-use Rattle.topology.specs.Topology.{has}
+use Rattle.topology.proofs.Common.{◌≡◌, codes, subst, true, Data, table_view, view-Table, has}
 use Rattle.topology.proofs.Documents.{no_imps}
 use Rattle.topology.proofs.network.Topology.read.Goals as goal
 

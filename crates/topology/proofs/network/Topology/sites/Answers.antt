@@ -1,8 +1,6 @@
+use Rattle.topology.proofs.Common.{range_with_len, most_imps, ImpHosts}
 use Rattle.std.proofs.Common.{◌≡◌, ◌≤◌, ◌<◌, ◌+◌, ◌++◌, ◌∷◌, [], List, Option, ℕ, sym, ap, ◌∙◌, subst, map, arith}
-use Rattle.std.specs.List.{range_with_len}
-use Rattle.interface.specs.Host.{most_imps}
 use Rattle.topology.specs.Topology.{AreSites, TopologyFields, hosts_from, hosts_of, site_of, sites_of}
-use Rattle.topology.specs.declared.network.ImpHosts.{ImpHosts}
 use Rattle.topology.proofs.Sites.{hosts_listed, sites_kept, sites_more}
 use Rattle.topology.proofs.network.Topology.sites.Goals as goal
 
