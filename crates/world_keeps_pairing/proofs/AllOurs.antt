@@ -1,5 +1,8 @@
 -- The same where all hosts run the program: then all lives of the book are between two that do. So it is of the book of a world.
-use Rattle.world_keeps_pairing.proofs.Common.{◌≡◌, false, true, List, ◌++◌, refl, ap, sym, subst, Some, IsSome, Contains, Coupled, Crossing, Host, Kept, Moment, IsStory, IsTimeline, AreTwo, Match, SafePartners, crossings_of, events_of, own_request, partner_request, receives}
+use Rattle.world_keeps_pairing.proofs.Common.{◌≡◌, false, true, List, ◌++◌, refl, ap, sym, subst, Some, IsSome, Contains, Crossing, Host, Moment, IsStory, events_of, IsTimeline, crossings_of, mixed_kept}
+use Rattle.net_sim.proofs.lemmas.{Coupled, kept_same}
+use Rattle.net_sim.specs.Book.{Kept}
+use Rattle.promise.specs.Safe.{AreTwo, Match, SafePartners, own_request, partner_request, receives}
 use Rattle.interface.specs.Calls.{Seen}
 use Rattle.interface.specs.Mailboxes as mail
 use Rattle.interface.proofs.lemmas.{run_below}
@@ -7,9 +10,7 @@ use Rattle.promise.specs.declared.life.Life.{Life}
 use Rattle.reset_law.specs.Network.{all_ours}
 use Rattle.reset_law.specs.Runs.{IsRun}
 use Rattle.net_sim.proofs.lemmas.AllOurs.{coupled, happened}
-use Rattle.net_sim.proofs.lemmas.{kept_same}
 use Rattle.net_sim.specs.Clean.{IsLawful}
-use Rattle.net_sim.specs.Mixed.{mixed_kept}
 use Rattle.net_sim.specs.Told.{kept_in}
 use Rattle.net_sim.specs.World.{WorldState}
 use Rattle.world_keeps_pairing.proofs.BookPartners as partners

@@ -1,16 +1,15 @@
 -- No two lives of a book have one request, and partners are partners both ways.
-use Rattle.world_keeps_pairing.proofs.Common.{Bool, ◌≡◌, inl, inr, ℕ, suc, true, List, [], ◌∷◌, ◌++◌, Option, Some, None, refl, ap, sym, subst, ◌∙◌, arith, false, IsSome, Contains, Host, Crossing, is_receive_socket, is_send_socket, AreAmong, IsIn, NoneOwns, OwnOnce, PartnerOnce, Side, Receiver, Sender, Sockets, events_at, receiver, sender, run_at, safe_run, AreTwo, Match, SafePartners, control_flow, last_out, own_request, partner_request, receives, Moment, IsStory, events_of, crossings_of, law_events, origin_in, origin_or, place_or, is_between, life_of, openings, with_lives, steps}
+use Rattle.world_keeps_pairing.proofs.Common.{Bool, ◌≡◌, inl, inr, ℕ, suc, true, List, [], ◌∷◌, ◌++◌, Option, Some, None, refl, ap, sym, subst, ◌∙◌, arith, false, IsSome, Contains, Host, Crossing, is_receive_socket, is_send_socket, AreAmong, Receiver, Sender, Sockets, events_at, receiver, sender, run_at, safe_run, Moment, IsStory, events_of, crossings_of, law_events, origin_in, origin_or, place_or, steps, mixed_kept, AreOurs, Network}
+use Rattle.pairing_law.specs.Partners.{IsIn, NoneOwns, OwnOnce, PartnerOnce, AreBoth}
+use Rattle.pairing_law.specs.Sides.{Side, Life, both}
+use Rattle.promise.specs.Safe.{AreTwo, Match, SafePartners, control_flow, last_out, own_request, partner_request, receives, Name, before, named}
+use Rattle.world_keeps_pairing.specs.Lives.{is_between, life_of, openings, with_lives, ArePaired}
 use Rattle.std.proofs.lemmas.List.Elements.{Contains-append_left, Contains-append_right}
 use Rattle.interface.specs.Mailboxes as mail
 use Rattle.pairing_law.specs.Partners as law
-use Rattle.pairing_law.specs.Partners.{AreBoth}
-use Rattle.pairing_law.specs.Sides.{Life, both}
 use Rattle.reset_law.specs.Runs.{IsRun}
 use Rattle.promise.specs.declared.life.Life as book
-use Rattle.promise.specs.Safe.{Name, before, named}
-use Rattle.net_sim.specs.Mixed.{mixed_kept}
 use Rattle.world_keeps_pairing.proofs.Served.{AreServed}
-use Rattle.world_keeps_pairing.specs.Lives.{ArePaired}
 use Rattle.world_keeps_pairing.proofs.LifeLists.{between_itself, in_among, once_among, own_once, partner_once, told_in, two_apart}
 use Rattle.world_keeps_pairing.proofs.LinkRun.{all_tied}
 use Rattle.world_keeps_pairing.proofs.LivesAmong.{by_sockets, lives_among}
@@ -18,7 +17,6 @@ use Rattle.world_keeps_pairing.proofs.Marks.{even_odd}
 use Rattle.world_keeps_pairing.proofs.Origins.{are_origins}
 use Rattle.world_keeps_pairing.proofs.Sides.{receiver_half, sender_half}
 use Rattle.world_keeps_pairing.proofs.Went.{AllWent, Went, before_went, last_went, side_went, went_once}
-use Rattle.reset_law.specs.Network.{AreOurs, Network}
 
 -- ---- names
 

@@ -1,18 +1,18 @@
 -- The lives of a book at two sockets: notices begin them, and nothing renames them.
-use Rattle.world_keeps_pairing.proofs.Common.{same_host-true, sym, ◌≡◌, ℕ, ◌==◌, Bool, true, false, ◌&&◌, if◌then◌else◌, List, [], ◌∷◌, ◌++◌, refl, ap, ◌∙◌, Host, same_host, Crossing, is_ready, NcpState, pair_with, Request, with_openings, Kept, Moment, Crossed, Asked, host_in, notices_by, with_life, with_lives}
+use Rattle.world_keeps_pairing.proofs.Common.{same_host-true, sym, ◌≡◌, ℕ, ◌==◌, Bool, true, false, ◌&&◌, if◌then◌else◌, List, [], ◌∷◌, ◌++◌, refl, ap, ◌∙◌, Host, same_host, Crossing, is_ready, NcpState, pair_with, Request, Moment, Crossed, Asked, Network}
+use Rattle.host_keeps_pairing.specs.Openings.{with_openings, with_opening}
+use Rattle.net_sim.specs.Book.{Kept, all_told, changed_when, life_ended, carried, granted, returned, lives_asked, lives_at, lives_between, lives_crossed, lives_on, lives_told, lives_with, new_life, book_told, where_it}
+use Rattle.net_sim.specs.Told.{host_in, notices_by, kept_by}
+use Rattle.world_keeps_pairing.specs.Lives.{with_life, with_lives}
 use Rattle.interface.specs.declared.crossing.Crossing.TheVariants as crossing
 use Rattle.host_pairs.specs.About.{AreAbout, IsAbout}
 use Rattle.host_pairs.specs.declared.notice.Notice.{Notice}
 use Rattle.host_pairs.specs.declared.notice.Notice.TheVariants as notice
 use Rattle.sockets.specs.Requests.{served_notices}
 use Rattle.sockets.specs.declared.request.Request.TheVariants as request
-use Rattle.host_keeps_pairing.specs.Openings.{with_opening}
 use Rattle.pairing_law.specs.Sides.{Life}
 use Rattle.promise.specs.declared.life.Life as book
-use Rattle.net_sim.specs.Book.{all_told, changed_when, life_ended, carried, granted, returned, lives_asked, lives_at, lives_between, lives_crossed, lives_on, lives_told, lives_with, new_life, book_told, where_it}
-use Rattle.net_sim.specs.Told.{kept_by}
 use Rattle.net_sim.specs.Mixed.{crossed_only, mixed_kept}
-use Rattle.reset_law.specs.Network.{Network}
 
 if_same : (b : Bool) (told : List Life) → told ≡ (if b then told else told)
 if_same true told = refl

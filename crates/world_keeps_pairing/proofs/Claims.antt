@@ -1,10 +1,12 @@
 -- Which link the last request of a receiver named, for each pair of sockets.
-use Rattle.world_keeps_pairing.proofs.Common.{◌≡◌, ◌⊎◌, inl, inr, ℕ, ◌<◌, ◌≤◌, Bool, true, false, if◌then◌else◌, List, [], ◌∷◌, Option, Some, None, refl, ap, sym, subst, ◌∙◌, arith, End, nothing, fits, gone, mark_taken, Mark, Ask, Close, One, Two, Say, Sockets, same, Word, Receiver, Sender, Step, Says, Hears, Leaves, Meets, receiver, sender, events_at, with_event, stays, said_words, heard_words, IsAmong, AreSteps, joined_fits, joined_run, run_at, same_is, same_self, turned}
+use Rattle.world_keeps_pairing.proofs.Common.{◌≡◌, ◌⊎◌, inl, inr, ℕ, ◌<◌, ◌≤◌, Bool, true, false, if◌then◌else◌, List, [], ◌∷◌, Option, Some, None, refl, ap, sym, subst, ◌∙◌, arith, End, nothing, fits, gone, mark_taken}
+use Rattle.pairing_law.specs.Marks.{Mark, Ask, Close, Asks}
+use Rattle.pairing_law.specs.Sides.{One, Two, Say}
+use Rattle.pairing_law.specs.Links.{Sockets, same, Word, Receiver, Sender, Step, Says, Hears, Leaves, Meets, receiver, sender, events_at, with_event, stays, said_words, heard_words, IsAmong, AreSteps}
+use Rattle.pairing_law.proofs.lemmas.{joined_fits, joined_run, run_at, same_is, same_self, turned, BothSeen, Joined, among_asks, at, below_asks, joined_at, seen}
 use Rattle.std.proofs.lemmas.Option.{same_Some}
-use Rattle.pairing_law.specs.Marks.{Asks}
 use Rattle.pairing_law.specs.Sides as sides
 use Rattle.pairing_law.specs.Links as links
-use Rattle.pairing_law.proofs.lemmas.{BothSeen, Joined, among_asks, at, below_asks, joined_at, seen}
 
 -- a request for a pair of sockets named a link
 pub record Claim : Type 0 where

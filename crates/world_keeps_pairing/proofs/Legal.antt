@@ -1,13 +1,12 @@
 -- What two hosts hear may be heard, and they meet as they may.
-use Rattle.world_keeps_pairing.proofs.Common.{◌≡◌, Bool, true, false, if◌then◌else◌, List, [], ◌∷◌, ◌++◌, refl, ap, sym, subst, ◌∙◌, append_assoc, Host, Event, nothing, Side, Sockets, Word, Who, Receiver, Sender, Step, Hears, receiver, sender, stays, said_words, heard_words, AreSteps, words_of, onto, all_heard, heard_in, keeps, steps_left, met, spoken_by, taken_by, steps}
+use Rattle.world_keeps_pairing.proofs.Common.{◌≡◌, Bool, true, false, if◌then◌else◌, List, [], ◌∷◌, ◌++◌, refl, ap, sym, subst, ◌∙◌, append_assoc, Host, Event, nothing, Side, words_of, onto, all_heard, heard_in, keeps, steps_left, met, spoken_by, taken_by, steps, AreOurs, Network}
+use Rattle.pairing_law.specs.Links.{Sockets, Word, Who, Receiver, Sender, Step, Hears, receiver, sender, stays, said_words, heard_words, AreSteps, AreOlder}
 use Rattle.reset_law.specs.Runs.{IsRun}
 use Rattle.reset_law.specs.Stays as stay
 use Rattle.reset_law.proofs.lemmas.{heard_front}
-use Rattle.pairing_law.specs.Links.{AreOlder}
 use Rattle.pairing_law.proofs.lemmas.{Fresh, begins_fresh}
 use Rattle.world_keeps_pairing.proofs.Views.{View, view, lawful, same_view, after_said, sender_hears_if, words_join, onto_join, onto_if}
 use Rattle.world_keeps_pairing.proofs.Sides.{at_texts, before, receiver_before, sender_before, receiver_half, sender_half, nothing_there}
-use Rattle.reset_law.specs.Network.{AreOurs, Network}
 
 -- ---- prefixes
 

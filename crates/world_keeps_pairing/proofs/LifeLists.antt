@@ -1,12 +1,13 @@
 -- Lives of a book, one by one: those at two sockets are reported, and two of them at two places; and those between hosts with programs.
-use Rattle.world_keeps_pairing.proofs.Common.{◌≡◌, inl, inr, ℕ, zero, suc, ◌<◌, not, ◌&&◌, drop, append_assoc, Bool, true, false, if◌then◌else◌, List, [], ◌∷◌, ◌++◌, length, refl, ap, sym, subst, ◌∙◌, eq-eqb, arith, Contains, Host, same_host-refl, AreAmong, IsIn, NoneOwns, OwnOnce, PartnerOnce, AreTwo, is_between, life_of, with_life, with_lives}
-use Rattle.std.proofs.Common.{◌≢◌, get_or}
-use Rattle.pairing_law.specs.Partners.{NoneTook}
+use Rattle.world_keeps_pairing.proofs.Common.{append_assoc, Contains, Host, AreAmong, AreOurs, Network}
+use Rattle.std.proofs.Common.{◌≡◌, inl, inr, ℕ, zero, suc, ◌<◌, not, ◌&&◌, drop, Bool, true, false, if◌then◌else◌, List, [], ◌∷◌, ◌++◌, length, refl, ap, sym, subst, ◌∙◌, eq-eqb, arith, ◌≢◌, get_or}
+use Rattle.interface.proofs.lemmas.{same_host-refl, contains_head, contains_none, contains_tail}
+use Rattle.pairing_law.specs.Partners.{IsIn, NoneOwns, OwnOnce, PartnerOnce, NoneTook}
+use Rattle.promise.specs.Safe.{AreTwo}
+use Rattle.world_keeps_pairing.specs.Lives.{is_between, life_of, with_life, with_lives}
 use Rattle.pairing_law.specs.Sides.{Life}
 use Rattle.promise.specs.declared.life.Life as book
 use Rattle.std.proofs.lemmas.List.Elements.{Contains-append_cases, Contains-push_cases}
-use Rattle.interface.proofs.lemmas.{contains_head, contains_none, contains_tail}
-use Rattle.reset_law.specs.Network.{AreOurs, Network}
 use Rattle.net_sim.specs.Among.{is_among, lives_among}
 
 -- ---- lives of the law

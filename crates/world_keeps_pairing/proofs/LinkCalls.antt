@@ -1,18 +1,19 @@
 -- What users ask for and what is answered, and links.
-use Rattle.world_keeps_pairing.proofs.Common.{◌≡◌, ℕ, Bool, true, false, not, ◌&&◌, ◌||◌, if◌then◌else◌, List, [], ◌∷◌, ◌++◌, Option, Some, None, is_some, refl, sym, subst, ◌∙◌, Host, same_host, Flow, Answer, same_host-true, is_receive_socket, is_send_socket, Command, desk_of, entry_at, free_link, is_receiving, receiving_end, sending_end, PairState, link_of, is_ready, TurnState, Entry, Phase, turn_of, NcpState, pair_with, Peer, Request}
+use Rattle.world_keeps_pairing.proofs.Common.{◌≡◌, ℕ, Bool, true, false, not, ◌&&◌, ◌||◌, if◌then◌else◌, List, [], ◌∷◌, ◌++◌, Option, Some, None, is_some, refl, sym, subst, ◌∙◌, Host, same_host, Flow, Answer, is_receive_socket, is_send_socket, Command, PairState, is_ready, Entry, Phase, Peer, Request}
+use Rattle.interface.proofs.lemmas.{same_host-true, or_false, not_false}
+use Rattle.host_pairs.specs.Desk.{desk_of, listens_on}
+use Rattle.host_pairs.specs.Entries.{entry_at, free_link, is_receiving, receiving_end, sending_end, called_off, is_busy, is_mine_on}
+use Rattle.host_pairs.specs.Parcels.{link_of}
+use Rattle.host_pairs.specs.Turn.{TurnState, answered_turn, failed, failed_by, freed, is_gone, settled_turn}
+use Rattle.sockets.specs.Accepting.{turn_of, accepted, accepted_answer}
+use Rattle.sockets.specs.Pairs.{NcpState, pair_with, owner_of, with_pair}
 use Rattle.interface.specs.declared.crossing.Answer.TheVariants as answer
 use Rattle.interface.specs.declared.crossing.Inbound.TheVariants as inbound
-use Rattle.interface.proofs.lemmas.{or_false, not_false}
 use Rattle.ncp_control.specs.declared.command.Command.TheVariants as command
 use Rattle.host_pairs.specs.Asked.{closed_end, commanded, contacted, interrupt_of, receiver_requested, requested, with_end, with_more_bits}
 use Rattle.host_pairs.specs.Commands.{granted}
-use Rattle.host_pairs.specs.Desk.{listens_on}
-use Rattle.host_pairs.specs.Entries.{called_off, is_busy, is_mine_on}
-use Rattle.host_pairs.specs.Turn.{answered_turn, failed, failed_by, freed, is_gone, settled_turn}
 use Rattle.ncp_control.specs.declared.phase.Phase.TheVariants as phase
 use Rattle.host_pairs.proofs.lemmas.{both}
-use Rattle.sockets.specs.Accepting.{accepted, accepted_answer}
-use Rattle.sockets.specs.Pairs.{owner_of, with_pair}
 use Rattle.sockets.specs.Requests.{at_owner, closed_socket, first_if, is_taken, is_used, refusal, served}
 use Rattle.sockets.specs.declared.request.Request.TheVariants as request
 use Rattle.sockets.proofs.lemmas.{not_first, others_stay}

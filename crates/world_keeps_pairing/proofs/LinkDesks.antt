@@ -1,21 +1,20 @@
 -- Commands of the peer, and links.
-use Rattle.world_keeps_pairing.proofs.Common.{◌≡◌, ℕ, ◌==◌, Bool, false, not, ◌&&◌, if◌then◌else◌, List, [], ◌∷◌, ◌++◌, map, filter, Option, Some, None, is_some, refl, ap, sym, subst, ◌∙◌, eq-eqb, eqb-true, list_any, Host, is_receive_socket, is_send_socket, Command, desk_taken, data_taken, DeskState, entry_at, free_link, is_at, is_link, is_over, receives_on, receiving_end, sending_end, sends_on, Entry, Listener}
-use Rattle.std.proofs.Common.{true, nat_le, find}
+use Rattle.world_keeps_pairing.proofs.Common.{eqb-true, list_any, Host, is_receive_socket, is_send_socket, Command, Entry, Listener, not_true}
+use Rattle.std.proofs.Common.{◌≡◌, ℕ, ◌==◌, Bool, false, not, ◌&&◌, if◌then◌else◌, List, [], ◌∷◌, ◌++◌, map, filter, Option, Some, None, is_some, refl, ap, sym, subst, ◌∙◌, eq-eqb, true, nat_le, find}
+use Rattle.host_pairs.specs.Commands.{desk_taken, Ending, Found, Open, Unconnected, all_taken, answered_on, asked_on_link, asked_with_size, at_end, changed, closed_once, cls_taken_by, gvb_taken, interrupted, entry_joined, matched_once, receiver_on, ret_taken, rts_heard, rts_taken, rts_taken_by, sender_on, str_heard, str_linked, str_taken_by}
+use Rattle.host_pairs.specs.Data.{data_taken, arrived_if, data_found, is_acceptable}
+use Rattle.host_pairs.specs.Desk.{DeskState, listener_on, command_queued, settled, swept}
+use Rattle.host_pairs.specs.Entries.{entry_at, free_link, is_at, is_link, is_over, receives_on, receiving_end, sending_end, sends_on, closed_by_partner, closed_when, cls_of, connection_links, must_close, refused_end}
 use Rattle.bit_messages.specs.Octets.{octets_of}
 use Rattle.ncp_control.specs.Command.{spelling}
 use Rattle.ncp_control.specs.DataHeader.{header_of}
 use Rattle.ncp_control.specs.declared.command.Command.TheVariants as command
 use Rattle.ncp_control.specs.declared.data_header.DataHeader.{DataHeader}
 use Rattle.host_pairs.specs.Commands as commands
-use Rattle.host_pairs.specs.Commands.{Ending, Found, Open, Unconnected, all_taken, answered_on, asked_on_link, asked_with_size, at_end, changed, closed_once, cls_taken_by, gvb_taken, interrupted, entry_joined, matched_once, receiver_on, ret_taken, rts_heard, rts_taken, rts_taken_by, sender_on, str_heard, str_linked, str_taken_by}
 use Rattle.host_pairs.specs.Control.{ERRONEOUS, NOT_CONNECTED, NO_SOCKET, error}
-use Rattle.host_pairs.specs.Data.{arrived_if, data_found, is_acceptable}
-use Rattle.host_pairs.specs.Desk.{listener_on, command_queued, settled, swept}
-use Rattle.host_pairs.specs.Entries.{closed_by_partner, closed_when, cls_of, connection_links, must_close, refused_end}
 use Rattle.host_pairs.proofs.lemmas.{both}
 use Rattle.world_keeps_pairing.proofs.Claims.{Claim, last_link}
 use Rattle.world_keeps_pairing.proofs.Local.{IsQuiet, Links, One, all_claims, claim_first, claim_of, claims_join, links_changed, links_filter, links_heard, links_joined, links_linked, links_map, links_said, none_found}
-use Rattle.interface.proofs.lemmas.{not_true}
 
 -- a desk's ends have the links that were said and heard
 abbrev pub Linked : List Claim → List Claim → DeskState → Type 0

@@ -1,16 +1,17 @@
 -- A message that goes out, and links: each RTS in it names one that no receiving end has.
-use Rattle.world_keeps_pairing.proofs.Common.{◌≡◌, ◌⊎◌, inl, inr, ℕ, ◌==◌, Bool, true, ◌&&◌, if◌then◌else◌, List, [], ◌∷◌, ◌++◌, map, Option, Some, None, is_some, refl, ap, sym, subst, ◌∙◌, eq-eqb, append_assoc, list_any, is_receive_socket, is_send_socket, Command, is_at, is_link, receives_on, Closing, Entry, mark_of, marks, Stand, Standing, close_waits, request_due, standing, at_one, eqb-sym, live_end, End, nothing, Mark, Ask, Close, Sockets, Word, Receiver, Step, receiver, said_words, IsAmong, AreSteps}
-use Rattle.std.proofs.Common.{false}
+use Rattle.world_keeps_pairing.proofs.Common.{append_assoc, list_any, is_receive_socket, is_send_socket, Command, Closing, Entry, mark_of, marks, End, nothing, Mark, Ask, Close}
+use Rattle.std.proofs.Common.{◌≡◌, ◌⊎◌, inl, inr, ℕ, ◌==◌, Bool, true, ◌&&◌, if◌then◌else◌, List, [], ◌∷◌, ◌++◌, map, Option, Some, None, is_some, refl, ap, sym, subst, ◌∙◌, eq-eqb, false}
+use Rattle.host_pairs.specs.Entries.{is_at, is_link, receives_on}
+use Rattle.host_keeps_pairing.specs.Ends.{Stand, Standing, close_waits, request_due, standing, at}
+use Rattle.host_keeps_pairing.proofs.lemmas.{at_one, eqb-sym, live_end, sockets_of}
+use Rattle.pairing_law.specs.Links.{Sockets, Word, Receiver, Step, receiver, said_words, IsAmong, AreSteps, IsFreeLink}
 use Rattle.ncp_control.specs.declared.command.Command.TheVariants as command
 use Rattle.host_pairs.specs.declared.entry.Closing.TheVariants as closing
 use Rattle.host_pairs.proofs.lemmas.{both}
-use Rattle.host_keeps_pairing.specs.Ends.{at}
-use Rattle.pairing_law.specs.Links.{IsFreeLink}
 use Rattle.world_keeps_pairing.proofs.Claims.{Claim, asked_last, last_link, said_claims}
 use Rattle.world_keeps_pairing.proofs.LinkTurns.{Split, any_split, each_split, stands_alone}
 use Rattle.world_keeps_pairing.proofs.Local.{AllOff, AsksOwn, claim_first, Each, Links, One, ReceivesBy, all_claims, claim_of}
 use Rattle.world_keeps_pairing.proofs.Marks.{AllPairs, IsPair}
-use Rattle.host_keeps_pairing.proofs.lemmas.{sockets_of}
 
 -- ---- what waits of an end that has asked
 

@@ -1,11 +1,11 @@
 -- What goes out of a pair, and links.
-use Rattle.world_keeps_pairing.proofs.Common.{◌≡◌, ℕ, ◌==◌, zero, suc, Bool, true, false, ◌&&◌, if◌then◌else◌, List, [], ◌∷◌, ◌++◌, map, drop, Some, refl, ap, sym, subst, ◌∙◌, append-nil, Host, Command, MayGo, Legal, Order, orders_of, desk_of, PairState, Parcel, commands_gone, link_for, link_of, next_of, pair_after, parcel_gone, text_for, Listener, what_goes, AreCommands, IsReadBack, untagged, MayAllGo, eqb-sym, untagged_is, AreSteps, Receiver, Sockets, Step, Who, Word, receiver, said_words, tagged, with_place, Message, Out, Pair, Agrees, message_on, data_away, NameFree, all_said, words_by, words_of}
-use Rattle.std.proofs.Common.{◌*◌, take}
-use Rattle.std.proofs.lemmas.List.{take-append-drop}
+use Rattle.world_keeps_pairing.proofs.Common.{Host, Command, MayGo, Legal, Order, orders_of, desk_of, PairState, Listener, AreCommands, IsReadBack, untagged, MayAllGo, eqb-sym, untagged_is, AreSteps, Receiver, Sockets, Step, Who, Word, receiver, said_words, tagged, with_place, Message, Out, Pair, Agrees, message_on, data_away, NameFree, all_said, words_by, words_of}
+use Rattle.std.proofs.Common.{◌≡◌, ℕ, ◌==◌, zero, suc, Bool, true, false, ◌&&◌, if◌then◌else◌, List, [], ◌∷◌, ◌++◌, map, drop, Some, refl, ap, sym, subst, ◌∙◌, ◌*◌, take}
+use Rattle.std.proofs.lemmas.List.{append-nil, take-append-drop}
+use Rattle.host_pairs.specs.Parcels.{Parcel, commands_gone, link_for, link_of, next_of, pair_after, parcel_gone, text_for, bits_gone, may_send_on}
+use Rattle.host_pairs.proofs.lemmas.{what_goes, all_gone_queue}
 use Rattle.ncp_control.specs.declared.command.Command.TheVariants as command
 use Rattle.host_pairs.specs.Parcels as parcel
-use Rattle.host_pairs.specs.Parcels.{bits_gone, may_send_on}
-use Rattle.host_pairs.proofs.lemmas.{all_gone_queue}
 use Rattle.pairing_law.proofs.lemmas.Seen as words
 use Rattle.reset_law.specs.Stays as stay
 use Rattle.world_keeps_pairing.proofs.Claims.{Claim, said_claims}

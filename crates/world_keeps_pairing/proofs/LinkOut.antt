@@ -1,10 +1,12 @@
 -- All commands of a message that goes out, and links.
-use Rattle.world_keeps_pairing.proofs.Common.{◌≡◌, ℕ, ◌==◌, Bool, true, false, not, ◌&&◌, if◌then◌else◌, List, [], ◌∷◌, ◌++◌, map, refl, ap, sym, subst, ◌∙◌, eq-eqb, Host, IsCommand, is_receive_socket, is_send_socket, Command, Legal, DeskState, changed_at, is_at, is_over, commands_gone, Entry, AreCommands, MayAllGo, all_gone, mark_of, marks, Stand, End, gone, Mark, Ask, Close, Side, says, Sockets, Word, Receiver, Step, Says, receiver, said_words, stays, AreSteps, NameFree, all_said, word_by, words_by}
+use Rattle.world_keeps_pairing.proofs.Common.{◌≡◌, ℕ, ◌==◌, Bool, true, false, not, ◌&&◌, if◌then◌else◌, List, [], ◌∷◌, ◌++◌, map, refl, ap, sym, subst, ◌∙◌, eq-eqb, Host, IsCommand, is_receive_socket, is_send_socket, Command, Legal, Entry, AreCommands, MayAllGo, all_gone, mark_of, marks, End, gone, Mark, Ask, Close, Sockets, Word, Receiver, Step, Says, receiver, said_words, stays, AreSteps, NameFree, all_said, word_by, words_by}
+use Rattle.host_pairs.specs.Desk.{DeskState}
+use Rattle.host_pairs.specs.Entries.{changed_at, is_at, is_over}
+use Rattle.host_pairs.specs.Parcels.{commands_gone, asked_at, cls_sent, command_gone}
+use Rattle.host_keeps_pairing.specs.Ends.{Stand, at}
+use Rattle.pairing_law.specs.Sides.{Side, says, above}
 use Rattle.ncp_control.specs.declared.command.Command.TheVariants as command
-use Rattle.host_pairs.specs.Parcels.{asked_at, cls_sent, command_gone}
-use Rattle.host_keeps_pairing.specs.Ends.{at}
 use Rattle.host_keeps_pairing.proofs.lemmas.{one_gone}
-use Rattle.pairing_law.specs.Sides.{above}
 use Rattle.pairing_law.proofs.lemmas.Seen as words
 use Rattle.world_keeps_pairing.proofs.Claims.{Claim, said_claims}
 use Rattle.world_keeps_pairing.proofs.LinkGoes.{Receives, is_free, mine_by}

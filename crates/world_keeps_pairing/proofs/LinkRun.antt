@@ -1,7 +1,11 @@
 -- Links are free over all moments, so two programs are tied to the law.
-use Rattle.world_keeps_pairing.proofs.Common.{◌≡◌, ℕ, Bool, true, false, ◌&&◌, if◌then◌else◌, List, ◌∷◌, None, refl, ap, sym, subst, ◌∙◌, zero, suc, ◌+◌, ◌<◌, ◌≤◌, ◌==◌, ◌++◌, length, Option, Some, eq-eqb, arith, Host, same_host, HostMessage, same_host-true, IsRanged, AreCommands, accepted, pair_with, refusal, offered, message_leaves, offer_leaves, PairState, Receiver, Sender, Word, Sockets, placed_event, with_box, with_place, boxes, In, Message, Other, Out, Reply, Reset, are, place, event_of, message_on, Asked, Crossed, IsNext, IsStory, Moment, events_of, places, program, by_request, Coupled, coupled, NameFree, NamesFreeAt, TakesFreeAt, law_events, origin_in, all_said, steps, words_of, eqb-true, Contains, IsCommand, is_receive_socket, is_send_socket, Command, is_link, Closing, Entry, pair_range, HasEnd, Stand, Standing, close_waits, request_due, standing, mark_of, marks, End, Mark, Ask, Close, HaveAddresses, IsTimeline, crossings_of}
-use Rattle.std.proofs.Common.{[], slice_index_or}
-use Rattle.std.proofs.lemmas.Bool.{and_right}
+use Rattle.world_keeps_pairing.proofs.Common.{Host, same_host, HostMessage, same_host-true, IsRanged, AreCommands, accepted, pair_with, refusal, offered, PairState, Receiver, Sender, Word, Sockets, placed_event, with_box, with_place, boxes, In, Message, Other, Out, Reply, Reset, are, place, event_of, message_on, Asked, Crossed, IsNext, IsStory, Moment, events_of, places, program, NameFree, NamesFreeAt, TakesFreeAt, law_events, origin_in, all_said, steps, words_of, Contains, IsCommand, is_receive_socket, is_send_socket, Command, Closing, Entry, pair_range, mark_of, marks, End, Mark, Ask, Close, HaveAddresses, IsTimeline, crossings_of, AreOurs, Network, Happened}
+use Rattle.std.proofs.Common.{◌≡◌, ℕ, Bool, true, false, ◌&&◌, if◌then◌else◌, List, ◌∷◌, None, refl, ap, sym, subst, ◌∙◌, zero, suc, ◌+◌, ◌<◌, ◌≤◌, ◌==◌, ◌++◌, length, Option, Some, eq-eqb, arith, [], slice_index_or}
+use Rattle.sockets.proofs.lemmas.{message_leaves, offer_leaves}
+use Rattle.net_sim.proofs.lemmas.{by_request, Coupled, coupled}
+use Rattle.std.proofs.lemmas.Bool.{eqb-true, and_right}
+use Rattle.host_pairs.specs.Entries.{is_link}
+use Rattle.host_keeps_pairing.specs.Ends.{HasEnd, Stand, Standing, close_waits, request_due, standing, at}
 use Rattle.interface.specs.declared.crossing.Crossing.TheVariants as crossing
 use Rattle.interface.specs.declared.crossing.Inbound.TheVariants as inbound
 use Rattle.reset_law.specs.Runs.{IsRun}
@@ -18,11 +22,8 @@ use Rattle.interface.specs.Mailboxes as mail
 use Rattle.ncp_control.specs.declared.command.Command.TheVariants as command
 use Rattle.host_pairs.specs.declared.entry.Closing.TheVariants as closing
 use Rattle.host_pairs.proofs.lemmas.{both}
-use Rattle.host_keeps_pairing.specs.Ends.{at}
 use Rattle.world_keeps_pairing.proofs.LinkTurns.{each_split, own_at, stands_alone}
 use Rattle.world_keeps_pairing.proofs.Local.{Each, ReceivesBy, all_claims, claim_first, claim_of}
-use Rattle.reset_law.specs.Network.{AreOurs, Network}
-use Rattle.net_sim.specs.Mixed.{Happened}
 
 -- a message of others, or for others
 said_off : (a b x y : Host) (l : ℕ) (m : Message) → are a b x y ≡ false → stay.said_by a b 0 (Out x y l m) ≡ []

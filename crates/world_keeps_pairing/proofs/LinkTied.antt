@@ -1,14 +1,17 @@
 -- Two programs with all that crosses between them: links are free, and all is tied to the law.
-use Rattle.world_keeps_pairing.proofs.Common.{◌≡◌, ℕ, ◌==◌, Bool, true, false, ◌&&◌, if◌then◌else◌, List, [], ◌∷◌, Some, refl, ap, sym, subst, ◌∙◌, Host, same_host, HostMessage, same_host-refl, same_host-true, Order, orders_of, data_taken, desk_of, PairState, Parcel, link_for, pair_after, parcel_gone, text_for, TurnState, orders_taken, with_desk, IsRanged, offer_read, pair_range, text_good, MayAllGo, marks, HasEnd, Stand, AreFree, AreJoint, eqb-sym, turn_of, NcpState, pair_with, next_in, Peer, next_is, next_pair, End, Side, AreSteps, Receiver, Sender, Sockets, Step, Word, receiver, said_words, placed_event, tagged, with_place, Event, Message, Other, Out, Reply, Reset, are, place, In, pair, Agrees, event_of, message_on, IsApart, Crossed, IsNext, IsStory, Moment, events_of, places, program, program_own, story_agrees, NameFree, TakesFreeAt, law_events, all_heard, all_said, heard_in, onto, steps, words_by, words_of, Waiting, boxes}
+use Rattle.world_keeps_pairing.proofs.Common.{◌≡◌, ℕ, ◌==◌, Bool, true, false, ◌&&◌, if◌then◌else◌, List, [], ◌∷◌, Some, refl, ap, sym, subst, ◌∙◌, Host, same_host, HostMessage, same_host-refl, same_host-true, Order, orders_of, desk_of, PairState, IsRanged, offer_read, pair_range, text_good, MayAllGo, marks, AreFree, AreJoint, NcpState, pair_with, Peer, End, Side, AreSteps, Receiver, Sender, Sockets, Step, Word, receiver, said_words, placed_event, tagged, with_place, Event, Message, Other, Out, Reply, Reset, are, place, In, pair, Agrees, event_of, message_on, IsApart, Crossed, IsNext, IsStory, Moment, events_of, places, program, program_own, story_agrees, NameFree, TakesFreeAt, law_events, all_heard, all_said, heard_in, onto, steps, words_by, words_of, Waiting, boxes, AreOurs, Network}
+use Rattle.host_pairs.specs.Data.{data_taken}
+use Rattle.host_pairs.specs.Parcels.{Parcel, link_for, pair_after, parcel_gone, text_for}
+use Rattle.host_pairs.specs.Turn.{TurnState, orders_taken, with_desk, if_ready, message_taken}
+use Rattle.host_keeps_pairing.specs.Ends.{HasEnd, Stand, at}
+use Rattle.host_keeps_pairing.proofs.lemmas.{eqb-sym, orders_idle, put}
+use Rattle.sockets.specs.Accepting.{turn_of, accepted, accepted_message}
+use Rattle.sockets.specs.Sending.{next_in, offered}
+use Rattle.sockets.proofs.lemmas.{next_is, next_pair}
 use Rattle.interface.specs.declared.crossing.Crossing.TheVariants as crossing
 use Rattle.interface.specs.declared.crossing.Inbound.TheVariants as inbound
 use Rattle.ncp_control.specs.Phases as phases
-use Rattle.host_pairs.specs.Turn.{if_ready, message_taken}
 use Rattle.host_keeps_ranges.specs.Ranges as ranges
-use Rattle.host_keeps_pairing.specs.Ends.{at}
-use Rattle.host_keeps_pairing.proofs.lemmas.{orders_idle, put}
-use Rattle.sockets.specs.Accepting.{accepted, accepted_message}
-use Rattle.sockets.specs.Sending.{offered}
 use Rattle.pairing_law.proofs.lemmas.Seen as words
 use Rattle.reset_law.specs.Runs.{IsRun}
 use Rattle.reset_law.specs.Stays as stay
@@ -28,7 +31,6 @@ use Rattle.world_keeps_pairing.proofs.Moments.{Side_of, place_is}
 use Rattle.world_keeps_pairing.proofs.Moves.{sender_speaks}
 use Rattle.world_keeps_pairing.proofs.Sides.{receiver_half, receiver_waits, sender_half}
 use Rattle.world_keeps_pairing.proofs.Views.{View, same_view, sender_says}
-use Rattle.reset_law.specs.Network.{AreOurs, Network}
 
 -- ---- all that was said is of a receiving socket and a sending one
 

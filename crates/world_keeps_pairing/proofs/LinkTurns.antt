@@ -1,13 +1,15 @@
 -- A message of the peer, and links: each RTS in it names one that no sending end has.
-use Rattle.world_keeps_pairing.proofs.Common.{◌≡◌, ℕ, zero, suc, ◌==◌, ◌%◌, Bool, true, false, not, ◌&&◌, if◌then◌else◌, List, [], ◌∷◌, ◌++◌, map, Option, Some, None, is_some, refl, ap, sym, subst, ◌∙◌, eq-eqb, arith, eqb-true, list_any, Host, is_receive_socket, is_send_socket, Command, desk_taken, Legal, Order, Wrong, desk_of, entry_at, is_at, is_link, sends_on, is_ready, TurnState, orders_taken, with_desk, Entry, AreOrders, IsOrder, AllFit, mark_in, marks, HasEnd, Stand, Standing, standing, AreFree, AreJoint, at_one, live_end, End, fits, Mark, Ask, Close, Side, Sockets, Word, Receiver, Sender, Step, Hears, sender, AreSteps, put, same_self, all_heard, word_by, words_by}
+use Rattle.world_keeps_pairing.proofs.Common.{◌≡◌, ℕ, zero, suc, ◌==◌, ◌%◌, Bool, true, false, not, ◌&&◌, if◌then◌else◌, List, [], ◌∷◌, ◌++◌, map, Option, Some, None, is_some, refl, ap, sym, subst, ◌∙◌, eq-eqb, arith, eqb-true, list_any, Host, is_receive_socket, is_send_socket, Command, Legal, Order, Wrong, desk_of, is_ready, Entry, AreOrders, IsOrder, End, fits, Mark, Ask, Close, Side, Sockets, Word, Receiver, Sender, Step, Hears, sender, AreSteps, all_heard, word_by, words_by, not_true}
+use Rattle.host_pairs.specs.Commands.{desk_taken}
+use Rattle.host_pairs.specs.Entries.{entry_at, is_at, is_link, sends_on}
+use Rattle.host_pairs.specs.Turn.{TurnState, orders_taken, with_desk, order_taken}
+use Rattle.host_keeps_pairing.specs.Words.{AllFit, mark_in, marks, all_taken}
+use Rattle.host_keeps_pairing.specs.Ends.{HasEnd, Stand, Standing, standing, at, came_from}
+use Rattle.host_keeps_pairing.specs.Hearing.{AreFree, AreJoint, IsFreeIn, IsJoint}
+use Rattle.host_keeps_pairing.proofs.lemmas.{at_one, live_end, Found, at_append, found_at, one_order, ready_when, stand_asked, work_of}
+use Rattle.pairing_law.proofs.lemmas.{put, same_self, unused}
 use Rattle.ncp_control.specs.declared.command.Command.TheVariants as command
-use Rattle.host_pairs.specs.Turn.{order_taken}
 use Rattle.host_pairs.proofs.lemmas.{both}
-use Rattle.host_keeps_pairing.specs.Words.{all_taken}
-use Rattle.host_keeps_pairing.specs.Ends.{at, came_from}
-use Rattle.host_keeps_pairing.specs.Hearing.{IsFreeIn, IsJoint}
-use Rattle.host_keeps_pairing.proofs.lemmas.{Found, at_append, found_at, one_order, ready_when, stand_asked, work_of}
-use Rattle.pairing_law.proofs.lemmas.{unused}
 use Rattle.pairing_law.proofs.lemmas.Seen as words
 use Rattle.world_keeps_pairing.proofs.Claims.{Claim, heard_claims, last_link, partner_among}
 use Rattle.world_keeps_pairing.proofs.LinkDesks.{Linked, linked_other, linked_wrong, rts_linked}
@@ -15,7 +17,6 @@ use Rattle.world_keeps_pairing.proofs.Local.{AllOff, Each, Links, One, SendsBy, 
 use Rattle.world_keeps_pairing.proofs.Marks.{IsPair, order_at}
 use Rattle.world_keeps_pairing.proofs.Moves.{hears_end, sender_fits}
 use Rattle.world_keeps_pairing.proofs.Sides.{sender_hears}
-use Rattle.interface.proofs.lemmas.{not_true}
 
 -- ---- sockets
 

@@ -1,12 +1,11 @@
 -- A message that a host takes of its peer reports no openings but those that the law says.
-use Rattle.world_keeps_pairing.proofs.Common.{◌≡◌, inl, inr, ℕ, ◌==◌, Bool, true, false, ◌&&◌, if◌then◌else◌, List, [], ◌∷◌, refl, ap, sym, subst, ◌∙◌, Host, same_host, HostMessage, same_host-refl, same_host-true, orders_of, accepted, pair_with, message_about, AllFit, marks_in, AreJoint, AreAmong, all_lives_taken, with_openings, data_told, eqb-sym, idle_other, message_tells, rrp_other, rst_other, Mark, tagged, Side, Sockets, Who, Event, Message, Reset, Reply, Other, In, are, message_on, Moment, Crossed, IsStory, events_of, places, program, law_events, with_lives}
+use Rattle.world_keeps_pairing.proofs.Common.{◌≡◌, inl, inr, ℕ, ◌==◌, Bool, true, false, ◌&&◌, if◌then◌else◌, List, [], ◌∷◌, refl, ap, sym, subst, ◌∙◌, Host, same_host, HostMessage, same_host-refl, same_host-true, orders_of, accepted, pair_with, message_about, AllFit, marks_in, AreJoint, AreAmong, all_lives_taken, with_openings, data_told, eqb-sym, idle_other, message_tells, rrp_other, rst_other, Mark, tagged, Sockets, Who, Event, Message, Reset, Reply, Other, In, are, message_on, Moment, Crossed, IsStory, events_of, places, program, law_events, with_lives, mixed_kept, AreOurs, Network}
+use Rattle.pairing_law.specs.Sides.{Side, Life}
 use Rattle.interface.specs.declared.crossing.Crossing.TheVariants as crossing
 use Rattle.interface.specs.declared.crossing.Inbound.TheVariants as inbound
 use Rattle.ncp_control.specs.Phases as program_phases
-use Rattle.pairing_law.specs.Sides.{Life}
 use Rattle.reset_law.specs.Runs.{IsRun}
 use Rattle.reset_law.specs.Stays as stay
-use Rattle.net_sim.specs.Mixed.{mixed_kept}
 use Rattle.world_keeps_pairing.proofs.Books.{about_peer, all_of_peer}
 use Rattle.world_keeps_pairing.proofs.Marks.{IsPair, foreign_of, own_of}
 use Rattle.world_keeps_pairing.proofs.Messages.{Hears, IsFrom, are_same, boxed, boxed_is, heard_off, joint_now, own_is, place_in, stays_as}
@@ -15,7 +14,6 @@ use Rattle.world_keeps_pairing.proofs.Opened.{Among, by_lives, hears_lives, hear
 use Rattle.world_keeps_pairing.proofs.Programs.{AnRrp, AnRst, AText, Sort, sort_of}
 use Rattle.world_keeps_pairing.proofs.Sides.{all_hears, at_texts, hears_if}
 use Rattle.world_keeps_pairing.proofs.Turns.{heard_is, other}
-use Rattle.reset_law.specs.Network.{AreOurs, Network}
 
 module _ (s : Sockets) (is_pair : IsPair s) (who : Who) (origin : ℕ → ℕ) (hosts : Network) (m : HostMessage) (moments : List Moment) (ours : AreOurs hosts m.flow.source m.flow.destination) (story : IsStory hosts (Crossed (crossing.In m) ∷ moments)) (run : IsRun hosts (events_of (Crossed (crossing.In m) ∷ moments))) where
   abbrev h : Host

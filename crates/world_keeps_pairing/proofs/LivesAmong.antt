@@ -1,11 +1,11 @@
 -- The lives of a book are openings of the law, at any two sockets.
-use Rattle.world_keeps_pairing.proofs.Common.{◌≡◌, ℕ, Bool, ◌&&◌, if◌then◌else◌, List, [], refl, sym, subst, Host, is_receive_socket, is_send_socket, AreAmong, Side, receiver, sender, Moment, IsStory, events_of, crossings_of, law_events, openings, with_lives, steps}
-use Rattle.std.proofs.Common.{true, false}
+use Rattle.world_keeps_pairing.proofs.Common.{Host, is_receive_socket, is_send_socket, AreAmong, receiver, sender, Moment, IsStory, events_of, crossings_of, law_events, steps, mixed_kept, AreOurs, Network}
+use Rattle.std.proofs.Common.{◌≡◌, ℕ, Bool, ◌&&◌, if◌then◌else◌, List, [], refl, sym, subst, true, false}
+use Rattle.pairing_law.specs.Sides.{Side, Life}
+use Rattle.world_keeps_pairing.specs.Lives.{openings, with_lives}
 use Rattle.interface.specs.Mailboxes as mail
 use Rattle.host_pairs.proofs.lemmas.{both}
-use Rattle.pairing_law.specs.Sides.{Life}
 use Rattle.reset_law.specs.Runs.{IsRun}
-use Rattle.net_sim.specs.Mixed.{mixed_kept}
 use Rattle.world_keeps_pairing.proofs.Served.{AreServed}
 use Rattle.world_keeps_pairing.proofs.LivesRun.{AllAmong, all_among}
 use Rattle.world_keeps_pairing.proofs.Marks.{IsPair}
@@ -13,7 +13,6 @@ use Rattle.world_keeps_pairing.proofs.Sides.{receiver_half, sender_half}
 use Rattle.world_keeps_pairing.proofs.Tied.{AreOrigins}
 use Rattle.world_keeps_pairing.proofs.Unpaired.{IsUnpaired}
 use Rattle.world_keeps_pairing.proofs.UnpairedMoments.{AllBare, all_bare}
-use Rattle.reset_law.specs.Network.{AreOurs, Network}
 
 -- what holds of the receiver's openings, of the sender's, and of none, holds of the openings
 pub by_sockets : (P : List Life → Type 0) (h p : Host) (own foreign : ℕ) (moments : List Moment)

@@ -1,5 +1,5 @@
 -- At all moments the lives of the book at a receiving socket and a sending one are some of those that the law says.
-use Rattle.world_keeps_pairing.proofs.Common.{false, Bool, ◌≡◌, ℕ, true, List, [], ◌∷◌, refl, Host, same_host, HostMessage, IsRanged, Sockets, Who, Receiver, Sender, Moment, Crossed, Asked, IsStory, events_of, program, TakesFreeAt}
+use Rattle.world_keeps_pairing.proofs.Common.{false, Bool, ◌≡◌, ℕ, true, List, [], ◌∷◌, refl, Host, same_host, HostMessage, IsRanged, Sockets, Who, Receiver, Sender, Moment, Crossed, Asked, IsStory, events_of, program, TakesFreeAt, AreOurs, Network}
 use Rattle.interface.specs.declared.crossing.Crossing.TheVariants as crossing
 use Rattle.reset_law.specs.Runs.{IsRun}
 use Rattle.world_keeps_pairing.proofs.Served.{AreServed}
@@ -11,7 +11,6 @@ use Rattle.world_keeps_pairing.proofs.Moments.{Tie}
 use Rattle.world_keeps_pairing.proofs.Opened.{Among, answer_among, asked_among, down_among, out_among, up_among}
 use Rattle.world_keeps_pairing.proofs.Origins.{served_below}
 use Rattle.world_keeps_pairing.proofs.Tied.{AreOrigins, programs_ranged, receiver_hears, sender_hears}
-use Rattle.reset_law.specs.Network.{AreOurs, Network}
 
 -- each moment
 among_turn : (s : Sockets) (q : IsPair s) (who : Who) (h p : Host) (origin : ℕ → ℕ) (hosts : Network) (x : Moment) (moments : List Moment) → AreOurs hosts h p → IsStory hosts (x ∷ moments) → IsRun hosts (events_of (x ∷ moments)) → IsRanged (program h moments)

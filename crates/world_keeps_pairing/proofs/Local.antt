@@ -1,8 +1,10 @@
 -- The links of a pair's ends, against what the receiver said and the sender heard.
-use Rattle.world_keeps_pairing.proofs.Common.{◌≡◌, ℕ, ◌==◌, Bool, not, ◌&&◌, if◌then◌else◌, List, [], ◌∷◌, ◌++◌, map, filter, Option, Some, None, is_some, refl, ap, sym, subst, ◌∙◌, eq-eqb, eqb-true, list_any, is_receive_socket, is_send_socket, Command, changed_at, entry_at, is_at, is_link, is_receiving, receives_on, sends_on, Entry, Sockets, same, same_is, same_self}
-use Rattle.std.proofs.Common.{true, false}
+use Rattle.world_keeps_pairing.proofs.Common.{eqb-true, list_any, is_receive_socket, is_send_socket, Command, Entry}
+use Rattle.std.proofs.Common.{◌≡◌, ℕ, ◌==◌, Bool, not, ◌&&◌, if◌then◌else◌, List, [], ◌∷◌, ◌++◌, map, filter, Option, Some, None, is_some, refl, ap, sym, subst, ◌∙◌, eq-eqb, true, false}
+use Rattle.host_pairs.specs.Entries.{changed_at, entry_at, is_at, is_link, is_receiving, receives_on, sends_on, changed_first}
+use Rattle.pairing_law.specs.Links.{Sockets, same}
+use Rattle.pairing_law.proofs.lemmas.{same_is, same_self}
 use Rattle.ncp_control.specs.declared.command.Command.TheVariants as command
-use Rattle.host_pairs.specs.Entries.{changed_first}
 use Rattle.host_pairs.proofs.lemmas.{both}
 use Rattle.world_keeps_pairing.proofs.Claims.{Claim, last_link}
 use Rattle.host_keeps_pairing.proofs.lemmas.{sockets_of}

@@ -1,11 +1,10 @@
 -- What orders say at one pair of sockets, by words and by marks.
-use Rattle.world_keeps_pairing.proofs.Common.{◌≡◌, ℕ, ◌%◌, ◌==◌, Bool, true, false, ◌&&◌, if◌then◌else◌, List, [], ◌∷◌, ◌++◌, refl, ap, sym, ◌∙◌, arith, eqb-true, append-nil, is_receive_socket, is_send_socket, Order, Legal, Wrong, orders_of, IsOrder, AreOrders, text_good, mark_in, marks_in, untagged, eqb-sym, untagged_is, Mark, Ask, Close, tagged, Sockets, Word, Who, Receiver, Sender, word_by, words_by, words_of}
+use Rattle.world_keeps_pairing.proofs.Common.{◌≡◌, ℕ, ◌%◌, ◌==◌, Bool, true, false, ◌&&◌, if◌then◌else◌, List, [], ◌∷◌, ◌++◌, refl, ap, sym, ◌∙◌, arith, eqb-true, append-nil, is_receive_socket, is_send_socket, Order, Legal, Wrong, orders_of, IsOrder, AreOrders, text_good, mark_in, marks_in, untagged, eqb-sym, untagged_is, Mark, Ask, Close, tagged, Sockets, Word, Who, Receiver, Sender, and_turned}
+use Rattle.world_keeps_pairing.specs.Steps.{word_by, words_by, words_of, word}
 use Rattle.ncp_control.specs.declared.command.Command.TheVariants as command
 use Rattle.host_pairs.proofs.lemmas.{both}
 use Rattle.pairing_law.proofs.lemmas.{at, at_join}
-use Rattle.world_keeps_pairing.specs.Steps.{word}
 use Rattle.world_keeps_pairing.proofs.Sides.{at_texts}
-use Rattle.interface.proofs.lemmas.{and_turned}
 
 -- a receiving socket and a sending one
 abbrev pub IsPair : Sockets → Type 0

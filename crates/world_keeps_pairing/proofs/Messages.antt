@@ -1,10 +1,11 @@
 -- A message that a host takes of its peer keeps what it has at two sockets.
-use Rattle.world_keeps_pairing.proofs.Common.{◌≡◌, inl, inr, ℕ, ◌==◌, Bool, true, false, ◌&&◌, if◌then◌else◌, List, [], ◌∷◌, refl, ap, sym, subst, ◌∙◌, Host, same_host, HostMessage, same_host-refl, same_host-true, orders_of, PairState, accepted, turn_of, NcpState, pair_with, AllFit, marks_in, HasEnd, AreFree, AreJoint, eqb-sym, same_kept, End, nothing, Mark, tagged, with_place, with_box, Side, Sockets, Who, placed_run, Box, Waiting, boxes, Event, Message, Reset, Reply, Other, In, are, pair, IsApart, message_on, Moment, Crossed, IsStory, events_of, places, program, program_own, law_events}
+use Rattle.world_keeps_pairing.proofs.Common.{◌≡◌, inl, inr, ℕ, ◌==◌, Bool, true, false, ◌&&◌, if◌then◌else◌, List, [], ◌∷◌, refl, ap, sym, subst, ◌∙◌, Host, same_host, HostMessage, same_host-refl, same_host-true, orders_of, PairState, accepted, turn_of, NcpState, pair_with, HasEnd, AreFree, AreJoint, eqb-sym, same_kept, End, nothing, Mark, tagged, with_place, with_box, Side, Sockets, Who, Event, Message, Reset, Reply, Other, In, are, pair, IsApart, message_on, Moment, Crossed, IsStory, events_of, places, program, program_own, law_events, AreOurs, Network}
+use Rattle.host_keeps_pairing.specs.Words.{AllFit, marks_in, all_taken}
+use Rattle.pairing_law.proofs.lemmas.{placed_run, takes_in_stay}
+use Rattle.reset_law.specs.Boxes.{Box, Waiting, boxes}
 use Rattle.interface.specs.declared.crossing.Crossing.TheVariants as crossing
 use Rattle.interface.specs.declared.crossing.Inbound.TheVariants as inbound
 use Rattle.ncp_control.specs.Phases as program_phases
-use Rattle.host_keeps_pairing.specs.Words.{all_taken}
-use Rattle.pairing_law.proofs.lemmas.{takes_in_stay}
 use Rattle.ncp_control.specs.declared.phase.Phase as host
 use Rattle.ncp_control.specs.declared.phase.Phase.TheVariants as phase
 use Rattle.reset_law.specs.Runs.{IsRun}
@@ -16,7 +17,6 @@ use Rattle.world_keeps_pairing.proofs.Moves.{hears_end}
 use Rattle.world_keeps_pairing.proofs.Programs.{AnRrp, AnRst, AText, Has, Sort, after_text, in_has, plain_joint, sort_of}
 use Rattle.world_keeps_pairing.proofs.Turns.{IsQuiet, heard_is, other, ready_is, tie_by, tie_quiet, tie_reset}
 use Rattle.world_keeps_pairing.proofs.Moments.{Side_of, Tie, in_away, waiting}
-use Rattle.reset_law.specs.Network.{AreOurs, Network}
 
 pub are_same : (x y : Host) → are x y x y ≡ true
 are_same x y = ap (λ (b : Bool). b && same_host y y) (same_host-refl x) ∙ same_host-refl y

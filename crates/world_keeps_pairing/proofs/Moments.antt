@@ -1,18 +1,18 @@
 -- Each moment keeps what a host has at two sockets.
-use Rattle.world_keeps_pairing.proofs.Common.{◌≡◌, ◌⊎◌, inl, inr, ℕ, Bool, true, false, ◌&&◌, if◌then◌else◌, List, [], ◌∷◌, None, refl, ap, sym, subst, ◌∙◌, Host, same_host, Flow, Answer, HostMessage, same_host-refl, same_host-true, PairState, accepted, NcpState, opening_state, pair_with, refusal, served, offered, Request, IsRanged, all_gone, HasEnd, after_request, opening_has, request_keeps, same_kept, End, nothing, Mark, placed_event, with_box, Side, Sockets, Who, Box, Empty, Waiting, Taken, boxes, Event, Message, Reset, Reply, Other, In, are, place, pair, event_of, event_by, message_on, Moment, Crossed, Asked, IsNext, IsStory, event_in, events_of, places, program, by_request, place_same, places_same, story_agrees, law_events}
+use Rattle.world_keeps_pairing.proofs.Common.{◌≡◌, ◌⊎◌, inl, inr, ℕ, Bool, true, false, ◌&&◌, if◌then◌else◌, List, [], ◌∷◌, None, refl, ap, sym, subst, ◌∙◌, Host, same_host, Flow, Answer, HostMessage, same_host-refl, same_host-true, PairState, accepted, NcpState, opening_state, pair_with, refusal, served, offered, Request, IsRanged, all_gone, after_request, opening_has, request_keeps, same_kept, End, nothing, Mark, placed_event, with_box, Side, Sockets, Who, Event, Message, Reset, Reply, Other, In, are, place, pair, event_of, event_by, message_on, Moment, Crossed, Asked, IsNext, IsStory, event_in, events_of, places, program, law_events, AreOurs, Network}
+use Rattle.host_keeps_pairing.specs.Ends.{HasEnd, kept_in}
+use Rattle.reset_law.specs.Boxes.{Box, Empty, Waiting, Taken, boxes, WaitsWith}
+use Rattle.net_sim.proofs.lemmas.{by_request, place_same, places_same, story_agrees}
 use Rattle.interface.specs.declared.crossing.Crossing.TheVariants as crossing
 use Rattle.interface.specs.declared.crossing.Inbound.TheVariants as inbound
 use Rattle.ncp_control.specs.Phases as program_phases
 use Rattle.sockets.specs.declared.request.Request.TheVariants as request
-use Rattle.host_keeps_pairing.specs.Ends.{kept_in}
-use Rattle.reset_law.specs.Boxes.{WaitsWith}
 use Rattle.reset_law.specs.Stays as stay
 use Rattle.world_keeps_pairing.proofs.Sides.{all_says, at_texts, half}
 use Rattle.world_keeps_pairing.proofs.Marks.{IsPair, foreign_of, own_of}
 use Rattle.world_keeps_pairing.proofs.Moves.{says_end}
 use Rattle.world_keeps_pairing.proofs.Programs.{Has, answer_has, in_leaves, out_has, read_marks}
 use Rattle.world_keeps_pairing.proofs.Turns.{IsQuiet, hears_none, other, ready_is, said_is, tie_by, tie_quiet, when_all}
-use Rattle.reset_law.specs.Network.{AreOurs, Network}
 
 -- the place of a message that waits
 pub waiting : (x : Box) (m : Message) → WaitsWith x m → (p : ℕ) × (x ≡ Waiting p m)

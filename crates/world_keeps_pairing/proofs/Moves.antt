@@ -1,10 +1,11 @@
 -- What one of two hosts may say, and that what it hears fits.
-use Rattle.world_keeps_pairing.proofs.Common.{◌≡◌, ℕ, ◌+◌, ◌≤◌, Bool, true, false, if◌then◌else◌, List, [], ◌∷◌, refl, ap, sym, subst, ◌∙◌, arith, AllFit, MayAllGo, all_gone, End, fits, mark_taken, Mark, Ask, Close, Side, says, hears, One, Two, Say, Sockets, same, Word, Who, Receiver, Sender, Step, Says, Hears, receiver, sender, events_at, with_event, AreSteps, joined_fits, joined_run, put, run_at, same_self, turned, all_said, all_heard, NameFree}
-use Rattle.host_keeps_pairing.specs.Words.{all_taken}
+use Rattle.world_keeps_pairing.proofs.Common.{◌≡◌, ℕ, ◌+◌, ◌≤◌, Bool, true, false, if◌then◌else◌, List, [], ◌∷◌, refl, ap, sym, subst, ◌∙◌, arith, End, fits, mark_taken, Mark, Ask, Close, all_said, all_heard, NameFree}
+use Rattle.host_keeps_pairing.specs.Words.{AllFit, MayAllGo, all_gone, all_taken}
+use Rattle.pairing_law.specs.Sides.{Side, says, hears, One, Two, Say, both, IsRun}
+use Rattle.pairing_law.specs.Links.{Sockets, same, Word, Who, Receiver, Sender, Step, Says, Hears, receiver, sender, events_at, with_event, AreSteps}
+use Rattle.pairing_law.proofs.lemmas.{joined_fits, joined_run, put, run_at, same_self, turned, at}
 use Rattle.pairing_law.specs.Sides as sides
-use Rattle.pairing_law.specs.Sides.{both, IsRun}
 use Rattle.pairing_law.specs.Links as links
-use Rattle.pairing_law.proofs.lemmas.{at}
 use Rattle.world_keeps_pairing.proofs.Sides.{all_says, all_hears, hears_if, left_if, met_if}
 use Rattle.world_keeps_pairing.proofs.Marks.{AllAt, AllPairs, IsPair}
 

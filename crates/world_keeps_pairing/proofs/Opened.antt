@@ -1,10 +1,9 @@
 -- Each moment reports no openings at two sockets but those that the law says.
-use Rattle.world_keeps_pairing.proofs.Common.{◌≡◌, ◌⊎◌, inl, inr, ℕ, Bool, true, false, if◌then◌else◌, List, [], ◌∷◌, refl, ap, sym, subst, ◌∙◌, Host, same_host, Flow, Answer, HostMessage, same_host-true, commands_of, accepted, offered, Request, answer_about, message_about, offer_about, IsRanged, AllFit, marks, AreAmong, all_lives_gone, all_lives_taken, with_openings, answer_other, offer_tells, End, mark_taken, Mark, placed_event, with_box, Side, hears, says, Sockets, Who, boxes, Event, place, pair, event_of, message_on, Moment, Crossed, Asked, IsNext, IsStory, event_in, events_of, places, program, host_in, notices_by, by_request, story_agrees, law_events, with_lives, keeps}
+use Rattle.world_keeps_pairing.proofs.Common.{◌≡◌, ◌⊎◌, inl, inr, ℕ, Bool, true, false, if◌then◌else◌, List, [], ◌∷◌, refl, ap, sym, subst, ◌∙◌, Host, same_host, Flow, Answer, HostMessage, same_host-true, commands_of, accepted, offered, Request, answer_about, message_about, offer_about, IsRanged, AllFit, marks, AreAmong, all_lives_gone, all_lives_taken, with_openings, answer_other, offer_tells, End, mark_taken, Mark, placed_event, with_box, Sockets, Who, boxes, Event, place, pair, event_of, message_on, Moment, Crossed, Asked, IsNext, IsStory, event_in, events_of, places, program, host_in, notices_by, by_request, story_agrees, law_events, with_lives, keeps, mixed_kept, AreOurs, Network}
+use Rattle.pairing_law.specs.Sides.{Side, hears, says, Life, lives_taken}
 use Rattle.interface.specs.declared.crossing.Crossing.TheVariants as crossing
 use Rattle.interface.specs.declared.crossing.Inbound.TheVariants as inbound
-use Rattle.pairing_law.specs.Sides.{Life, lives_taken}
 use Rattle.reset_law.specs.Stays as stay
-use Rattle.net_sim.specs.Mixed.{mixed_kept}
 use Rattle.world_keeps_pairing.proofs.Books.{about_none, about_other, about_peer, all_of_peer, asked_none, kept_step}
 use Rattle.world_keeps_pairing.proofs.LinkRun.{heard_off_in}
 use Rattle.world_keeps_pairing.proofs.Marks.{IsPair, foreign_of, own_of}
@@ -12,7 +11,6 @@ use Rattle.world_keeps_pairing.proofs.Moments.{Side_of, Tie, place_is, said_out,
 use Rattle.world_keeps_pairing.proofs.Programs.{Has, goes_marks, read_marks}
 use Rattle.world_keeps_pairing.proofs.Sides.{all_hears, all_says, at_texts, before, hears_if, left_if, met_if}
 use Rattle.world_keeps_pairing.proofs.Turns.{other, said_is, when_all}
-use Rattle.reset_law.specs.Network.{AreOurs, Network}
 
 -- ---- lives of a side
 

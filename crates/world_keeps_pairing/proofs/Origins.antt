@@ -1,16 +1,16 @@
 -- Where a message that is taken went out, by the book; and two programs that start.
-use Rattle.world_keeps_pairing.proofs.Common.{false, ◌≡◌, ℕ, ◌+◌, ◌-◌, Bool, List, [], ◌∷◌, ◌++◌, length, drop, Some, ap, sym, ◌∙◌, arith, eqb-true, append_assoc, Host, Flow, Crossing, HostMessage, Box, Empty, Waiting, Taken, Message, Receiver, Sender, message_on, control_flow, last_out, Moment, Crossed, Asked, places, crossings_of, places_same, opening_has, origin_or, place_or}
+use Rattle.world_keeps_pairing.proofs.Common.{false, ◌≡◌, ℕ, ◌+◌, ◌-◌, Bool, List, [], ◌∷◌, ◌++◌, length, drop, Some, ap, sym, ◌∙◌, arith, eqb-true, Host, Flow, Crossing, HostMessage, Message, Receiver, Sender, message_on, control_flow, last_out, Moment, Crossed, Asked, places, opening_has, origin_or, place_or, Network}
+use Rattle.std.proofs.lemmas.List.{append_assoc, length-append}
+use Rattle.reset_law.specs.Boxes.{Box, Empty, Waiting, Taken}
+use Rattle.net_sim.specs.Timeline.{crossings_of, seen_box}
+use Rattle.net_sim.proofs.lemmas.{places_same, box_same, flow_of, waiting_out}
 use Rattle.std.proofs.Math.Seq.{drop-append_seam}
-use Rattle.std.proofs.lemmas.List.{length-append}
 use Rattle.interface.specs.Mailboxes as mail
 use Rattle.interface.specs.declared.crossing.Crossing.TheVariants as crossing
 use Rattle.promise.specs.Safe as book
-use Rattle.net_sim.specs.Timeline.{seen_box}
-use Rattle.net_sim.proofs.lemmas.{box_same, flow_of, waiting_out}
 use Rattle.world_keeps_pairing.proofs.Served.{AreServed}
 use Rattle.world_keeps_pairing.proofs.Marks.{foreign_of, own_of}
 use Rattle.world_keeps_pairing.proofs.Tied.{AreOrigins, IsOrigin, Tied}
-use Rattle.reset_law.specs.Network.{Network}
 
 -- ---- the crossings before a place
 

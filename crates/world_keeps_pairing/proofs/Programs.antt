@@ -1,15 +1,18 @@
 -- What each call of a host's program does to the end of two sockets, by what the message of it is.
-use Rattle.world_keeps_pairing.proofs.Common.{◌≡◌, ℕ, ◌≤◌, ◌==◌, Bool, false, if◌then◌else◌, List, [], ◌∷◌, ◌++◌, map, Some, refl, ap, sym, subst, ◌∙◌, Host, same_host, Flow, Answer, HostMessage, same_host-true, Command, commands_of, MayGo, Order, Legal, Wrong, orders_of, PairState, Parcel, link_for, text_for, next_of, is_ready, what_goes, accepted, turn_of, NcpState, pair_with, next_in, offered, Peer, message_leaves, next_is, next_pair, offer_leaves, IsRanged, IsReadBack, offer_read, AllFit, MayAllGo, all_gone, marks, marks_in, mark_of, HasEnd, AreFree, AreJoint, same_kept, End, nothing, Mark, Message, Reset, Reply, Other, Pair, Agrees, IsApart, message_on, data_away}
-use Rattle.std.proofs.Common.{true}
+use Rattle.world_keeps_pairing.proofs.Common.{Host, same_host, Flow, Answer, HostMessage, same_host-true, Command, commands_of, MayGo, Order, Legal, Wrong, orders_of, PairState, is_ready, accepted, turn_of, NcpState, pair_with, Peer, IsRanged, IsReadBack, offer_read, AreFree, AreJoint, End, nothing, Mark, Message, Reset, Reply, Other, Pair, data_away}
+use Rattle.std.proofs.Common.{◌≡◌, ℕ, ◌≤◌, ◌==◌, Bool, false, if◌then◌else◌, List, [], ◌∷◌, ◌++◌, map, Some, refl, ap, sym, subst, ◌∙◌, true}
+use Rattle.host_pairs.specs.Parcels.{Parcel, link_for, text_for, next_of}
+use Rattle.host_pairs.proofs.lemmas.{what_goes}
+use Rattle.sockets.specs.Sending.{next_in, offered}
+use Rattle.sockets.proofs.lemmas.{message_leaves, next_is, next_pair, offer_leaves, answer_leaves}
+use Rattle.host_keeps_pairing.specs.Words.{AllFit, MayAllGo, all_gone, marks, marks_in, mark_of, all_taken}
+use Rattle.host_keeps_pairing.specs.Ends.{HasEnd, kept_in}
+use Rattle.host_keeps_pairing.proofs.lemmas.{same_kept, answer_keeps, message_data, message_hears, message_idle, message_replies, message_resets, offer_may, offer_says}
+use Rattle.net_sim.specs.Projection.{Agrees, IsApart, message_on, AllPlain, IsPlain, is_alone, is_rst, is_rrp}
 use Rattle.interface.specs.declared.crossing.Inbound.TheVariants as inbound
 use Rattle.ncp_control.specs.declared.command.Command.TheVariants as command
 use Rattle.host_pairs.specs.Parcels as parcel
 use Rattle.sockets.specs.Peers.{AreInOrder}
-use Rattle.sockets.proofs.lemmas.{answer_leaves}
-use Rattle.host_keeps_pairing.specs.Words.{all_taken}
-use Rattle.host_keeps_pairing.specs.Ends.{kept_in}
-use Rattle.host_keeps_pairing.proofs.lemmas.{answer_keeps, message_data, message_hears, message_idle, message_replies, message_resets, offer_may, offer_says}
-use Rattle.net_sim.specs.Projection.{AllPlain, IsPlain, is_alone, is_rst, is_rrp}
 
 -- ---- what a text is for a reset
 

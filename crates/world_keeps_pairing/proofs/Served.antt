@@ -1,7 +1,5 @@
 -- What users ask for isn't refused, and has numbers of their types.
-use Rattle.world_keeps_pairing.proofs.Common.{◌≡◌, Bool, false, List, [], ◌∷◌, None, Host, IsAsked, refusal, Moment, Crossed, Asked, program}
-use Rattle.reset_law.specs.Network.{Network}
-use Rattle.net_sim.specs.Mixed.{Happened}
+use Rattle.world_keeps_pairing.proofs.Common.{◌≡◌, Bool, false, List, [], ◌∷◌, None, Host, IsAsked, refusal, Moment, Crossed, Asked, program, Network, Happened}
 
 abbrev pub AreServed : Network → List Moment → Type 0
 AreServed hosts [] = Unit {0}

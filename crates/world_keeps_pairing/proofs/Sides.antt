@@ -1,15 +1,16 @@
 -- One of the two hosts at one pair of sockets, event by event.
-use Rattle.world_keeps_pairing.proofs.Common.{◌≡◌, ℕ, Bool, true, false, not, ◌&&◌, ◌||◌, if◌then◌else◌, List, [], ◌∷◌, Option, None, refl, ap, sym, subst, ◌∙◌, Host, same_host, Answer, Event, Message, Reset, Reply, Other, Out, In, are, Pair, pair, Phase, is_ready, begins_either, End, nothing, fits, gone, mark_taken, Mark, Ask, Close, Side, says, hears, One, Two, Say, Sockets, same, Word, Who, Receiver, Sender, Step, Says, Hears, Leaves, Meets, receiver, sender, events_at, with_event, put, words_of, all_said, all_heard, heard_in, keeps, steps_left, met, spoken_by, taken_by, steps}
+use Rattle.world_keeps_pairing.proofs.Common.{◌≡◌, ℕ, Bool, true, false, not, ◌&&◌, ◌||◌, if◌then◌else◌, List, [], ◌∷◌, Option, None, refl, ap, sym, subst, ◌∙◌, Host, same_host, Answer, Phase, begins_either, End, nothing, fits, gone, mark_taken, Mark, Ask, Close, words_of, all_said, all_heard, heard_in, keeps, steps_left, met, spoken_by, taken_by, steps}
+use Rattle.reset_law.specs.Events.{Event, Message, Reset, Reply, Other, Out, In, are, Contact, Told, Down, Up, Idle, Call, Send, Take, Hear, Begin, when}
+use Rattle.reset_law.specs.Pairs.{Pair, pair, pair_moved}
+use Rattle.ncp_control.specs.Phases.{is_ready, failed_phase}
+use Rattle.pairing_law.specs.Sides.{Side, says, hears, One, Two, Say, opening_side, both, leaves, meets}
+use Rattle.pairing_law.specs.Links.{Sockets, same, Word, Who, Receiver, Sender, Step, Says, Hears, Leaves, Meets, receiver, sender, events_at, with_event}
+use Rattle.pairing_law.proofs.lemmas.{put, at}
 use Rattle.interface.specs.declared.crossing.Answer.TheVariants as answer
-use Rattle.reset_law.specs.Events.{Contact, Told, Down, Up, Idle, Call, Send, Take, Hear, Begin, when}
-use Rattle.reset_law.specs.Pairs.{pair_moved}
-use Rattle.ncp_control.specs.Phases.{failed_phase}
 use Rattle.ncp_control.specs.declared.phase.Phase.TheVariants.{Closed, Want, Gone, Heard, Ready}
 use Rattle.reset_law.specs.Stays as stay
 use Rattle.pairing_law.specs.Sides as sides
-use Rattle.pairing_law.specs.Sides.{opening_side, both, leaves, meets}
 use Rattle.pairing_law.specs.Links as links
-use Rattle.pairing_law.proofs.lemmas.{at}
 
 -- ---- marks one after the other
 

@@ -1,15 +1,15 @@
 -- Two programs, with all that crosses between them, are a run of the law of pairing, where links are free.
-use Rattle.world_keeps_pairing.proofs.Common.{◌≡◌, ℕ, ◌+◌, ◌≤◌, ◌==◌, Bool, true, false, ◌&&◌, if◌then◌else◌, List, [], ◌∷◌, None, refl, ap, sym, subst, ◌∙◌, arith, Host, same_host, HostMessage, same_host-true, Order, orders_of, NcpState, opening_state, pair_with, refusal, Request, IsAsked, IsRanged, AllFit, MayAllGo, marks_in, End, Mark, placed_event, tagged, Side, Sockets, Word, Who, Receiver, Sender, Step, AreSteps, placed_run, Waiting, boxes, Event, Message, Other, In, pair, event_of, event_by, message_on, Moment, Crossed, Asked, IsNext, IsStory, event_in, events_of, places, program, by_request, story_agrees, words_of, all_said, all_heard, heard_in, keeps, steps_left, met, spoken_by, taken_by, NamesFreeAt, TakesFreeAt, law_events, eqb-sym}
+use Rattle.world_keeps_pairing.proofs.Common.{◌≡◌, ℕ, ◌+◌, ◌≤◌, ◌==◌, Bool, true, false, ◌&&◌, if◌then◌else◌, List, [], ◌∷◌, None, refl, ap, sym, subst, ◌∙◌, arith, Host, same_host, HostMessage, same_host-true, Order, orders_of, NcpState, opening_state, pair_with, refusal, Request, IsAsked, IsRanged, AllFit, MayAllGo, marks_in, End, Mark, placed_event, tagged, Side, Waiting, boxes, pair, event_of, event_by, message_on, Moment, Crossed, Asked, IsNext, IsStory, event_in, events_of, places, program, by_request, story_agrees, NamesFreeAt, TakesFreeAt, law_events, eqb-sym, AreOurs, Network}
+use Rattle.pairing_law.specs.Links.{Sockets, Word, Who, Receiver, Sender, Step, AreSteps, receiver, sender}
+use Rattle.pairing_law.proofs.lemmas.{placed_run, at}
+use Rattle.reset_law.specs.Events.{Event, Message, Other, In, place}
+use Rattle.world_keeps_pairing.specs.Steps.{words_of, all_said, all_heard, heard_in, keeps, steps_left, met, spoken_by, taken_by, steps}
 use Rattle.interface.specs.declared.crossing.Crossing.TheVariants as crossing
 use Rattle.ncp_control.specs.Phases as program_phases
 use Rattle.sockets.specs.Requests as asks
 use Rattle.host_keeps_ranges.proofs.lemmas.{answer_ranged, message_ranged, offer_ranged, request_ranged}
-use Rattle.pairing_law.specs.Links.{receiver, sender}
-use Rattle.pairing_law.proofs.lemmas.{at}
-use Rattle.reset_law.specs.Events.{place}
 use Rattle.reset_law.specs.Runs.{IsRun}
 use Rattle.reset_law.specs.Stays as stay
-use Rattle.world_keeps_pairing.specs.Steps.{steps}
 use Rattle.world_keeps_pairing.proofs.Legal.{legal}
 use Rattle.world_keeps_pairing.proofs.Served.{AreServed}
 use Rattle.world_keeps_pairing.proofs.Sides.{all_says, at_texts, before, hears_if, left_if, met_if, receiver_deaf_if, receiver_half, receiver_waits, sender_half}
@@ -22,7 +22,6 @@ use Rattle.world_keeps_pairing.proofs.Programs.{AnRrp, AnRst, AText, Sort, sort_
 use Rattle.world_keeps_pairing.proofs.Turns.{heard_is}
 use Rattle.world_keeps_pairing.proofs.Messages.{Hears, IsFrom, are_same, boxed, boxed_is, in_turn, place_in, stays_as}
 use Rattle.world_keeps_pairing.proofs.Moves.{under_heard}
-use Rattle.reset_law.specs.Network.{AreOurs, Network}
 
 -- ---- what a host says may be said
 

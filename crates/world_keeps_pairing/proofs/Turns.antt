@@ -1,13 +1,12 @@
 -- One moment more: a host's program has, at two sockets, the end that the steps say.
-use Rattle.world_keeps_pairing.proofs.Common.{◌≡◌, ℕ, ◌==◌, Bool, true, false, not, ◌&&◌, if◌then◌else◌, List, [], ◌∷◌, refl, ap, sym, subst, ◌∙◌, Host, same_host, Order, orders_of, PairState, pair_with, marks_in, HasEnd, eqb-sym, End, nothing, Mark, tagged, with_place, Side, Sockets, Who, Receiver, Sender, Event, Message, Out, place, Pair, pair, Agrees, message_on, Moment, IsStory, events_of, program, story_agrees, keeps, law_events}
+use Rattle.world_keeps_pairing.proofs.Common.{◌≡◌, ℕ, ◌==◌, Bool, true, false, not, ◌&&◌, if◌then◌else◌, List, [], ◌∷◌, refl, ap, sym, subst, ◌∙◌, Host, same_host, Order, orders_of, PairState, pair_with, marks_in, eqb-sym, End, nothing, Mark, tagged, with_place, Side, Sockets, Who, Receiver, Sender, Event, Message, Out, place, Pair, pair, Agrees, message_on, Moment, IsStory, events_of, program, story_agrees, keeps, law_events, AreOurs, Network}
+use Rattle.host_keeps_pairing.specs.Ends.{HasEnd, kept_in}
 use Rattle.ncp_control.specs.Phases as program_phases
-use Rattle.host_keeps_pairing.specs.Ends.{kept_in}
 use Rattle.pairing_law.proofs.lemmas.{pair_same}
 use Rattle.reset_law.specs.Stays as stay
 use Rattle.world_keeps_pairing.proofs.Sides.{all_says, at_texts, before, hears_if, left_if, met_if, met_end}
 use Rattle.world_keeps_pairing.proofs.Marks.{IsPair, foreign_of, own_of, text_at}
 use Rattle.world_keeps_pairing.proofs.Programs.{AnRrp, AnRst, AText, Sort, read_marks, sort_of}
-use Rattle.reset_law.specs.Network.{AreOurs, Network}
 
 abbrev pub other : Who → Who
 other Receiver = Sender

@@ -1,13 +1,11 @@
 -- Two sockets that both receive or both send: nothing is said of them, and no end of theirs opens.
-use Rattle.world_keeps_pairing.proofs.Common.{Host, ◌≡◌, ℕ, ◌==◌, Bool, true, false, ◌&&◌, if◌then◌else◌, List, [], ◌∷◌, ◌++◌, refl, ap, sym, subst, ◌∙◌, eqb-true, same_host, same_flow, Flow, Crossing, HostMessage, same_flow-true, is_receive_socket, is_send_socket, Order, Legal, Wrong, orders_of, AreOrders, IsOrder, text_good, MayAllGo, mark_in, marks_in, nothing, Mark, Ask, Close}
+use Rattle.world_keeps_pairing.proofs.Common.{Host, same_host, ◌≡◌, ℕ, ◌==◌, Bool, true, false, ◌&&◌, if◌then◌else◌, List, [], ◌∷◌, ◌++◌, refl, ap, sym, subst, ◌∙◌, eqb-true, same_flow, Flow, Crossing, HostMessage, same_flow-true, and_turned, is_receive_socket, is_send_socket, Order, Legal, Wrong, orders_of, AreOrders, IsOrder, text_good, MayAllGo, mark_in, marks_in, nothing, Mark, Ask, Close, AreOurs, Network}
 use Rattle.interface.specs.Mailboxes as mail
 use Rattle.interface.specs.declared.crossing.Crossing.TheVariants as crossing
 use Rattle.ncp_control.specs.declared.command.Command.TheVariants as command
 use Rattle.host_pairs.proofs.lemmas.{both}
 use Rattle.net_sim.proofs.lemmas.{cleared_waits, fetched_waits}
 use Rattle.world_keeps_pairing.proofs.Programs.{read_marks}
-use Rattle.interface.proofs.lemmas.{and_turned}
-use Rattle.reset_law.specs.Network.{AreOurs, Network}
 
 -- neither a receiving socket with a sending one, nor the other way
 abbrev pub IsUnpaired : ℕ → ℕ → Type 0

@@ -1,8 +1,8 @@
 -- All moments: two sockets that both receive or both send have no end and no life.
-use Rattle.world_keeps_pairing.proofs.Common.{false, Bool, ◌≡◌, ℕ, ◌≤◌, List, [], ◌∷◌, None, sym, subst, arith, Host, HostMessage, same_host-true, IsRanged, refusal, link_for, text_for, opening_has, pair, Moment, Crossed, Asked, IsNext, IsStory, events_of, places, program, crossings_of, story_agrees, TakesFreeAt}
+use Rattle.world_keeps_pairing.proofs.Common.{false, Bool, ◌≡◌, ℕ, ◌≤◌, List, [], ◌∷◌, None, sym, subst, arith, Host, HostMessage, IsRanged, refusal, link_for, text_for, opening_has, pair, Moment, Crossed, Asked, IsNext, IsStory, events_of, places, program, crossings_of, story_agrees, TakesFreeAt, AreOurs, Network}
+use Rattle.interface.proofs.lemmas.{same_host-true, waits_with}
 use Rattle.interface.specs.Mailboxes as mail
 use Rattle.interface.specs.declared.crossing.Crossing.TheVariants as crossing
-use Rattle.interface.proofs.lemmas.{waits_with}
 use Rattle.reset_law.specs.Runs.{IsRun}
 use Rattle.world_keeps_pairing.proofs.Served.{AreServed}
 use Rattle.world_keeps_pairing.proofs.LinkRun.{AllTied, all_tied, takes}
@@ -11,7 +11,6 @@ use Rattle.world_keeps_pairing.proofs.Programs.{out_may, read_marks}
 use Rattle.world_keeps_pairing.proofs.Tied.{AreOrigins, programs_ranged}
 use Rattle.world_keeps_pairing.proofs.Unpaired.{AllSilent, IsSilent, IsUnpaired, unpaired_turned, unsaid, waiting_silent}
 use Rattle.world_keeps_pairing.proofs.UnpairedRun.{IsBare, answer_bare, asked_bare, down_bare, in_bare, out_bare, up_bare}
-use Rattle.reset_law.specs.Network.{AreOurs, Network}
 
 pub record AllBare (hosts : Network) (origin : Host → Host → ℕ → ℕ) (moments : List Moment) : Type 0 where
   pub bare : (a b : Host) → AreOurs hosts a b → (own foreign : ℕ) → IsUnpaired own foreign → IsBare (origin a b) own foreign hosts a b moments

@@ -1,15 +1,13 @@
 -- At all moments no program has an end of two sockets that both receive or both send, and none was reported to be open.
-use Rattle.world_keeps_pairing.proofs.Common.{◌≡◌, ℕ, ◌==◌, Bool, true, false, if◌then◌else◌, List, [], ◌∷◌, None, refl, ap, sym, subst, ◌∙◌, Host, same_host, Flow, Answer, HostMessage, same_host-refl, same_host-true, commands_of, Order, orders_of, PairState, link_for, text_for, is_ready, accepted, NcpState, opening_state, pair_with, refusal, served, offered, Request, answer_about, message_about, offer_about, IsRanged, AllFit, all_gone, marks, marks_in, HasEnd, AreJoint, after_request, AreAmong, all_lives_gone, all_lives_taken, with_openings, answer_other, data_told, idle_other, message_tells, offer_tells, opening_has, request_keeps, rrp_other, rst_other, End, nothing, Mark, Message, Reset, Reply, Other, pair, IsApart, message_on, Moment, Crossed, Asked, IsNext, IsStory, events_of, places, program, host_in, notices_by, program_own, story_agrees, TakesFreeAt, with_lives}
+use Rattle.world_keeps_pairing.proofs.Common.{◌≡◌, ℕ, ◌==◌, Bool, true, false, if◌then◌else◌, List, [], ◌∷◌, None, refl, ap, sym, subst, ◌∙◌, Host, same_host, Flow, Answer, HostMessage, same_host-refl, same_host-true, commands_of, Order, orders_of, PairState, link_for, text_for, is_ready, accepted, NcpState, opening_state, pair_with, refusal, served, offered, Request, answer_about, message_about, offer_about, IsRanged, HasEnd, AreJoint, after_request, AreAmong, all_lives_gone, all_lives_taken, with_openings, answer_other, data_told, idle_other, message_tells, offer_tells, opening_has, request_keeps, rrp_other, rst_other, End, nothing, Mark, Message, Reset, Reply, Other, pair, IsApart, message_on, Moment, Crossed, Asked, IsNext, IsStory, events_of, places, program, host_in, notices_by, program_own, story_agrees, TakesFreeAt, with_lives, mixed_kept, AreOurs, Network}
+use Rattle.host_keeps_pairing.specs.Words.{AllFit, all_gone, marks, marks_in, all_taken}
 use Rattle.interface.specs.declared.crossing.Crossing.TheVariants as crossing
 use Rattle.interface.specs.declared.crossing.Inbound.TheVariants as inbound
 use Rattle.sockets.specs.declared.request.Request.TheVariants as request
-use Rattle.host_keeps_pairing.specs.Words.{all_taken}
 use Rattle.host_keeps_pairing.specs.Ends as ends
 use Rattle.pairing_law.specs.Sides.{Life}
-use Rattle.net_sim.specs.Mixed.{mixed_kept}
 use Rattle.world_keeps_pairing.proofs.Books.{about_none, about_other, about_peer, all_of_peer, asked_none, kept_step}
 use Rattle.world_keeps_pairing.proofs.Programs.{AnRrp, AnRst, AText, Has, Sort, after_text, answer_has, goes_marks, in_has, in_leaves, out_has, plain_joint, read_marks, sort_of}
-use Rattle.reset_law.specs.Network.{AreOurs, Network}
 
 -- no end stays none
 kept_nothing : (q : PairState) → ends.kept_in q nothing ≡ nothing

@@ -1,7 +1,8 @@
 -- Where requests went out: a place is that of one message, of one host to one other.
-use Rattle.world_keeps_pairing.proofs.Common.{◌≡◌, ◌⊎◌, inl, inr, ℕ, zero, suc, ◌-◌, ◌<◌, Bool, true, false, if◌then◌else◌, List, [], ◌∷◌, length, drop, Option, Some, None, refl, ap, sym, subst, ◌∙◌, arith, Host, same_host, same_flow, Flow, Crossing, HostMessage, same_flow-true, same_host-true, End, nothing, fits, Mark, Ask, Close, placed_event, Side, hears, says, Sockets, Who, Event, place, event_of, last_out, Moment, Crossed, Asked, event_in, events_of, crossings_of, by_request, place_same, law_events, place_or, keeps}
+use Rattle.world_keeps_pairing.proofs.Common.{◌≡◌, ◌⊎◌, inl, inr, ℕ, zero, suc, ◌-◌, ◌<◌, Bool, true, false, if◌then◌else◌, List, [], ◌∷◌, length, drop, Option, Some, None, refl, ap, sym, subst, ◌∙◌, arith, Host, same_host, same_flow, Flow, Crossing, HostMessage, same_flow-true, same_host-true, End, nothing, fits, Mark, Ask, Close, placed_event, Sockets, Who, Event, place, event_of, last_out, Moment, Crossed, Asked, event_in, events_of, crossings_of, law_events, place_or, keeps}
+use Rattle.pairing_law.specs.Sides.{Side, hears, says, Life, lives_opened}
+use Rattle.net_sim.proofs.lemmas.{by_request, place_same}
 use Rattle.interface.specs.declared.crossing.Crossing.TheVariants as crossing
-use Rattle.pairing_law.specs.Sides.{Life, lives_opened}
 use Rattle.reset_law.specs.Stays as stay
 use Rattle.promise.specs.Safe as book
 use Rattle.world_keeps_pairing.proofs.Marks.{AllAt, IsPair, foreign_of, own_of}

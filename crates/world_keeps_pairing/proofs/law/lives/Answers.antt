@@ -1,6 +1,5 @@
-use Rattle.world_keeps_pairing.proofs.Common.{[], refl, Contains, crossings_of, Coupled, coupled, origin_in}
-use Rattle.reset_law.specs.Network.{AreOurs}
-use Rattle.net_sim.specs.Mixed.{mixed_kept}
+use Rattle.world_keeps_pairing.proofs.Common.{[], refl, Contains, crossings_of, origin_in, AreOurs, mixed_kept}
+use Rattle.net_sim.proofs.lemmas.{Coupled, coupled}
 use Rattle.world_keeps_pairing.proofs.LifeLists.{in_book, two_in_book}
 use Rattle.world_keeps_pairing.proofs.BookPartners.{life_alone, life_in, life_matches, life_paired, partner_named, safe_partners, two_left, two_right}
 use Rattle.world_keeps_pairing.proofs.LivesAmong.{lives_among}

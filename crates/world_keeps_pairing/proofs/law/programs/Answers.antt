@@ -1,4 +1,5 @@
-use Rattle.world_keeps_pairing.proofs.Common.{Bool, List, [], refl, sym, subst, Host, HaveAddresses, Moment, program, crossings_of, Coupled, coupled, pair_with, HasEnd, Side, events_at, run_at, safe_run, steps, law_events, origin_in}
+use Rattle.world_keeps_pairing.proofs.Common.{Bool, List, [], refl, sym, subst, Host, HaveAddresses, Moment, program, crossings_of, pair_with, HasEnd, Side, events_at, run_at, safe_run, steps, law_events, origin_in, AreOurs, Network, Happened}
+use Rattle.net_sim.proofs.lemmas.{Coupled, coupled}
 use Rattle.interface.specs.Mailboxes as mail
 use Rattle.world_keeps_pairing.proofs.Served.{served_in}
 use Rattle.world_keeps_pairing.proofs.LinkRun.{all_tied}
@@ -6,8 +7,6 @@ use Rattle.world_keeps_pairing.proofs.Origins.{are_origins}
 use Rattle.world_keeps_pairing.proofs.Sides.{receiver_half, sender_half}
 use Rattle.world_keeps_pairing.proofs.Tied.{Tied}
 use Rattle.world_keeps_pairing.proofs.law.programs.Goals as goal
-use Rattle.reset_law.specs.Network.{AreOurs, Network}
-use Rattle.net_sim.specs.Mixed.{Happened}
 
 tied : (hosts : Network) (moments : List Moment) → HaveAddresses hosts.all → mail.IsRun hosts.all (crossings_of moments) → Happened hosts moments → (a b : Host) → AreOurs hosts a b → Tied (origin_in (crossings_of moments)) a b moments
 tied hosts moments addresses run time a b ours =
