@@ -1,18 +1,15 @@
 -- The same where all hosts run the program.
-use Rattle.world_keeps_lives.proofs.Common.{◌≡◌, ◌∙◌, Bool, true, false, List, [], ◌∷◌, ◌++◌, length, refl, ap, sym, subst, Contains, Crossing, FormedNotices, Told, Host, Kept, Life, HaveAddresses, AreHanded, Moment, crossings_of, kept_in, program, receives, HasOpenEnd, IsBounded}
-use Rattle.net_sim.specs.Timeline.{IsTimeline}
+use Rattle.world_keeps_lives.proofs.Common.{◌≡◌, ◌∙◌, Bool, true, false, List, [], ◌∷◌, ◌++◌, length, refl, ap, sym, subst, Contains, Crossing, Told, Host, Kept, Life, AreHanded, receives, IsGranted, Moment, program, kept_in, HasOpenEnd, IsBounded, mixed_kept, beside_among, lives_among, among}
+use Rattle.promise.specs.Notices.{FormedNotices}
+use Rattle.net_sim.specs.Clean.{HaveAddresses, IsLawful}
+use Rattle.net_sim.specs.Timeline.{crossings_of, IsTimeline}
 use Rattle.net_sim.specs.World.{WorldState}
-use Rattle.net_sim.specs.Clean.{IsLawful}
 use Rattle.interface.specs.Calls.{Seen}
-use Rattle.promise.specs.Safe.{IsGranted}
-use Rattle.net_sim.specs.Mixed.{mixed_kept}
 use Rattle.interface.specs.Mailboxes as mail
 use Rattle.reset_law.specs.Network.{all_ours}
 use Rattle.net_sim.proofs.lemmas.{kept_same}
 use Rattle.net_sim.proofs.lemmas.AllOurs.{happened}
-use Rattle.net_sim.specs.Among.{beside_among, lives_among}
 use Rattle.world_keeps_lives.specs.Drained.{AllDrained, AllSent, all_lives}
-use Rattle.world_keeps_pairing.specs.Laws.Worlds.{among}
 use Rattle.world_keeps_pairing.proofs.lemmas.{mail_below, book_lives, book_run}
 use Rattle.world_keeps_lives.proofs.Drained as by_cls
 use Rattle.world_keeps_lives.proofs.Firsts.Ends.{lives_in}

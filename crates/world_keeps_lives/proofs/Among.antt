@@ -1,12 +1,10 @@
 -- The lives among hosts with programs, and what is beside them, through all that is done to a list of lives.
-use Rattle.world_keeps_lives.proofs.Common.{◌≡◌, suc, ◌&&◌, not, Bool, true, false, List, [], ◌∷◌, ◌++◌, length, refl, ap, sym, subst, ◌∙◌, if◌then◌else◌, Asked, Crossed, Crossing, Host, Kept, Life, Moment, Notice, Request, all_told, asked, book_told, carried, changed_when, crossed, handed_to, host_in, kept_by, life_ended, lives_at, lives_between, lives_on, lives_with, new_life, notices_by, where_it}
+use Rattle.world_keeps_lives.proofs.Common.{◌≡◌, suc, ◌&&◌, not, Bool, true, false, List, [], ◌∷◌, ◌++◌, length, refl, ap, sym, subst, ◌∙◌, if◌then◌else◌, Asked, Crossed, Moment, Crossing, Host, Life, Notice, Request, host_in, kept_by, notices_by, beside_among, is_among, lives_among, crossed_only, mixed_kept}
+use Rattle.net_sim.specs.Book.{Kept, all_told, asked, book_told, carried, changed_when, crossed, handed_to, life_ended, lives_at, lives_between, lives_on, lives_with, new_life, where_it, fates_where, granted, returned}
 use Rattle.interface.specs.declared.crossing.Crossing.TheVariants as crossing
 use Rattle.host_pairs.specs.declared.notice.Notice.TheVariants as notice
 use Rattle.sockets.specs.declared.request.Request.TheVariants as request
 use Rattle.promise.specs.declared.life.Fate.{Fate}
-use Rattle.net_sim.specs.Among.{beside_among, is_among, lives_among}
-use Rattle.net_sim.specs.Book.{fates_where, granted, returned}
-use Rattle.net_sim.specs.Mixed.{crossed_only, mixed_kept}
 use Rattle.world_keeps_lives.proofs.Walk.Rules.{Each}
 
 -- a change that leaves whose life it is

@@ -1,25 +1,17 @@
 -- Whatever a peer says, of two sockets there is at most one end with it, and what waits of it is what it still has to
 -- say.
-use Rattle.world_keeps_lives.proofs.Common.{◌≡◌, ℕ, ◌==◌, ◌&&◌, Bool, true, false, if◌then◌else◌, List, [], ◌∷◌, ◌++◌, Option, Some, None, is_some, refl, ap, sym, subst, ◌∙◌, list_any, Host, same_host, HostMessage, is_ready, Command, ERRONEOUS, Legal, Order, orders_of, NO_SOCKET, Wrong, error, data_taken, DeskState, desk_of, command_queued, settled, swept, has_cls, closed_by_partner, entry_at, is_at, sends_on, PairState, TurnState, if_ready, message_taken, with_desk, command_taken, order_taken, orders_taken, Entry, after_turn, turn_of, NcpState, pair_with, spelling, End, Mark, asked_on_link, asked_with_size, changed, cls_taken_by, desk_taken, matched_once, rts_taken_by, str_taken_by, Stand, at, marks}
-use Rattle.world_keeps_lives.specs.SomeEnd.{HasSome}
-use Rattle.pairing_law.specs.Marks.{Ask, Close}
-use Rattle.host_pairs.specs.Commands.{faulted, matched}
-use Rattle.host_keeps_pairing.specs.Ends.{Standing, standing}
-use Rattle.host_keeps_pairing.specs.Words.{mark_of}
-use Rattle.host_keeps_pairing.proofs.lemmas.{put}
-use Rattle.host_pairs.specs.Entries.{close_due}
-use Rattle.host_pairs.specs.declared.entry.Closing.{Closing}
+use Rattle.world_keeps_lives.proofs.Common.{◌≡◌, ℕ, ◌==◌, ◌&&◌, Bool, true, false, if◌then◌else◌, List, [], ◌∷◌, ◌++◌, Option, Some, None, is_some, refl, ap, sym, subst, ◌∙◌, list_any, Host, same_host, HostMessage, is_ready, Command, ERRONEOUS, Legal, Order, orders_of, NO_SOCKET, Wrong, error, data_taken, DeskState, desk_of, command_queued, settled, swept, PairState, Entry, NcpState, pair_with, spelling, Mark, Ask, Close, HasSome, Closing}
+use Rattle.host_pairs.specs.Entries.{has_cls, closed_by_partner, entry_at, is_at, sends_on, close_due, is_sent}
+use Rattle.host_pairs.specs.Turn.{TurnState, if_ready, message_taken, with_desk, command_taken, order_taken, orders_taken}
+use Rattle.sockets.specs.Accepting.{after_turn, turn_of, accepted}
+use Rattle.pairing_law.specs.Ends.{End, fits, mark_taken, nothing}
+use Rattle.host_pairs.specs.Commands.{asked_on_link, asked_with_size, changed, cls_taken_by, desk_taken, matched_once, rts_taken_by, str_taken_by, faulted, matched}
+use Rattle.host_keeps_pairing.specs.Ends.{Stand, at, Standing, standing, close_waits, end_of, is_past, request_due}
+use Rattle.host_keeps_pairing.specs.Words.{marks, mark_of, AllFit, all_taken}
+use Rattle.host_keeps_pairing.proofs.lemmas.{put, Found, Is, On, after_data, after_reply, after_reset, are, asked_by, change_away, change_here, closed_by, ends_swept, found_here, live_end, loose, none_here, on_queued, on_settled, on_taken, plain}
 use Rattle.interface.specs.declared.crossing.Inbound.TheVariants as inbound
 use Rattle.ncp_control.specs.declared.command.Command.TheVariants as command
-use Rattle.pairing_law.specs.Ends.{fits, mark_taken, nothing}
-use Rattle.host_pairs.specs.Entries.{is_sent}
 use Rattle.host_pairs.specs.declared.entry.Closing.TheVariants as closing
-use Rattle.sockets.specs.Accepting.{accepted}
-use Rattle.host_keeps_pairing.specs.Ends.{close_waits, end_of, is_past, request_due}
-use Rattle.host_keeps_pairing.specs.Words.{AllFit, all_taken}
-use Rattle.host_keeps_pairing.proofs.lemmas.{Found, Is, On, after_data, after_reply, after_reset, are, asked_by}
-use Rattle.host_keeps_pairing.proofs.lemmas.{change_away, change_here, closed_by, ends_swept, found_here, live_end}
-use Rattle.host_keeps_pairing.proofs.lemmas.{loose, none_here, on_queued, on_settled, on_taken, plain}
 use Rattle.interface.proofs.lemmas.{and_turned}
 
 -- ---- the end of two sockets is asked for, or closed, in whatever order

@@ -1,14 +1,15 @@
 -- What a user asks for, at one socket of the host.
-use Rattle.world_keeps_lives.proofs.Common.{◌≡◌, inl, inr, ℕ, ◌+◌, ◌≤◌, ◌==◌, ◌&&◌, Bool, true, false, not, nat_lt, if◌then◌else◌, List, [], ◌∷◌, ◌++◌, map, find, length, Option, Some, None, is_some, refl, ap, sym, subst, ◌∙◌, arith, eqb-true, append_assoc, Host, not_false, or_false, is_receive_socket, is_send_socket, Allocation, Command, closed_end, commanded, contacted, interrupt_of, receiver_requested, requested, with_end, with_more_bits, listens_on, without_listener, called_off, changed_first, closed_when, entry_at, free_link, has_cls, is_mine_on, is_open, must_close, receiving_end, sending_end, PairState, is_ready, Entry, Listener, both, NcpState, owner_of, pair_with, AreInOrder, at_owner, closed_socket, is_used, on_open, send_fault, Request, not_first, pair_changed, Life, Kept, all_told, asked, handed_to, lives_at, where_it, IsPrefix, receives, AddsUp, AreRefusing, EachIn, EachOn, IsFresh, IsLifeOf, IsOwned, IsSafe, NoneOf, has_opened, mine_on}
-use Rattle.std.proofs.lemmas.Bool.{ltb-false}
-use Rattle.std.proofs.lemmas.List.{append-nil}
+use Rattle.world_keeps_lives.proofs.Common.{eqb-true, ltb-false, Host, not_false, or_false, is_receive_socket, is_send_socket, Allocation, Command, listens_on, without_listener, PairState, is_ready, Entry, Listener, both, NcpState, owner_of, pair_with, AreInOrder, Request, not_first, pair_changed, Life, IsPrefix, receives, AddsUp, AreRefusing, EachIn, EachOn, IsFresh, IsLifeOf, IsOwned, IsSafe, NoneOf, has_opened, mine_on}
+use Rattle.std.proofs.Common.{◌≡◌, inl, inr, ℕ, ◌+◌, ◌≤◌, ◌==◌, ◌&&◌, Bool, true, false, not, nat_lt, if◌then◌else◌, List, [], ◌∷◌, ◌++◌, map, find, length, Option, Some, None, is_some, refl, ap, sym, subst, ◌∙◌, arith}
+use Rattle.std.proofs.lemmas.List.{append_assoc, append-nil}
+use Rattle.host_pairs.specs.Asked.{closed_end, commanded, contacted, interrupt_of, receiver_requested, requested, with_end, with_more_bits, contact_notices, passes}
+use Rattle.host_pairs.specs.Entries.{called_off, changed_first, closed_when, entry_at, free_link, has_cls, is_mine_on, is_open, must_close, receiving_end, sending_end, was_closed}
+use Rattle.sockets.specs.Requests.{at_owner, closed_socket, is_used, on_open, send_fault, grant_fault, is_taken, open_receive_refusal, open_send_refusal, refusal, served, served_notices, with_peer}
+use Rattle.net_sim.specs.Book.{Kept, all_told, asked, handed_to, lives_at, where_it}
 use Rattle.ncp_control.specs.declared.command.Command.TheVariants as command
-use Rattle.host_pairs.specs.Asked.{contact_notices, passes}
 use Rattle.host_pairs.specs.Commands.{granted}
-use Rattle.host_pairs.specs.Entries.{was_closed}
 use Rattle.host_pairs.specs.Parcels.{link_of}
 use Rattle.host_pairs.specs.declared.notice.Notice.TheVariants as notice
-use Rattle.sockets.specs.Requests.{grant_fault, is_taken, open_receive_refusal, open_send_refusal, refusal, served, served_notices, with_peer}
 use Rattle.sockets.specs.declared.request.Request.TheVariants as request
 use Rattle.net_sim.specs.Book as book
 use Rattle.world_keeps_lives.proofs.Ends.{IsRefusing, mine_append, mine_one, refusing_append, refusing_changed, refusing_mapped, split}

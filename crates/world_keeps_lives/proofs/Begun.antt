@@ -1,15 +1,12 @@
 -- A life that begins has both requests in messages that crossed, and the link of its end.
-use Rattle.world_keeps_lives.proofs.Common.{◌≡◌, ℕ, ◌==◌, Bool, true, false, ◌&&◌, if◌then◌else◌, List, [], ◌∷◌, filter, Some, refl, ap, sym, subst, ◌∙◌, eq-eqb, Contains, eqb-true, Host, Flow, is_receive_socket, is_mine_on, Entry, both, pair_with, HaveAddresses, HasCrossed, coming, going, request, Moment, program, crossings_of, Life, HasOpenEnd, mine_on}
+use Rattle.world_keeps_lives.proofs.Common.{◌≡◌, ℕ, ◌==◌, Bool, true, false, ◌&&◌, if◌then◌else◌, List, [], ◌∷◌, filter, Some, refl, ap, sym, subst, ◌∙◌, eq-eqb, Contains, eqb-true, Host, Flow, is_receive_socket, is_mine_on, Entry, both, pair_with, HaveAddresses, HasCrossed, coming, going, request, Moment, program, crossings_of, Life, HasOpenEnd, mine_on, AreOurs, Network, Happened, mixed_kept, contains_head, contains_tail}
 use Rattle.interface.specs.Mailboxes as mail
-use Rattle.reset_law.specs.Network.{AreOurs, Network}
-use Rattle.net_sim.specs.Mixed.{Happened, mixed_kept}
 use Rattle.world_keeps_lives.proofs.Facts.{no}
 use Rattle.world_keeps_lives.proofs.Laws.{live_end}
 use Rattle.world_keeps_lives.proofs.Sockets.{held}
 use Rattle.world_keeps_lives.proofs.Firsts.Linked.{HasRequests}
 use Rattle.world_keeps_lives.proofs.Walk.Rules.{Each, each_filter, each_in, each_weaker}
 use Rattle.world_keeps_lives.proofs.Grounds.{Grounded, IsAnswered, IsAsked, Opens, grounds}
-use Rattle.interface.proofs.lemmas.{contains_head, contains_tail}
 
 -- ---- the end of a life that continues has the link of its messages
 

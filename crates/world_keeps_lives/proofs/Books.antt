@@ -1,8 +1,8 @@
 -- What notices of a host, and what its user asks for, do to the lives of one of its sockets.
-use Rattle.world_keeps_lives.proofs.Common.{◌≡◌, ℕ, ◌==◌, ◌&&◌, Bool, true, not, if◌then◌else◌, List, [], ◌∷◌, ◌++◌, refl, sym, subst, ◌∙◌, eqb-true, Host, same_host, same_host-refl, same_host-true, Notice, both, not_is, Life, Kept, all_told, carried, changed_when, life_ended, handed_to, handed_told, lives_at, lives_between, lives_told, lives_with, new_life, book_told, where_it, EachIn, EachOn, IsSafe, at_socket}
-use Rattle.std.proofs.Common.{false}
+use Rattle.world_keeps_lives.proofs.Common.{eqb-true, Host, same_host, same_host-refl, same_host-true, Notice, both, not_is, Life, EachIn, EachOn, IsSafe, at_socket}
+use Rattle.std.proofs.Common.{◌≡◌, ℕ, ◌==◌, ◌&&◌, Bool, true, not, if◌then◌else◌, List, [], ◌∷◌, ◌++◌, refl, sym, subst, ◌∙◌, false}
+use Rattle.net_sim.specs.Book.{Kept, all_told, carried, changed_when, life_ended, handed_to, handed_told, lives_at, lives_between, lives_told, lives_with, new_life, book_told, where_it, returned}
 use Rattle.host_pairs.specs.declared.notice.Notice.TheVariants as notice
-use Rattle.net_sim.specs.Book.{returned}
 
 pub not_both : (P : Type 0) (b : Bool) → b ≡ true → b ≡ false → P
 not_both P b e f = absurd (let r : true ≡ false = sym e ∙ f in cc)

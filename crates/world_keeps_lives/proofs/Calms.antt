@@ -1,13 +1,10 @@
 -- What moments of no data do to lives: all keep what they carried, and new ones begin where a request of theirs crosses.
-use Rattle.world_keeps_lives.proofs.Common.{◌≡◌, ℕ, Bool, true, false, if◌then◌else◌, List, [], ◌∷◌, ◌++◌, map, refl, ap, sym, subst, ◌∙◌, append_assoc, map-append, Host, Crossing, Notice, Request, Kept, all_told, book_told, changed_when, life_ended, lives_asked, lives_at, lives_between, lives_crossed, lives_on, lives_told, lives_with, new_life, where_it, Asked, Crossed, Moment, host_in, kept_by, notices_by, Amount, Life}
-use Rattle.std.proofs.Common.{append-nil}
+use Rattle.world_keeps_lives.proofs.Common.{append_assoc, map-append, Host, Crossing, Notice, Request, Asked, Crossed, Moment, host_in, kept_by, notices_by, Amount, Life, AreOurs, Network, lives_among, crossed_only, mixed_kept}
+use Rattle.std.proofs.Common.{◌≡◌, ℕ, Bool, true, false, if◌then◌else◌, List, [], ◌∷◌, ◌++◌, map, refl, ap, sym, subst, ◌∙◌, append-nil}
+use Rattle.net_sim.specs.Book.{Kept, all_told, book_told, changed_when, life_ended, lives_asked, lives_at, lives_between, lives_crossed, lives_on, lives_told, lives_with, new_life, where_it, granted, more, returned}
 use Rattle.interface.specs.declared.crossing.Crossing.TheVariants as crossing
 use Rattle.host_pairs.specs.declared.notice.Notice.TheVariants as notice
 use Rattle.sockets.specs.declared.request.Request.TheVariants as request
-use Rattle.net_sim.specs.Book.{granted, more, returned}
-use Rattle.reset_law.specs.Network.{AreOurs, Network}
-use Rattle.net_sim.specs.Among.{lives_among}
-use Rattle.net_sim.specs.Mixed.{crossed_only, mixed_kept}
 use Rattle.world_keeps_lives.proofs.Among.{Leaves, among_more, among_other, among_where}
 use Rattle.world_keeps_lives.proofs.DataTold.{Reports}
 use Rattle.world_keeps_lives.proofs.Grounds.{Opens}

@@ -1,23 +1,21 @@
 -- What each moment reports of data: one notice of what goes out on a connection's link, at most one of what comes in on it, and none otherwise.
-use Rattle.world_keeps_lives.proofs.Common.{◌≡◌, ◌⊎◌, inl, inr, ℕ, ◌*◌, ◌==◌, Bool, true, false, if◌then◌else◌, List, [], ◌∷◌, ◌++◌, take, find, Option, Some, None, refl, ap, sym, subst, eqb-true, Host, same_host, Flow, Answer, Crossing, HostMessage, data_bits, header_of, Command, DataHeader, Ending, Open, Unconnected, ERRONEOUS, arrived, arrived_if, data_found, data_of, data_taken, is_acceptable, text_faulted, DeskState, desk_of, is_ending, is_open, receives_on, Parcel, is_ready, TurnState, if_ready, message_taken, with_desk, Entry, Notice, after_turn, turn_of, NcpState, pair_with, message_for, next_in, offered_by, Peer, Request, HaveAddresses, Asked, Contains, Crossed, IsNext, Moment, Order, places, program, crossings_of, notices_by, places_same, AreCommands}
+use Rattle.world_keeps_lives.proofs.Common.{◌≡◌, ◌⊎◌, inl, inr, ℕ, ◌*◌, ◌==◌, Bool, true, false, if◌then◌else◌, List, [], ◌∷◌, ◌++◌, take, find, Option, Some, None, refl, ap, sym, subst, eqb-true, Host, same_host, Flow, Answer, Crossing, HostMessage, data_bits, header_of, Command, DataHeader, ERRONEOUS, Order, DeskState, desk_of, is_ending, is_open, receives_on, is_ready, Entry, Notice, NcpState, pair_with, Peer, Request, HaveAddresses, Asked, Crossed, IsNext, Moment, places, program, Contains, crossings_of, notices_by, places_same, AreCommands, AreOurs, Network, Happened, pair_range, programs_ranged, served_in}
+use Rattle.host_pairs.specs.Commands.{Ending, Open, Unconnected, Found}
+use Rattle.host_pairs.specs.Data.{arrived, arrived_if, data_found, data_of, data_taken, is_acceptable, text_faulted}
+use Rattle.host_pairs.specs.Parcels.{Parcel, link_of}
+use Rattle.host_pairs.specs.Turn.{TurnState, if_ready, message_taken, with_desk}
+use Rattle.sockets.specs.Accepting.{after_turn, turn_of, accepted}
+use Rattle.sockets.specs.Sending.{message_for, next_in, offered_by, offered}
 use Rattle.interface.specs.Mailboxes as mail
 use Rattle.interface.specs.declared.crossing.Crossing.TheVariants as crossing
 use Rattle.interface.specs.declared.crossing.Inbound.TheVariants as inbound
 use Rattle.host_pairs.specs.Commands as commands
-use Rattle.host_pairs.specs.Commands.{Found}
 use Rattle.host_pairs.specs.Parcels as parcel
-use Rattle.host_pairs.specs.Parcels.{link_of}
 use Rattle.host_pairs.specs.declared.notice.Notice.TheVariants as notice
-use Rattle.sockets.specs.Accepting.{accepted}
-use Rattle.sockets.specs.Sending.{offered}
 use Rattle.world_keeps_lives.proofs.Facts.{no}
 use Rattle.world_keeps_lives.proofs.Walk.Rules.{Each, MayTell, each_weaker}
 use Rattle.world_keeps_lives.proofs.Walk.ByRules.{Ends, answer_keeps, message_keeps, offer_keeps, request_told}
 use Rattle.world_keeps_lives.proofs.Grounds.{Going, Grounded, Opens, Tells, goes_of, flow_is, going_now, going_rules, grounded_hears, grounded_rules, grounds, still_grounded}
-use Rattle.reset_law.specs.Network.{AreOurs, Network}
-use Rattle.net_sim.specs.Mixed.{Happened}
-use Rattle.host_keeps_ranges.proofs.lemmas.{pair_range}
-use Rattle.world_keeps_pairing.proofs.lemmas.{programs_ranged, served_in}
 use Rattle.world_keeps_lives.proofs.Walk.Rules.{Begins, Goes, Hears, Rules, each_of}
 
 -- ---- data

@@ -1,22 +1,15 @@
 -- A sending life whose CLS is queued before its partner's was taken has sent all that was handed over in it, also once
 -- it is over.
-use Rattle.world_keeps_lives.proofs.Common.{◌≡◌, ◌⊎◌, inl, inr, ℕ, zero, suc, ◌<◌, ◌==◌, ◌&&◌, not, Bool, false, if◌then◌else◌, List, [], ◌∷◌, ◌++◌, length, filter, find, slice_index_or, Option, Some, None, refl, ap, sym, subst, ◌∙◌, eq-eqb, arith, eqb-true, Contains, Host, same_host, not_false, same_host-true, is_receive_socket, is_send_socket, Command, Order, orders_of, has_cls, is_mine_on, is_open, Entry, both, not_is, NcpState, owner_of, pair_with, AreInOrder, on_open, send_fault, not_first, lives_at, HaveAddresses, going, AreHanded, IsPrefix, Name, SafePartners, own_request, sends, Asked, Crossed, Moment, places, program, crossings_of, Life, Coupled, host_in, places_same, even_odd, ClosedFirst, ClosesFirst, AreRefusing, EachOn, HasOpenEnd, IsFreeSocket, IsLifeOf, IsOwned, NoneOf, mine_on}
-use Rattle.reset_law.specs.Network.{AreOurs, Network}
-use Rattle.net_sim.specs.Among.{beside_among}
-use Rattle.net_sim.specs.Mixed.{Happened, mixed_kept}
-use Rattle.net_sim.proofs.lemmas.{coupled}
-use Rattle.world_keeps_pairing.specs.Laws.Worlds.{among}
-use Rattle.world_keeps_pairing.proofs.lemmas.{in_book, life_paired, queued_commands, safe_partners, served_in, two_in_book}
-use Rattle.std.proofs.Common.{true}
-use Rattle.std.proofs.lemmas.Option.{same_Some}
+use Rattle.world_keeps_lives.proofs.Common.{eqb-true, Contains, Host, same_host, not_false, same_host-true, is_receive_socket, is_send_socket, Command, Order, orders_of, has_cls, is_mine_on, is_open, Entry, both, not_is, NcpState, owner_of, pair_with, AreInOrder, not_first, lives_at, HaveAddresses, going, AreHanded, IsPrefix, Name, SafePartners, own_request, sends, Asked, Crossed, Moment, places, program, crossings_of, Life, Coupled, places_same, coupled, host_in, AreRefusing, EachOn, HasOpenEnd, IsFreeSocket, IsLifeOf, IsOwned, NoneOf, mine_on, AreOurs, Network, beside_among, Happened, mixed_kept, among, same_Some}
+use Rattle.std.proofs.Common.{◌≡◌, ◌⊎◌, inl, inr, ℕ, zero, suc, ◌<◌, ◌==◌, ◌&&◌, not, Bool, false, if◌then◌else◌, List, [], ◌∷◌, ◌++◌, length, filter, find, slice_index_or, Option, Some, None, refl, ap, sym, subst, ◌∙◌, eq-eqb, arith, true}
+use Rattle.sockets.specs.Requests.{on_open, send_fault, refusal}
+use Rattle.world_keeps_pairing.proofs.lemmas.{even_odd, in_book, life_paired, queued_commands, safe_partners, served_in, two_in_book, mail_below}
+use Rattle.world_keeps_lives.specs.Drained.{ClosedFirst, ClosesFirst, AllSent}
 use Rattle.interface.specs.Mailboxes as mail
 use Rattle.interface.specs.declared.crossing.Crossing.TheVariants as crossing
 use Rattle.host_pairs.specs.Parcels as parcel
-use Rattle.sockets.specs.Requests.{refusal}
 use Rattle.sockets.specs.declared.request.Request.TheVariants as request
 use Rattle.world_keeps_pairing.specs.Lives.{ArePaired}
-use Rattle.world_keeps_pairing.proofs.lemmas.{mail_below}
-use Rattle.world_keeps_lives.specs.Drained.{AllSent}
 use Rattle.world_keeps_lives.proofs.Desks.{clash, open_parts, own_is}
 use Rattle.world_keeps_lives.proofs.Ends.{mine_one}
 use Rattle.world_keeps_lives.proofs.Begun as begun

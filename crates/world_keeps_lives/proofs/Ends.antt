@@ -1,7 +1,7 @@
 -- The own ends on a socket, and those that refuse, where a list of ends changes.
 pub use Rattle.host_keeps_streams.proofs.lemmas.{unchanged as none_changed}
-use Rattle.world_keeps_lives.proofs.Common.{◌≡◌, ℕ, Bool, false, if◌then◌else◌, List, [], ◌∷◌, ◌++◌, map, filter, find, Some, refl, ap, sym, subst, ◌∙◌, changed_first, has_cls, is_mine_on, Entry, AreRefusing, mine_on}
-use Rattle.std.proofs.Common.{true}
+use Rattle.world_keeps_lives.proofs.Common.{changed_first, has_cls, is_mine_on, Entry, AreRefusing, mine_on}
+use Rattle.std.proofs.Common.{◌≡◌, ℕ, Bool, false, if◌then◌else◌, List, [], ◌∷◌, ◌++◌, map, filter, find, Some, refl, ap, sym, subst, ◌∙◌, true}
 use Rattle.std.proofs.lemmas.List.Elements.{filter-append}
 use Rattle.host_keeps_pairing.proofs.lemmas.{found_same}
 

@@ -1,9 +1,10 @@
 -- Each life of a book is formed, and its sending lives are one after another: with the link that its requests name.
-use Rattle.world_keeps_lives.proofs.Common.{◌≡◌, inl, inr, ℕ, ◌<◌, ◌≤◌, ◌==◌, Bool, true, false, if◌then◌else◌, zero, suc, List, [], ◌∷◌, map, take, length, Option, Some, is_some, refl, ap, sym, subst, ◌∙◌, arith, Contains, option_map, Flow, Crossing, HostMessage, is_receive_socket, Legal, orders_of, Entry, CrossedAt, IsFormed, data_in, first_data, joined, request, texts_for, texts_on, before, receives, Moment, program, crossings_of, Life, AreApart, IsSentIn, begun, HasOpenEnd}
+use Rattle.world_keeps_lives.proofs.Common.{Contains, option_map, Flow, Crossing, HostMessage, is_receive_socket, Legal, orders_of, Entry, before, receives, Moment, program, crossings_of, Life, HasOpenEnd, AreOurs, Network, mixed_kept, in_book}
+use Rattle.std.proofs.Common.{◌≡◌, inl, inr, ℕ, ◌<◌, ◌≤◌, ◌==◌, Bool, true, false, if◌then◌else◌, zero, suc, List, [], ◌∷◌, map, take, length, Option, Some, is_some, refl, ap, sym, subst, ◌∙◌, arith}
+use Rattle.promise.specs.Formed.{CrossedAt, IsFormed, data_in, first_data, joined, request, texts_for, texts_on, FormedBook, flow_of, link_of, own_named, partner_named}
+use Rattle.world_keeps_lives.specs.Firsts.{AreApart, IsSentIn, begun, AreAfter, IsBefore, flow_on}
 use Rattle.interface.specs.declared.crossing.Crossing.TheVariants as crossing
 use Rattle.ncp_control.specs.declared.command.Command.TheVariants as command
-use Rattle.promise.specs.Formed.{FormedBook, flow_of, link_of, own_named, partner_named}
-use Rattle.world_keeps_lives.specs.Firsts.{AreAfter, IsBefore, flow_on}
 use Rattle.world_keeps_lives.proofs.Firsts.Books.{good}
 use Rattle.world_keeps_lives.proofs.Firsts.Ends.{AtEnd, Good, Lawful, Together, Tracked, at_end, is_end, lives_in, ours, str_foreign}
 use Rattle.world_keeps_lives.proofs.Firsts.Lists.{From, from_map, life_of, mapped}
@@ -12,9 +13,6 @@ use Rattle.world_keeps_lives.proofs.Firsts.Linked.{HasRequests, IsFirst, Linked,
 use Rattle.world_keeps_lives.proofs.Named.{Names, named_there, names_of}
 use Rattle.world_keeps_lives.proofs.OneRequest.{NamesOnce, in_once, out_once}
 use Rattle.world_keeps_lives.proofs.Walk.Rules.{Each, each_in, each_of, each_weaker}
-use Rattle.reset_law.specs.Network.{AreOurs, Network}
-use Rattle.net_sim.specs.Mixed.{mixed_kept}
-use Rattle.world_keeps_pairing.proofs.lemmas.{in_book}
 
 -- ---- data
 

@@ -1,13 +1,13 @@
 -- Lives that are made of messages that crossed, and lives that aren't.
-use Rattle.world_keeps_lives.proofs.Common.{◌≡◌, ℕ, Bool, true, false, List, [], ◌∷◌, ◌++◌, Option, Some, None, is_some, refl, ap, sym, subst, arith, Contains, IsSome, Crossing, Legal, Order, Wrong, IsFormed, first_data, named_in, texts_on, receives, eight, eight_zeros, rts, str, Life, gave, sent_log, stray_log, took, two_log}
+use Rattle.world_keeps_lives.proofs.Common.{◌≡◌, ℕ, Bool, true, false, List, [], ◌∷◌, ◌++◌, Option, Some, None, is_some, refl, ap, sym, subst, arith, Contains, IsSome, Crossing, receives, Life}
+use Rattle.host_pairs.specs.Control.{Legal, Order, Wrong, orders_of}
+use Rattle.promise.specs.Formed.{IsFormed, first_data, named_in, texts_on, link_of}
+use Rattle.net_sim.specs.Worked.{eight, eight_zeros, crossings, taker}
+use Rattle.net_sim.specs.WorkedMoments.{rts, str, all_given}
+use Rattle.world_keeps_lives.specs.WorkedFormed.{gave, sent_log, stray_log, took, two_log, took_second}
 use Rattle.bit_messages.specs.Octets.{octets_of}
 use Rattle.ncp_control.specs.Reading.{command_of, read_of}
 use Rattle.ncp_control.specs.declared.command.Command.TheVariants as command
-use Rattle.host_pairs.specs.Control.{orders_of}
-use Rattle.promise.specs.Formed.{link_of}
-use Rattle.net_sim.specs.Worked.{crossings, taker}
-use Rattle.net_sim.specs.WorkedMoments.{all_given}
-use Rattle.world_keeps_lives.specs.WorkedFormed.{took_second}
 
 -- ---- what the messages say
 

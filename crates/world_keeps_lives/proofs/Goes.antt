@@ -1,11 +1,12 @@
 -- What goes out of a pair, at one socket of the host.
-use Rattle.world_keeps_lives.proofs.Common.{◌≡◌, ◌⊎◌, inl, inr, ℕ, ◌==◌, ◌&&◌, Bool, true, false, if◌then◌else◌, List, [], ◌∷◌, ◌++◌, find, take, drop, Option, Some, None, is_some, refl, ap, sym, subst, ◌∙◌, eq-eqb, eqb-true, append_assoc, take-append-drop, Host, IsCommand, is_receive_socket, is_send_socket, Command, End, Mark, changed, DeskState, desk_told, listens_on, entry_at, has_cls, is_at, is_open, is_receiving, asked_at, bits_gone, cls_sent, command_gone, commands_gone, may_send_on, Entry, both, Stand, at, marks, AreCommands, Life, Kept, all_told, carried, IsLifeOf, IsSafe, has_opened, mine_on}
+use Rattle.world_keeps_lives.proofs.Common.{◌≡◌, ◌⊎◌, inl, inr, ℕ, ◌==◌, ◌&&◌, Bool, true, false, if◌then◌else◌, List, [], ◌∷◌, ◌++◌, find, take, drop, Option, Some, None, is_some, refl, ap, sym, subst, ◌∙◌, eq-eqb, eqb-true, append_assoc, take-append-drop, Host, IsCommand, is_receive_socket, is_send_socket, Command, End, Mark, Ask, Close, DeskState, desk_told, listens_on, Entry, both, AreCommands, Life, Kept, all_told, carried, IsLifeOf, IsSafe, has_opened, mine_on}
+use Rattle.host_pairs.specs.Commands.{changed}
+use Rattle.host_pairs.specs.Entries.{entry_at, has_cls, is_at, is_open, is_receiving}
+use Rattle.host_pairs.specs.Parcels.{asked_at, bits_gone, cls_sent, command_gone, commands_gone, may_send_on, request_gone}
+use Rattle.host_keeps_pairing.specs.Ends.{Stand, at, Standing, standing}
+use Rattle.host_keeps_pairing.specs.Words.{marks, mark_of}
 use Rattle.ncp_control.specs.declared.command.Command.TheVariants as command
-use Rattle.pairing_law.specs.Marks.{Ask, Close}
-use Rattle.host_pairs.specs.Parcels.{request_gone}
 use Rattle.host_pairs.specs.declared.notice.Notice.TheVariants as notice
-use Rattle.host_keeps_pairing.specs.Ends.{Standing, standing}
-use Rattle.host_keeps_pairing.specs.Words.{mark_of}
 use Rattle.host_keeps_pairing.proofs.lemmas.{Found, found_at, heads, none_at, one_gone}
 use Rattle.promise.specs.Safe.{receives, sends}
 use Rattle.world_keeps_lives.proofs.Ends.{none_changed, refusing_changed, refusing_found, split}

@@ -1,21 +1,15 @@
 -- The requests of each end of a host's program, in the messages that crossed.
-use Rattle.world_keeps_lives.proofs.Common.{◌≡◌, inl, inr, ℕ, ◌<◌, Bool, true, false, if◌then◌else◌, zero, suc, List, [], ◌∷◌, map, take, drop, length, slice_index_or, Some, refl, ap, sym, subst, ◌∙◌, arith, Contains, eqb-true, take-append-drop, Contains-append_left, Host, same_host, Flow, Answer, Crossing, HostMessage, or_false, same_host-true, is_receive_socket, is_send_socket, Command, Legal, Order, orders_of, has_cls, is_ending, is_receiving, PairState, Parcel, Entry, Notice, offer_read, AreCommands, IsReadBack, accepted, NcpState, opening_state, pair_with, AreInOrder, served, message_for, next_in, offered, Peer, next_pair, HaveAddresses, CrossedAt, HasCrossed, coming, going, request, control_flow, Asked, Crossed, IsNext, Moment, places, program, crossings_of, places_same, even_odd, programs_ranged}
-use Rattle.reset_law.specs.Network.{AreOurs, Network}
-use Rattle.std.proofs.lemmas.Option.{same_Some}
+use Rattle.world_keeps_lives.proofs.Common.{◌≡◌, inl, inr, ℕ, ◌<◌, Bool, true, false, if◌then◌else◌, zero, suc, List, [], ◌∷◌, map, take, drop, length, slice_index_or, Some, refl, ap, sym, subst, ◌∙◌, arith, Contains, eqb-true, take-append-drop, Contains-append_left, Host, same_host, Flow, Answer, Crossing, HostMessage, or_false, same_host-true, is_receive_socket, is_send_socket, Command, Legal, Order, orders_of, has_cls, is_ending, is_receiving, PairState, Entry, Notice, offer_read, AreCommands, IsReadBack, accepted, NcpState, opening_state, pair_with, AreInOrder, message_for, next_in, offered, Peer, next_pair, answer_leaves, message_leaves, offer_leaves, HaveAddresses, CrossedAt, HasCrossed, coming, going, request, control_flow, Asked, Crossed, IsNext, Moment, places, program, Follows, crossings_of, AreOurs, Network, same_Some, Happened}
+use Rattle.host_pairs.specs.Parcels.{Parcel, text_for}
+use Rattle.sockets.specs.Requests.{served}
+use Rattle.net_sim.proofs.lemmas.{places_same, flow_of, program_own, coupled}
+use Rattle.world_keeps_pairing.proofs.lemmas.{even_odd, programs_ranged, send_odd, queued_commands, queued_link, served_in}
 use Rattle.interface.specs.Mailboxes as mail
 use Rattle.interface.specs.declared.crossing.Crossing.TheVariants as crossing
 use Rattle.interface.specs.declared.crossing.Inbound.TheVariants as inbound
 use Rattle.ncp_control.specs.declared.command.Command.TheVariants as command
 use Rattle.host_pairs.specs.Parcels as parcel
-use Rattle.host_pairs.specs.Parcels.{text_for}
 use Rattle.host_pairs.specs.declared.notice.Notice.TheVariants as notice
-use Rattle.sockets.proofs.lemmas.{answer_leaves, message_leaves, offer_leaves}
-use Rattle.net_sim.proofs.lemmas.{flow_of, program_own}
-use Rattle.world_keeps_pairing.proofs.lemmas.{send_odd}
-use Rattle.net_sim.proofs.lemmas.{coupled}
-use Rattle.net_sim.specs.Mixed.{Happened}
-use Rattle.net_sim.specs.Story.{Follows}
-use Rattle.world_keeps_pairing.proofs.lemmas.{queued_commands, queued_link, served_in}
 use Rattle.world_keeps_lives.proofs.Facts.{no_place}
 use Rattle.world_keeps_lives.proofs.Walk.Rules.{Begins, Each, Goes, Hears, IsOther, MayTell, Quiet, Rules, each_of, each_weaker}
 use Rattle.world_keeps_lives.proofs.Walk.ByRules.{Done, Ends, MayTake, answer_keeps, message_keeps, offer_keeps, request_keeps}

@@ -1,15 +1,18 @@
 -- What comes in to a host and what goes out of it, at one of its sockets.
-use Rattle.world_keeps_lives.proofs.Common.{◌≡◌, ◌⊎◌, inl, inr, ℕ, ◌*◌, Bool, true, false, if◌then◌else◌, List, [], ◌∷◌, take, drop, Option, Some, None, refl, ap, sym, subst, ◌∙◌, take-append-drop, Host, same_host, Flow, Answer, HostMessage, same_host-refl, same_host-true, Command, End, Mark, MayGo, DeskState, desk_of, listens_on, is_busy, PairState, Parcel, command_gone, commands_gone, next_of, pair_after, parcel_gone, is_ready, TurnState, answered_turn, message_taken, Entry, Listener, what_goes, Stand, at, marks, AreCommands, turn_of, after_turn, NcpState, pair_with, AreInOrder, next_in, offered_by, Peer, next_is, next_pair, pair_changed, Kept, all_told, AreRefusing, EachIn, IsFreeSocket, IsLifeOf, IsOwned, IsSteady, mine_on}
-use Rattle.std.proofs.Common.{cond}
+use Rattle.world_keeps_lives.proofs.Common.{take-append-drop, Host, same_host, Flow, Answer, HostMessage, same_host-refl, same_host-true, Command, End, Mark, MayGo, DeskState, desk_of, listens_on, PairState, is_ready, Entry, Listener, what_goes, AreCommands, NcpState, pair_with, AreInOrder, Peer, next_is, next_pair, pair_changed, Kept, all_told, AreRefusing, EachIn, IsFreeSocket, IsLifeOf, IsOwned, IsSteady, mine_on}
+use Rattle.std.proofs.Common.{◌≡◌, ◌⊎◌, inl, inr, ℕ, ◌*◌, Bool, true, false, if◌then◌else◌, List, [], ◌∷◌, take, drop, Option, Some, None, refl, ap, sym, subst, ◌∙◌, cond}
+use Rattle.host_pairs.specs.Entries.{is_busy}
+use Rattle.host_pairs.specs.Parcels.{Parcel, command_gone, commands_gone, next_of, pair_after, parcel_gone, link_of, unqueued}
+use Rattle.host_pairs.specs.Turn.{TurnState, answered_turn, message_taken}
+use Rattle.host_keeps_pairing.specs.Ends.{Stand, at, HasEnd}
+use Rattle.host_keeps_pairing.specs.Words.{marks}
+use Rattle.sockets.specs.Accepting.{turn_of, after_turn, accepted, with_turn}
+use Rattle.sockets.specs.Sending.{next_in, offered_by, offered}
 use Rattle.interface.specs.declared.crossing.Inbound.TheVariants as inbound
 use Rattle.ncp_control.specs.declared.command.Command.TheVariants as command
 use Rattle.host_pairs.specs.Parcels as parcel
-use Rattle.host_pairs.specs.Parcels.{link_of, unqueued}
-use Rattle.host_keeps_pairing.specs.Ends.{HasEnd}
 use Rattle.host_keeps_pairing.proofs.lemmas.{marks_append}
 use Rattle.host_keeps_streams.proofs.lemmas.Senders as senders
-use Rattle.sockets.specs.Accepting.{accepted, with_turn}
-use Rattle.sockets.specs.Sending.{offered}
 use Rattle.world_keeps_pairing.proofs.lemmas.{some_commands}
 use Rattle.world_keeps_lives.proofs.Desks.{At, Elsewhere, Near, Place, clash}
 use Rattle.world_keeps_lives.proofs.Takes.{G}

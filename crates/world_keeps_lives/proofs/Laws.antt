@@ -1,13 +1,10 @@
 -- What all lives of a book have, by what each socket of each host with a program has.
-use Rattle.world_keeps_lives.proofs.Common.{◌≡◌, inl, inr, ℕ, ◌<◌, Bool, true, false, List, [], ◌∷◌, length, slice_index_or, zero, suc, refl, sym, subst, eq-eqb, arith, Contains, Host, same_host, same_host-refl, NcpState, pair_with, Life, Kept, HaveAddresses, AreHanded, receives, Moment, program, crossings_of, EachIn, EachOn, HasOpenEnd, IsBounded, IsLifeOf, IsOwned, IsSafe, NoneOf, at_socket, mine_on}
+use Rattle.world_keeps_lives.proofs.Common.{◌≡◌, inl, inr, ℕ, ◌<◌, Bool, true, false, List, [], ◌∷◌, length, slice_index_or, zero, suc, refl, sym, subst, eq-eqb, arith, Contains, Host, same_host, same_host-refl, NcpState, pair_with, Life, Kept, HaveAddresses, AreHanded, receives, IsGranted, Moment, program, crossings_of, EachIn, EachOn, HasOpenEnd, IsBounded, IsLifeOf, IsOwned, IsSafe, NoneOf, at_socket, mine_on, Network, Happened, mixed_kept}
 use Rattle.interface.specs.Mailboxes as mail
-use Rattle.promise.specs.Safe.{IsGranted}
 use Rattle.world_keeps_lives.proofs.Books.{One, each_weaker}
 use Rattle.world_keeps_lives.proofs.Hosts.{Holds}
 use Rattle.world_keeps_lives.proofs.Among.{AreOwned, all_owned}
 use Rattle.world_keeps_lives.proofs.Sockets.{held}
-use Rattle.reset_law.specs.Network.{Network}
-use Rattle.net_sim.specs.Mixed.{Happened, mixed_kept}
 
 -- ---- lists
 

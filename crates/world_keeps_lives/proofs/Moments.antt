@@ -1,9 +1,9 @@
 -- One socket of a host, over all moments of a world.
-use Rattle.world_keeps_lives.proofs.Common.{◌≡◌, inl, inr, ℕ, ◌==◌, Bool, true, false, if◌then◌else◌, List, refl, sym, subst, Host, same_host, Crossing, same_host-refl, same_host-true, Notice, both, NcpState, opening_state, Request, Life, Kept, all_told, asked, crossed, lives_at, lives_on, EachIn, IsLifeOf, NoneOf, at_socket}
+use Rattle.world_keeps_lives.proofs.Common.{◌≡◌, inl, inr, ℕ, ◌==◌, Bool, true, false, if◌then◌else◌, List, refl, sym, subst, Host, same_host, Crossing, same_host-refl, same_host-true, Notice, both, NcpState, opening_state, Request, Life, EachIn, IsLifeOf, NoneOf, at_socket}
+use Rattle.net_sim.specs.Book.{Kept, all_told, asked, crossed, lives_at, lives_on, granted}
 use Rattle.interface.specs.Mailboxes as mail
 use Rattle.interface.specs.declared.crossing.Crossing.TheVariants as crossing
 use Rattle.sockets.specs.declared.request.Request.TheVariants as request
-use Rattle.net_sim.specs.Book.{granted}
 use Rattle.world_keeps_lives.proofs.Books.{all_away, away_at, each_apart, each_ended, each_handed}
 use Rattle.world_keeps_lives.proofs.Desks.{clash}
 use Rattle.world_keeps_lives.proofs.Hosts.{Holds}

@@ -1,12 +1,11 @@
 -- What the first request of two sockets names, in a text and in what crossed at a place.
-use Rattle.world_keeps_lives.proofs.Common.{◌≡◌, inl, inr, ℕ, ◌<◌, ◌==◌, ◌&&◌, not, Bool, if◌then◌else◌, zero, suc, List, [], ◌∷◌, length, slice_index_or, Option, Some, None, refl, ap, sym, subst, ◌∙◌, arith, eq-eqb, Contains, IsSome, eqb-true, same_flow, Host, Flow, Crossing, HostMessage, same_flow-refl, same_flow-true, is_receive_socket, Command, Legal, Order, Wrong, orders_of, both, CrossedAt, IsFormed, named_in, request, text_of, control_flow, Amount, Life}
-use Rattle.std.proofs.Common.{true, false}
+use Rattle.world_keeps_lives.proofs.Common.{Contains, IsSome, eqb-true, same_flow, Host, Flow, Crossing, HostMessage, same_flow-refl, same_flow-true, not_true, contains_head, contains_tail, is_receive_socket, Command, Legal, Order, Wrong, orders_of, both, control_flow, Amount, Life}
+use Rattle.std.proofs.Common.{◌≡◌, inl, inr, ℕ, ◌<◌, ◌==◌, ◌&&◌, not, Bool, if◌then◌else◌, zero, suc, List, [], ◌∷◌, length, slice_index_or, Option, Some, None, refl, ap, sym, subst, ◌∙◌, arith, eq-eqb, true, false}
+use Rattle.promise.specs.Formed.{CrossedAt, IsFormed, named_in, request, text_of, named_by, named_of, named_at}
 use Rattle.std.specs.Option.{option_or}
 use Rattle.interface.specs.declared.crossing.Crossing.TheVariants as crossing
 use Rattle.ncp_control.specs.declared.command.Command.TheVariants as command
-use Rattle.promise.specs.Formed.{named_by, named_of, named_at}
 use Rattle.world_keeps_lives.proofs.Grounds.{crossed_below}
-use Rattle.interface.proofs.lemmas.{not_true, contains_head, contains_tail}
 
 -- ---- one command
 

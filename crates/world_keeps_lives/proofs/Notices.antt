@@ -1,28 +1,27 @@
 -- The notices of data in a book are those of messages that crossed.
-use Rattle.world_keeps_lives.proofs.Common.{◌≡◌, ◌&&◌, ◌||◌, ◌≤◌, inl, inr, not, Option, None, ℕ, ◌+◌, ◌*◌, ◌==◌, Bool, true, false, if◌then◌else◌, List, [], ◌∷◌, ◌++◌, take, drop, length, Some, refl, ap, sym, subst, ◌∙◌, arith, eq-eqb, Contains, drop-append_seam, Host, same_host, same_host-refl, Crossing, HostMessage, data_bits, header_bits, is_receive_socket, MayGo, data_of, is_link, is_open, is_receiving, receives_on, PairState, Parcel, may_send_on, next_of, Entry, Notice, both, what_goes, find_passes, pair, pair_with, message_for, next_in, next_is, next_pair, Told, Kept, all_told, asked, book_told, crossed, HaveAddresses, HasCrossed, coming, data_by, going, request, AreTold, FormedNotices, HasLink, data_told, Agrees, Asked, Crossed, IsNext, IsStory, Moment, places, program, events_of, crossings_of, host_in, kept_by, notices_by, data_away, story_agrees}
-use Rattle.reset_law.specs.Network.{AreOurs, Network}
-use Rattle.net_sim.specs.Mixed.{Happened, crossed_only, mixed_kept}
-use Rattle.net_sim.proofs.lemmas.{coupled}
+use Rattle.world_keeps_lives.proofs.Common.{Contains, drop-append_seam, Host, same_host, same_host-refl, Crossing, HostMessage, data_bits, header_bits, is_receive_socket, MayGo, data_of, is_link, is_open, is_receiving, receives_on, PairState, Entry, Notice, both, what_goes, pair, pair_with, message_for, next_in, next_is, next_pair, Told, HaveAddresses, Agrees, Asked, Crossed, IsNext, IsStory, Moment, places, program, events_of, crossings_of, host_in, kept_by, notices_by, AreOurs, Network, Happened, crossed_only, mixed_kept, same_Some}
+use Rattle.std.proofs.Common.{◌≡◌, ◌&&◌, ◌||◌, ◌≤◌, inl, inr, not, Option, None, ℕ, ◌+◌, ◌*◌, ◌==◌, Bool, true, false, if◌then◌else◌, List, [], ◌∷◌, ◌++◌, take, drop, length, Some, refl, ap, sym, subst, ◌∙◌, arith, eq-eqb}
+use Rattle.host_pairs.specs.Parcels.{Parcel, may_send_on, next_of, link_of}
+use Rattle.host_keeps_streams.proofs.lemmas.{find_passes, link_is}
+use Rattle.net_sim.specs.Book.{Kept, all_told, asked, book_told, crossed}
+use Rattle.promise.specs.Formed.{HasCrossed, coming, data_by, going, request}
+use Rattle.promise.specs.Notices.{AreTold, FormedNotices, HasLink, data_told, MayBeUntold, TellsOf, is_data}
+use Rattle.net_sim.proofs.lemmas.{data_away, story_agrees, coupled}
 use Rattle.world_keeps_lives.specs.Told.{AreToldAmong, MayBeUntoldAmong, ToldAmong, crossed_at, has_stranger, is_of_stranger, told_among}
-use Rattle.world_keeps_pairing.proofs.lemmas.{mail_below}
+use Rattle.world_keeps_pairing.proofs.lemmas.{mail_below, some_is}
 use Rattle.std.proofs.Math.Bool.{and-false}
 use Rattle.std.proofs.lemmas.Bool.{eqb-true, or_parts, or_right}
-use Rattle.std.proofs.lemmas.Option.{same_Some}
 use Rattle.interface.specs.Mailboxes as mail
 use Rattle.interface.specs.declared.crossing.Crossing.TheVariants as crossing
 use Rattle.host_pairs.specs.Parcels as parcel
-use Rattle.host_pairs.specs.Parcels.{link_of}
 use Rattle.host_pairs.specs.declared.notice.Notice.TheVariants as notice
 use Rattle.host_keeps_streams.proofs.lemmas.Senders as senders
-use Rattle.promise.specs.Notices.{MayBeUntold, TellsOf, is_data}
 use Rattle.promise.specs.Notices as notices
 use Rattle.world_keeps_lives.proofs.Desks.{IsAnOpen, open_mine, open_parts}
 use Rattle.world_keeps_lives.proofs.Walk.Rules.{Each, each_in, each_of, each_weaker, found_in}
 use Rattle.world_keeps_lives.proofs.Grounds.{Grounded, IsAnswered, IsAsked, grounds}
 use Rattle.world_keeps_lives.proofs.DataTold.{IsNoData, Reports, TakesIf, answer_told, asking_told, bytes_told, control_told, message_takes, offer_told}
 use Rattle.world_keeps_lives.proofs.Firsts.Books.{some_link}
-use Rattle.host_keeps_streams.proofs.lemmas.{link_is}
-use Rattle.world_keeps_pairing.proofs.lemmas.{some_is}
 
 -- ---- lists of notices
 

@@ -1,20 +1,21 @@
 -- The notices of a small book, and wrong ones.
-use Rattle.world_keeps_lives.proofs.Common.{◌≡◌, inl, inr, ℕ, Bool, true, false, List, [], ◌∷◌, drop, Option, Some, refl, ap, sym, subst, ◌∙◌, arith, Contains, Flow, Crossing, HostMessage, Legal, Order, Notice, first, second, Told, CrossedAt, going, AreTold, FormedNotices, HasLink, data_told, control_flow, kept_in, eight, eight_zeros, eight_sent, rts, str, sent_log, stray_log}
+use Rattle.world_keeps_lives.proofs.Common.{◌≡◌, inl, inr, ℕ, Bool, true, false, List, [], ◌∷◌, drop, Option, Some, refl, ap, sym, subst, ◌∙◌, arith, Contains, Flow, Crossing, HostMessage, Notice, Told, CrossedAt, going, control_flow, kept_in}
+use Rattle.host_pairs.specs.Control.{Legal, Order, orders_of}
+use Rattle.sockets.specs.Worked.{first, second, third}
+use Rattle.promise.specs.Notices.{AreTold, FormedNotices, HasLink, data_told, Tells}
+use Rattle.net_sim.specs.Worked.{eight, eight_zeros}
+use Rattle.net_sim.specs.WorkedMoments.{eight_sent, rts, str, sent_moments}
+use Rattle.world_keeps_lives.specs.WorkedFormed.{sent_log, stray_log, arrived_told, sent_told, stray, stray_arrived, stray_sent, untaken_log}
 use Rattle.bit_messages.specs.Octets.{octets_of}
 use Rattle.interface.specs.declared.crossing.Crossing.TheVariants as crossing
 use Rattle.ncp_control.specs.Packing.{packed_count}
 use Rattle.ncp_control.specs.Reading.{command_of, read_of}
 use Rattle.ncp_control.specs.declared.command.Command.TheVariants as command
-use Rattle.host_pairs.specs.Control.{orders_of}
 use Rattle.host_pairs.specs.declared.notice.Notice.TheVariants as notice
 use Rattle.sockets.specs.Accepting.{accepted}
 use Rattle.sockets.specs.Requests.{refusal, served, served_notices}
 use Rattle.sockets.specs.Sending.{next_out, offered}
-use Rattle.sockets.specs.Worked.{third}
-use Rattle.promise.specs.Notices.{Tells}
-use Rattle.net_sim.specs.WorkedMoments.{sent_moments}
 use Rattle.net_sim.specs.WorkedResets.{rrp, rst}
-use Rattle.world_keeps_lives.specs.WorkedFormed.{arrived_told, sent_told, stray, stray_arrived, stray_sent, untaken_log}
 use Rattle.world_keeps_lives.proofs.Walk.Rules.{Each, each_in}
 use Rattle.world_keeps_lives.proofs.FormedRows.{rts_holds, rts_read, str_holds}
 use Rattle.world_keeps_lives.proofs.Firsts.Books.{same_out}

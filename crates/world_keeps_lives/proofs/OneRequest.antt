@@ -1,15 +1,12 @@
 -- A message of a host's program has one RTS of two sockets at most, where it goes out and where it comes in.
-use Rattle.world_keeps_lives.proofs.Common.{◌≡◌, inl, inr, ℕ, ◌<◌, ◌==◌, Bool, true, false, if◌then◌else◌, zero, suc, List, [], ◌∷◌, map, take, drop, length, slice_index_or, Some, refl, ap, sym, subst, ◌∙◌, arith, Contains, take-append-drop, Contains-append_left, same_flow, Host, same_host, Flow, Crossing, HostMessage, same_flow-true, Command, MayGo, Legal, Order, orders_of, PairState, Parcel, next_of, what_goes, offer_read, IsReadBack, pair_with, message_for, next_is, next_pair, HaveAddresses, Agrees, Asked, Crossed, IsNext, IsStory, Moment, events_of, program, crossings_of, Coupled, data_away, story_agrees, CrossedAt, coming, going, pair, programs_ranged}
-use Rattle.reset_law.specs.Network.{AreOurs, Network}
+use Rattle.world_keeps_lives.proofs.Common.{◌≡◌, inl, inr, ℕ, ◌<◌, ◌==◌, Bool, true, false, if◌then◌else◌, zero, suc, List, [], ◌∷◌, map, take, drop, length, slice_index_or, Some, refl, ap, sym, subst, ◌∙◌, arith, Contains, take-append-drop, Contains-append_left, same_flow, Host, same_host, Flow, Crossing, HostMessage, same_flow-true, Command, MayGo, Legal, Order, orders_of, PairState, what_goes, offer_read, IsReadBack, pair_with, message_for, next_is, next_pair, HaveAddresses, Agrees, Asked, Crossed, IsNext, IsStory, Moment, events_of, program, crossings_of, CrossedAt, coming, going, pair, AreOurs, Network, Happened}
+use Rattle.host_pairs.specs.Parcels.{Parcel, next_of, link_of}
+use Rattle.net_sim.proofs.lemmas.{Coupled, data_away, story_agrees, cleared_waits, fetched_waits, coupled}
+use Rattle.world_keeps_pairing.proofs.lemmas.{programs_ranged, queued_once, served_in}
 use Rattle.interface.specs.Mailboxes as mail
 use Rattle.interface.specs.declared.crossing.Crossing.TheVariants as crossing
 use Rattle.ncp_control.specs.declared.command.Command.TheVariants as command
 use Rattle.host_pairs.specs.Parcels as parcel
-use Rattle.host_pairs.specs.Parcels.{link_of}
-use Rattle.net_sim.proofs.lemmas.{cleared_waits, fetched_waits}
-use Rattle.net_sim.proofs.lemmas.{coupled}
-use Rattle.net_sim.specs.Mixed.{Happened}
-use Rattle.world_keeps_pairing.proofs.lemmas.{queued_once, served_in}
 use Rattle.world_keeps_lives.proofs.Facts.{no}
 use Rattle.world_keeps_lives.proofs.Walk.Rules.{each_in}
 

@@ -1,8 +1,9 @@
 -- The own end on a socket, over all peers of a host.
-use Rattle.world_keeps_lives.proofs.Common.{◌≡◌, ℕ, ◌<◌, ◌||◌, Bool, true, false, List, [], ◌∷◌, find, Option, Some, is_some, refl, ap, sym, subst, ◌∙◌, arith, Host, same_host, same_host-refl, listens_on, is_mine_on, Entry, NcpState, owner_of, pair_with, AreInOrder, is_used, Peer, Kept, IsOwned, mine_on}
-use Rattle.std.proofs.Common.{None}
-use Rattle.interface.specs.Host.{address_octet}
-use Rattle.sockets.specs.Peers.{StandAbove}
+use Rattle.world_keeps_lives.proofs.Common.{same_host-refl, listens_on, is_mine_on, Entry, NcpState, owner_of, pair_with, Peer, Kept, IsOwned, mine_on}
+use Rattle.std.proofs.Common.{◌≡◌, ℕ, ◌<◌, ◌||◌, Bool, true, false, List, [], ◌∷◌, find, Option, Some, is_some, refl, ap, sym, subst, ◌∙◌, arith, None}
+use Rattle.interface.specs.Host.{Host, same_host, address_octet}
+use Rattle.sockets.specs.Peers.{AreInOrder, StandAbove}
+use Rattle.sockets.specs.Requests.{is_used}
 use Rattle.sockets.proofs.lemmas.{same_octet}
 use Rattle.world_keeps_lives.proofs.Ends.{mine_one}
 use Rattle.world_keeps_lives.proofs.Desks.{clash}

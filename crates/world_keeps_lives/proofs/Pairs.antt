@@ -1,12 +1,10 @@
 -- A life and what was handed over in it, at one place of their two lists, from one moment to the next.
-use Rattle.world_keeps_lives.proofs.Common.{◌≡◌, ◌⊎◌, inl, inr, ℕ, suc, ◌+◌, ◌<◌, ◌==◌, ◌&&◌, Bool, true, false, not, if◌then◌else◌, List, [], ◌∷◌, ◌++◌, length, refl, ap, sym, ◌∙◌, arith, append_assoc, length-append, Contains, Host, same_host, Crossing, Notice, both, not_is, Request, Kept, all_told, book_told, carried, changed_when, handed_to, handed_told, life_ended, lives_asked, lives_at, lives_between, lives_crossed, lives_on, lives_told, lives_with, where_it, AreHanded, AreTwo, IsPrefix, own_request, sends, Asked, Crossed, Moment, host_in, kept_by, notices_by, Life}
-use Rattle.std.proofs.Common.{append-nil}
+use Rattle.world_keeps_lives.proofs.Common.{append_assoc, length-append, Contains, Host, same_host, Crossing, Notice, both, not_is, Request, AreHanded, AreTwo, IsPrefix, own_request, sends, Asked, Crossed, Moment, host_in, kept_by, notices_by, Life, beside_among, is_among, lives_among, crossed_only, mixed_kept}
+use Rattle.std.proofs.Common.{◌≡◌, ◌⊎◌, inl, inr, ℕ, suc, ◌+◌, ◌<◌, ◌==◌, ◌&&◌, Bool, true, false, not, if◌then◌else◌, List, [], ◌∷◌, ◌++◌, length, refl, ap, sym, ◌∙◌, arith, append-nil}
+use Rattle.net_sim.specs.Book.{Kept, all_told, book_told, carried, changed_when, handed_to, handed_told, life_ended, lives_asked, lives_at, lives_between, lives_crossed, lives_on, lives_told, lives_with, where_it, granted, handed_asked, returned}
 use Rattle.interface.specs.declared.crossing.Crossing.TheVariants as crossing
 use Rattle.host_pairs.specs.declared.notice.Notice.TheVariants as notice
 use Rattle.sockets.specs.declared.request.Request.TheVariants as request
-use Rattle.net_sim.specs.Among.{beside_among, is_among, lives_among}
-use Rattle.net_sim.specs.Book.{granted, handed_asked, returned}
-use Rattle.net_sim.specs.Mixed.{crossed_only, mixed_kept}
 
 -- ---- prefixes
 

@@ -1,8 +1,11 @@
 -- Ends, lives and programs, computed.
-use Rattle.world_keeps_lives.proofs.Common.{◌≡◌, ℕ, true, false, List, [], ◌∷◌, find, Option, Some, None, refl, ap, ◌∙◌, arith, Host, same_host, with_more_bits, asked_on_link, receiving_end, sending_end, asked_at, Entry, opening_state, pair_with, Peer, first, second, carried, life_ended, new_life, EachOn, HasOpenEnd, IsBounded, IsFreeSocket, IsFresh, IsLifeOf, IsOwned, IsSafe, IsSteady, NoneOf, mine_on}
+use Rattle.world_keeps_lives.proofs.Common.{◌≡◌, ℕ, true, false, List, [], ◌∷◌, find, Option, Some, None, refl, ap, ◌∙◌, arith, Host, same_host, asked_at, Entry, Peer, first, second, EachOn, HasOpenEnd, IsBounded, IsFreeSocket, IsFresh, IsLifeOf, IsOwned, IsSafe, IsSteady, NoneOf, mine_on}
+use Rattle.host_pairs.specs.Asked.{with_more_bits}
+use Rattle.host_pairs.specs.Commands.{asked_on_link}
+use Rattle.host_pairs.specs.Entries.{receiving_end, sending_end}
+use Rattle.sockets.specs.Pairs.{opening_state, pair_with, pair_in}
+use Rattle.net_sim.specs.Book.{carried, life_ended, new_life, granted, returned, opening_kept}
 use Rattle.host_pairs.specs.Commands as commands
-use Rattle.sockets.specs.Pairs.{pair_in}
-use Rattle.net_sim.specs.Book.{granted, returned, opening_kept}
 use Rattle.world_keeps_lives.specs.Worked.{worked_end, with_one}
 
 pub row_early : IsFresh (with_more_bits (true ∷ []) (sending_end 33 16 8)) → ⊥

@@ -1,24 +1,18 @@
 -- One socket of a host that runs the program, whatever strangers do.
-use Rattle.world_keeps_lives.proofs.Common.{◌≡◌, ℕ, Bool, true, false, if◌then◌else◌, List, [], ◌∷◌, Option, Some, None, refl, sym, subst, ◌∙◌, Host, same_host, Flow, Answer, HostMessage, same_host-true, PairState, Parcel, accepted, NcpState, opening_state, pair_with, AreInOrder, served, next_in, offered_by, Peer, Request, Kept, all_told, asked, crossed, lives_on, HaveAddresses, Asked, Crossed, Moment, places, program, crossings_of, host_in, kept_by, notices_by}
-use Rattle.sockets.proofs.lemmas.{answer_leaves, message_leaves, offer_leaves}
-use Rattle.host_keeps_ranges.proofs.lemmas.{pair_range}
+use Rattle.world_keeps_lives.proofs.Common.{◌≡◌, ℕ, Bool, true, false, if◌then◌else◌, List, [], ◌∷◌, Option, Some, None, refl, sym, subst, ◌∙◌, Host, same_host, Flow, Answer, HostMessage, same_host-true, PairState, Parcel, accepted, NcpState, opening_state, pair_with, AreInOrder, Peer, Request, HaveAddresses, host_in, kept_by, notices_by, answer_leaves, message_leaves, offer_leaves, Happened, crossed_only, mixed_kept, Network, mail_below, HasSome}
+use Rattle.sockets.specs.Requests.{served, refusal, served_notices}
+use Rattle.sockets.specs.Sending.{next_in, offered_by, offered}
+use Rattle.net_sim.specs.Book.{Kept, all_told, asked, crossed, lives_on, opening_kept}
+use Rattle.net_sim.specs.Story.{Asked, Crossed, Moment, places, program, program_after}
+use Rattle.net_sim.specs.Timeline.{crossings_of, Happens, IsAsked}
+use Rattle.host_keeps_ranges.proofs.lemmas.{pair_range, answer_ranged, message_ranged, offer_ranged, request_ranged}
 use Rattle.net_sim.proofs.lemmas.{coupled, same_host-sym}
-use Rattle.net_sim.specs.Mixed.{Happened, crossed_only, mixed_kept}
-use Rattle.reset_law.specs.Network.{Network}
-use Rattle.world_keeps_pairing.proofs.lemmas.{mail_below}
-use Rattle.world_keeps_lives.specs.SomeEnd.{HasSome}
 use Rattle.interface.specs.Mailboxes as mail
 use Rattle.interface.specs.declared.crossing.Crossing.TheVariants as crossing
 use Rattle.interface.specs.declared.crossing.Inbound.TheVariants as inbound
-use Rattle.sockets.specs.Requests.{refusal, served_notices}
-use Rattle.sockets.specs.Sending.{offered}
 use Rattle.host_keeps_ranges.specs.Ranges.{IsRanged}
-use Rattle.host_keeps_ranges.proofs.lemmas.{answer_ranged, message_ranged, offer_ranged, request_ranged}
 use Rattle.host_keeps_pairing.specs.Hearing.{after_request}
 use Rattle.host_keeps_pairing.proofs.lemmas.{answer_keeps, offer_says, opening_has, request_keeps}
-use Rattle.net_sim.specs.Book.{opening_kept}
-use Rattle.net_sim.specs.Story.{program_after}
-use Rattle.net_sim.specs.Timeline.{Happens, IsAsked}
 use Rattle.world_keeps_lives.proofs.AnyPeer.{any_message}
 use Rattle.world_keeps_lives.proofs.Asks.{request_holds}
 use Rattle.world_keeps_lives.proofs.Books.{each_ending}

@@ -1,9 +1,6 @@
 -- Where a user is notified of an opening, one of its two requests has just crossed, unless a life of its own request is there.
-use Rattle.world_keeps_lives.proofs.Common.{◌≡◌, ◌⊎◌, inl, inr, ℕ, Bool, true, false, List, Some, is_some, refl, ap, sym, subst, ◌∙◌, Contains, Host, HostMessage, Command, Order, has_cls, is_open, Parcel, Entry, Notice, pair_with, HaveAddresses, Asked, Crossed, IsNext, Moment, places, program, crossings_of, host_in, notices_by, Life}
-use Rattle.std.proofs.lemmas.Option.{same_Some}
+use Rattle.world_keeps_lives.proofs.Common.{◌≡◌, ◌⊎◌, inl, inr, ℕ, Bool, true, false, List, Some, is_some, refl, ap, sym, subst, ◌∙◌, Contains, Host, HostMessage, Command, Order, has_cls, is_open, Parcel, Entry, Notice, pair_with, HaveAddresses, Asked, Crossed, IsNext, Moment, places, program, crossings_of, host_in, notices_by, Life, same_Some, AreOurs, Network, Happened}
 use Rattle.interface.specs.Mailboxes as mail
-use Rattle.reset_law.specs.Network.{AreOurs, Network}
-use Rattle.net_sim.specs.Mixed.{Happened}
 use Rattle.world_keeps_pairing.proofs.lemmas.{queued_commands}
 use Rattle.interface.specs.declared.crossing.Crossing.TheVariants as crossing
 use Rattle.host_pairs.specs.Parcels as parcel

@@ -1,9 +1,10 @@
 -- Each thing that is done to the connections of a pair, at one socket of the host.
-use Rattle.world_keeps_lives.proofs.Common.{◌≡◌, ◌⊎◌, inl, inr, ℕ, ◌==◌, ◌&&◌, ◌||◌, Bool, true, false, not, if◌then◌else◌, List, [], ◌∷◌, ◌++◌, length, filter, find, Option, Some, None, is_some, refl, ap, sym, subst, ◌∙◌, eq-eqb, arith, eqb-true, flat_map, Host, same_host, same_host-refl, is_receive_socket, is_send_socket, Allocation, Command, called_off, changed_first, closed_by_partner, closed_when, ending, entry_at, has_cls, is_at, is_ending, is_mine_on, is_over, is_receiving, must_close, opening_notices, opening_by, answered_on, changed, cls_sent, DeskState, listener_on, listens_on, command_queued, settled, swept, desk_told, Entry, Listener, Notice, both, Life, Kept, all_told, lives_between, new_life, AddsUp, AreRefusing, EachIn, IsFresh, IsLifeOf, IsSafe, NoneOf, at_socket, has_opened, mine_on}
-use Rattle.host_pairs.specs.Commands.{entry_joined}
+use Rattle.world_keeps_lives.proofs.Common.{◌≡◌, ◌⊎◌, inl, inr, ℕ, ◌==◌, ◌&&◌, ◌||◌, Bool, true, false, not, if◌then◌else◌, List, [], ◌∷◌, ◌++◌, length, filter, find, Option, Some, None, is_some, refl, ap, sym, subst, ◌∙◌, eq-eqb, arith, eqb-true, flat_map, Host, same_host, same_host-refl, is_receive_socket, is_send_socket, Allocation, Command, cls_sent, DeskState, listener_on, listens_on, command_queued, settled, swept, desk_told, Entry, Listener, Notice, both, Life, AddsUp, AreRefusing, EachIn, IsFresh, IsLifeOf, IsSafe, NoneOf, at_socket, has_opened, mine_on}
+use Rattle.host_pairs.specs.Entries.{called_off, changed_first, closed_by_partner, closed_when, ending, entry_at, has_cls, is_at, is_ending, is_mine_on, is_over, is_receiving, must_close, opening_notices, opening_by, is_answered, is_drained, is_due}
+use Rattle.host_pairs.specs.Commands.{answered_on, changed, entry_joined}
+use Rattle.net_sim.specs.Book.{Kept, all_told, lives_between, new_life}
 use Rattle.std.proofs.lemmas.List.{append-nil, nil_from_length}
 use Rattle.ncp_control.specs.Allocation as counters
-use Rattle.host_pairs.specs.Entries.{is_answered, is_drained, is_due}
 use Rattle.host_pairs.specs.declared.entry.Closing.TheVariants as closing
 use Rattle.host_pairs.specs.declared.notice.Notice.TheVariants as notice
 use Rattle.host_keeps_streams.proofs.lemmas.{odd_is, due_open, due_cls}

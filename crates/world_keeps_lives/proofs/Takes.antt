@@ -1,13 +1,13 @@
 -- What a command or data of the peer does, at one socket of the host.
-use Rattle.world_keeps_lives.proofs.Common.{◌≡◌, ℕ, ◌≤◌, ◌<◌, ◌==◌, ◌&&◌, Bool, true, false, not, nat_lt, if◌then◌else◌, List, [], ◌∷◌, find, length, Option, Some, None, is_some, refl, ap, sym, subst, ◌∙◌, arith, eqb-true, ltb-true, length-append, list_any, Host, same_host, spelling, data_bits, header_of, is_receive_socket, is_send_socket, Allocation, Command, DataHeader, answered_on, asked_on_link, asked_with_size, at_end, changed, cls_taken_by, gvb_taken, interrupted, matched_once, ret_taken, rts_heard, rts_taken, rts_taken_by, str_heard, str_linked, str_taken_by, desk_taken, ERRONEOUS, NOT_CONNECTED, NO_SOCKET, error, arrived, arrived_if, data_found, data_of, data_taken, is_acceptable, spent, text_faulted, DeskState, listener_on, settled, swept, desk_told, closed_by_partner, entry_at, free_link, is_at, is_ending, is_link, is_mine_on, is_open, is_receiving, receiving_end, receives_on, refused_end, sending_end, sends_on, Entry, Listener, both, not_is, Life, Kept, all_told, carried, lives_at, where_it, receives, sends, AddsUp, EachOn, IsLifeOf, IsSafe, at_socket, has_opened}
-use Rattle.std.proofs.Common.{nat_le}
-use Rattle.std.proofs.lemmas.Bool.{leb-true}
+use Rattle.world_keeps_lives.proofs.Common.{length-append, list_any, Host, same_host, spelling, data_bits, header_of, is_receive_socket, is_send_socket, Allocation, Command, DataHeader, ERRONEOUS, NOT_CONNECTED, NO_SOCKET, error, DeskState, listener_on, settled, swept, desk_told, Entry, Listener, both, not_is, Life, Kept, all_told, carried, lives_at, where_it, receives, sends, AddsUp, EachOn, IsLifeOf, IsSafe, at_socket, has_opened}
+use Rattle.std.proofs.Common.{◌≡◌, ℕ, ◌≤◌, ◌<◌, ◌==◌, ◌&&◌, Bool, true, false, not, nat_lt, if◌then◌else◌, List, [], ◌∷◌, find, length, Option, Some, None, is_some, refl, ap, sym, subst, ◌∙◌, arith, nat_le}
+use Rattle.std.proofs.lemmas.Bool.{eqb-true, ltb-true, leb-true}
+use Rattle.host_pairs.specs.Commands.{answered_on, asked_on_link, asked_with_size, at_end, changed, cls_taken_by, gvb_taken, interrupted, matched_once, ret_taken, rts_heard, rts_taken, rts_taken_by, str_heard, str_linked, str_taken_by, desk_taken, found_in, returned}
+use Rattle.host_pairs.specs.Data.{arrived, arrived_if, data_found, data_of, data_taken, is_acceptable, spent, text_faulted, is_covered}
+use Rattle.host_pairs.specs.Entries.{closed_by_partner, entry_at, free_link, is_at, is_ending, is_link, is_mine_on, is_open, is_receiving, receiving_end, receives_on, refused_end, sending_end, sends_on, is_size}
 use Rattle.ncp_control.specs.Allocation as counters
 use Rattle.ncp_control.specs.declared.command.Command.TheVariants as command
 use Rattle.host_pairs.specs.Commands as commands
-use Rattle.host_pairs.specs.Commands.{found_in, returned}
-use Rattle.host_pairs.specs.Data.{is_covered}
-use Rattle.host_pairs.specs.Entries.{is_size}
 use Rattle.host_pairs.specs.declared.notice.Notice.TheVariants as notice
 use Rattle.net_sim.specs.Book as book
 use Rattle.world_keeps_lives.proofs.Ends.{IsRefusing, refusing_found, split}

@@ -1,9 +1,12 @@
 -- What a pair does with what comes in of its peer, at one socket of the host.
-use Rattle.world_keeps_lives.proofs.Common.{◌≡◌, ℕ, ◌==◌, ◌||◌, Bool, true, false, not, if◌then◌else◌, List, [], ◌∷◌, ◌++◌, map, refl, ap, sym, subst, ◌∙◌, Host, same_host, Answer, same_host-refl, Command, desk_taken, Legal, Order, Wrong, error, orders_of, data_taken, DeskState, desk_of, listens_on, command_queued, settled, is_ready, TurnState, answered_turn, closed, command_taken, failed, failed_by, freed, if_ready, is_gone, message_taken, order_taken, orders_taken, reply_notices, reset_notices, settled_turn, with_desk, closed_when, must_close, Entry, Listener, both, Notice, Phase, Life, Kept, all_told, lives_with, AreRefusing, IsLifeOf, NoneOf, at_socket, mine_on}
+use Rattle.world_keeps_lives.proofs.Common.{◌≡◌, ℕ, ◌==◌, ◌||◌, Bool, true, false, not, if◌then◌else◌, List, [], ◌∷◌, ◌++◌, map, refl, ap, sym, subst, ◌∙◌, Host, same_host, Answer, same_host-refl, Command, Legal, Order, Wrong, error, orders_of, data_taken, DeskState, desk_of, listens_on, command_queued, settled, Entry, Listener, both, Notice, Phase, Life, AreRefusing, IsLifeOf, NoneOf, at_socket, mine_on}
+use Rattle.host_pairs.specs.Commands.{desk_taken}
+use Rattle.ncp_control.specs.Phases.{is_ready, taken_phase}
+use Rattle.host_pairs.specs.Turn.{TurnState, answered_turn, closed, command_taken, failed, failed_by, freed, if_ready, is_gone, message_taken, order_taken, orders_taken, reply_notices, reset_notices, settled_turn, with_desk, reply_taken, reset_taken}
+use Rattle.host_pairs.specs.Entries.{closed_when, must_close}
+use Rattle.net_sim.specs.Book.{Kept, all_told, lives_with}
 use Rattle.interface.specs.declared.crossing.Answer.TheVariants as answer
 use Rattle.ncp_control.specs.declared.command.Command.TheVariants as command
-use Rattle.ncp_control.specs.Phases.{taken_phase}
-use Rattle.host_pairs.specs.Turn.{reply_taken, reset_taken}
 use Rattle.host_pairs.specs.declared.notice.Notice.TheVariants as notice
 use Rattle.ncp_control.specs.declared.phase.Phase.TheVariants as phase
 use Rattle.host_keeps_pairing.proofs.lemmas.{reply_idle, rfnm_idle}

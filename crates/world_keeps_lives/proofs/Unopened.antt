@@ -1,10 +1,6 @@
 -- No end opens of which a CLS was queued or taken: so no life begins then.
-use Rattle.world_keeps_lives.proofs.Common.{◌≡◌, ◌⊎◌, inl, inr, ℕ, Bool, List, ◌∷◌, None, refl, ap, sym, subst, ◌∙◌, Contains, Host, HostMessage, Command, Order, has_cls, is_ending, Parcel, Entry, Notice, pair_with, HaveAddresses, Asked, Crossed, IsNext, IsStory, Moment, places, program, crossings_of, host_in, notices_by, programs_ranged}
-use Rattle.reset_law.specs.Network.{Network}
-use Rattle.host_keeps_ranges.proofs.lemmas.{pair_range}
-use Rattle.net_sim.specs.Mixed.{Happened}
-use Rattle.world_keeps_pairing.proofs.lemmas.{served_in}
-use Rattle.std.proofs.Common.{true, false}
+use Rattle.world_keeps_lives.proofs.Common.{Contains, Host, HostMessage, Command, Order, has_cls, is_ending, Parcel, Entry, Notice, pair_with, HaveAddresses, Asked, Crossed, IsNext, IsStory, Moment, places, program, crossings_of, host_in, notices_by, programs_ranged, served_in, Network, pair_range, Happened}
+use Rattle.std.proofs.Common.{◌≡◌, ◌⊎◌, inl, inr, ℕ, Bool, List, ◌∷◌, None, refl, ap, sym, subst, ◌∙◌, true, false}
 use Rattle.std.proofs.lemmas.Bool.{or_right}
 use Rattle.interface.specs.Mailboxes as mail
 use Rattle.interface.specs.declared.crossing.Crossing.TheVariants as crossing

@@ -1,18 +1,12 @@
 -- The messages of each life are the first on its link, over all moments.
-use Rattle.world_keeps_lives.proofs.Common.{◌≡◌, ◌⊎◌, ◌<◌, inl, inr, ℕ, ◌*◌, ◌==◌, Bool, true, false, if◌then◌else◌, List, [], ◌∷◌, ◌++◌, take, drop, length, Option, Some, None, is_some, refl, ap, sym, subst, ◌∙◌, eq-eqb, Contains, eqb-true, drop-append_seam, same_flow, Host, same_host, Flow, Crossing, HostMessage, same_flow-refl, same_flow-true, same_host-refl, data_bits, header_bits, is_receive_socket, MayGo, data_of, is_link, is_open, is_receiving, receives_on, sends_on, PairState, Parcel, may_send_on, next_of, Entry, Notice, both, what_goes, find_passes, pair_with, message_for, next_in, next_is, next_pair, all_told, carried, lives_at, where_it, data_by, data_in, text_of, receives, Asked, Crossed, IsNext, Moment, places, program, crossings_of, host_in, kept_by, notices_by, Life, begun, HasOpenEnd, AreRefusing, has_cls, is_mine_on, mine_on, not, not_is, same_host-true, ◌&&◌}
-use Rattle.reset_law.specs.Network.{AreOurs, Network}
-use Rattle.net_sim.specs.Among.{lives_among}
-use Rattle.net_sim.specs.Mixed.{crossed_only, mixed_kept}
-use Rattle.net_sim.proofs.lemmas.{coupled}
-use Rattle.world_keeps_pairing.proofs.lemmas.{mail_below}
-use Rattle.std.proofs.lemmas.Option.{same_Some}
+use Rattle.world_keeps_lives.proofs.Common.{◌≡◌, ◌⊎◌, ◌<◌, inl, inr, ℕ, ◌*◌, ◌==◌, Bool, true, false, if◌then◌else◌, List, [], ◌∷◌, ◌++◌, take, drop, length, Option, Some, None, is_some, refl, ap, sym, subst, ◌∙◌, eq-eqb, not, ◌&&◌, Contains, eqb-true, drop-append_seam, same_flow, Host, same_host, Flow, Crossing, HostMessage, same_flow-refl, same_flow-true, same_host-refl, same_host-true, data_bits, header_bits, is_receive_socket, MayGo, data_of, is_link, is_open, is_receiving, receives_on, sends_on, has_cls, is_mine_on, PairState, Entry, Notice, both, what_goes, not_is, pair_with, message_for, next_in, next_is, next_pair, all_told, carried, lives_at, where_it, receives, Asked, Crossed, IsNext, Moment, places, program, Follows, crossings_of, host_in, kept_by, notices_by, Life, begun, HasOpenEnd, AreRefusing, mine_on, AreOurs, Network, lives_among, crossed_only, mixed_kept, coupled, mail_below, same_Some}
+use Rattle.host_pairs.specs.Parcels.{Parcel, may_send_on, next_of, link_of, link_for}
+use Rattle.host_keeps_streams.proofs.lemmas.{find_passes}
+use Rattle.promise.specs.Formed.{data_by, data_in, text_of, flow_of}
 use Rattle.interface.specs.declared.crossing.Crossing.TheVariants as crossing
 use Rattle.host_pairs.specs.Parcels as parcel
-use Rattle.host_pairs.specs.Parcels.{link_of, link_for}
 use Rattle.host_pairs.specs.declared.notice.Notice.TheVariants as notice
 use Rattle.host_keeps_streams.proofs.lemmas.Senders as senders
-use Rattle.promise.specs.Formed.{flow_of}
-use Rattle.net_sim.specs.Story.{Follows}
 use Rattle.world_keeps_lives.proofs.Facts.{no}
 use Rattle.world_keeps_lives.proofs.Among.{Leaves, among_where, where_none}
 use Rattle.world_keeps_lives.proofs.Calms.{Calm, calm_moment, calm_none}

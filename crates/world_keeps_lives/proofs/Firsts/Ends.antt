@@ -1,13 +1,13 @@
 -- The ends of lives that aren't over, each on its link. What is asked of two programs together is `Together`.
-use Rattle.world_keeps_lives.proofs.Common.{◌≡◌, ◌⊎◌, inr, ℕ, ◌<◌, ◌≤◌, ◌==◌, Bool, true, false, if◌then◌else◌, List, [], ◌∷◌, map, drop, length, Some, refl, ap, sym, subst, ◌∙◌, arith, eq-eqb, Contains, max-le, eqb-true, Host, Flow, Crossing, HostMessage, IsCommand, is_receive_socket, Command, Legal, Order, orders_of, is_link, is_mine_on, is_open, is_receiving, sends_on, Parcel, Entry, both, text_good, AreOrders, IsOrder, pair_with, AreInOrder, message_for, next_in, Peer, HaveAddresses, CrossedAt, coming, going, request, texts_for, Name, before, own_request, receives, Asked, Crossed, IsNext, Moment, places, program, crossings_of, notices_by, Life, begun, HasOpenEnd}
-use Rattle.std.proofs.lemmas.Option.{same_Some}
+use Rattle.world_keeps_lives.proofs.Common.{Contains, max-le, eqb-true, Host, Flow, Crossing, HostMessage, IsCommand, Command, Legal, Order, orders_of, is_link, is_mine_on, is_open, is_receiving, sends_on, Parcel, Entry, both, text_good, AreOrders, IsOrder, pair_with, AreInOrder, message_for, next_in, Peer, HaveAddresses, Name, before, own_request, receives, Asked, Crossed, IsNext, Moment, places, program, crossings_of, notices_by, Life, begun, HasOpenEnd, same_Some, AreOurs, Network, Happened, mixed_kept, among, in_book}
+use Rattle.std.proofs.Common.{◌≡◌, ◌⊎◌, inr, ℕ, ◌<◌, ◌≤◌, ◌==◌, Bool, true, false, if◌then◌else◌, List, [], ◌∷◌, map, drop, length, Some, refl, ap, sym, subst, ◌∙◌, arith, eq-eqb}
+use Rattle.ncp_control.specs.Numbers.{is_receive_socket, is_connection_link}
+use Rattle.promise.specs.Formed.{CrossedAt, coming, going, request, texts_for, flow_of}
 use Rattle.interface.specs.Mailboxes as mail
 use Rattle.interface.specs.declared.crossing.Crossing.TheVariants as crossing
-use Rattle.ncp_control.specs.Numbers.{is_connection_link}
 use Rattle.ncp_control.specs.declared.command.Command.TheVariants as command
 use Rattle.host_pairs.specs.Parcels as parcel
 use Rattle.host_pairs.specs.declared.notice.Notice.TheVariants as notice
-use Rattle.promise.specs.Formed.{flow_of}
 use Rattle.world_keeps_lives.proofs.Facts.{no, no_place}
 use Rattle.world_keeps_lives.proofs.Desks.{open_mine}
 use Rattle.world_keeps_lives.proofs.Firsts.Lists.{Pairwise, each_all, life_of}
@@ -18,10 +18,6 @@ use Rattle.world_keeps_lives.proofs.Firsts.Linked.{HasRequests, IsFirst, IsSentI
 use Rattle.world_keeps_lives.proofs.Walk.Rules.{Begins, Each, Goes, Hears, MayTell, Rules, each_in, each_of}
 use Rattle.world_keeps_lives.proofs.Stamps.{Due, open_back}
 use Rattle.world_keeps_lives.proofs.Firsts.Texts.{IsFull}
-use Rattle.reset_law.specs.Network.{AreOurs, Network}
-use Rattle.net_sim.specs.Mixed.{Happened, mixed_kept}
-use Rattle.world_keeps_pairing.specs.Laws.Worlds.{among}
-use Rattle.world_keeps_pairing.proofs.lemmas.{in_book}
 
 -- what happened in a network, whatever its strangers did, where what crossed is a run of the mailboxes
 abbrev pub Lawful : Network → List Moment → Type 0

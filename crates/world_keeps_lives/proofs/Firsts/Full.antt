@@ -1,16 +1,10 @@
 -- A sending life that isn't over counts all that went out on its link since it began; and each life was there since
 -- then.
-use Rattle.world_keeps_lives.proofs.Common.{◌≡◌, ◌⊎◌, inl, inr, ℕ, zero, suc, ◌+◌, ◌<◌, ◌≤◌, ◌==◌, ◌&&◌, nat_lt}
-use Rattle.world_keeps_lives.proofs.Common.{max, max-le, Bool, true, false, if◌then◌else◌, List, [], ◌∷◌, ◌++◌, map}
-use Rattle.world_keeps_lives.proofs.Common.{drop, length, Option, Some, refl, ap, sym, subst, ◌∙◌, arith, ltb-true}
-use Rattle.world_keeps_lives.proofs.Common.{length-append, Contains, Flow, Crossing, HostMessage, same_flow}
-use Rattle.world_keeps_lives.proofs.Common.{same_flow-true, CrossedAt, text_of, texts_for, texts_on, before, receives}
-use Rattle.world_keeps_lives.proofs.Common.{Moment, crossings_of, Life, begun}
-use Rattle.std.proofs.Common.{◌-◌}
-use Rattle.std.proofs.lemmas.Bool.{ltb-false}
+use Rattle.world_keeps_lives.proofs.Common.{max-le, ltb-true, ltb-false, length-append, Contains, Flow, Crossing, HostMessage, same_flow, same_flow-true, Moment, crossings_of, Life, begun, AreOurs, Network}
+use Rattle.std.proofs.Common.{◌≡◌, ◌⊎◌, inl, inr, ℕ, zero, suc, ◌+◌, ◌<◌, ◌≤◌, ◌==◌, ◌&&◌, nat_lt, max, Bool, true, false, if◌then◌else◌, List, [], ◌∷◌, ◌++◌, map, drop, length, Option, Some, refl, ap, sym, subst, ◌∙◌, arith, ◌-◌}
+use Rattle.promise.specs.Formed.{CrossedAt, text_of, texts_for, texts_on, flow_of, link_of, texts_of}
+use Rattle.promise.specs.Safe.{before, receives, last_out}
 use Rattle.interface.specs.declared.crossing.Crossing.TheVariants as crossing
-use Rattle.promise.specs.Formed.{flow_of, link_of, texts_of}
-use Rattle.promise.specs.Safe.{last_out}
 use Rattle.world_keeps_lives.proofs.Facts.{no}
 use Rattle.world_keeps_lives.proofs.Firsts.Books.{good}
 use Rattle.world_keeps_lives.proofs.Firsts.Ends.{Apart, Good, IsGrown, Lawful, Together, Tracked, flow_link, lives_in}
@@ -21,7 +15,6 @@ use Rattle.world_keeps_lives.proofs.Grounds.{crossed_below}
 use Rattle.world_keeps_lives.proofs.Firsts.Linked.{IsSentIn, Linked}
 use Rattle.world_keeps_lives.proofs.Firsts.Texts.{before_here, before_still, texts_none, texts_one, texts_same}
 use Rattle.world_keeps_lives.proofs.Walk.Rules.{Each, each_in, each_of, each_weaker}
-use Rattle.reset_law.specs.Network.{AreOurs, Network}
 
 -- ---- the last of the texts that went out on a flow
 

@@ -1,8 +1,8 @@
 -- Lives, each with its link beside it: by these the laws of lives are proved from one moment to the next.
-use Rattle.world_keeps_lives.proofs.Common.{◌≡◌, ◌⊎◌, ℕ, ◌≤◌, ◌<◌, ◌==◌, Bool, false, if◌then◌else◌, List, [], ◌∷◌, map, take, length, Option, Some, Contains, Crossing, HostMessage, CrossedAt, HasCrossed, coming, data_in, going, joined, request, texts_for, before, receives, Life, begun}
+use Rattle.world_keeps_lives.proofs.Common.{Contains, Crossing, HostMessage, before, receives, Life, begun, AreOurs, Network}
+use Rattle.std.proofs.Common.{◌≡◌, ◌⊎◌, ℕ, ◌≤◌, ◌<◌, ◌==◌, Bool, false, if◌then◌else◌, List, [], ◌∷◌, map, take, length, Option, Some}
+use Rattle.promise.specs.Formed.{CrossedAt, HasCrossed, coming, data_in, going, joined, request, texts_for, flow_of}
 use Rattle.interface.specs.declared.crossing.Crossing.TheVariants as crossing
-use Rattle.promise.specs.Formed.{flow_of}
-use Rattle.reset_law.specs.Network.{AreOurs, Network}
 
 -- a life with its link
 pub record Linked : Type 0 where

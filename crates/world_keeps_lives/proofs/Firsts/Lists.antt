@@ -1,8 +1,7 @@
 -- Lists of lives with their links: what holds of each, and of each two.
-use Rattle.world_keeps_lives.proofs.Common.{◌≡◌, ℕ, zero, suc, ◌<◌, List, [], ◌∷◌, ◌++◌, map, length, slice_index_or, refl, ap, sym, subst, ◌∙◌, arith, Contains, append_assoc, AreTwo, own_request, Life}
+use Rattle.world_keeps_lives.proofs.Common.{◌≡◌, ℕ, zero, suc, ◌<◌, List, [], ◌∷◌, ◌++◌, map, length, slice_index_or, refl, ap, sym, subst, ◌∙◌, arith, Contains, append_assoc, AreTwo, own_request, Life, contains_head, contains_tail}
 use Rattle.world_keeps_lives.proofs.Firsts.Linked.{Linked}
 use Rattle.world_keeps_lives.proofs.Walk.Rules.{Each, each_in, each_of, each_weaker}
-use Rattle.interface.proofs.lemmas.{contains_head, contains_tail}
 
 -- ---- each of a list
 

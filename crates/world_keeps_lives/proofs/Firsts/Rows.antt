@@ -1,9 +1,11 @@
 -- Books whose messages that went out are those of lives, and books whose aren't.
-use Rattle.world_keeps_lives.proofs.Common.{◌≡◌, inl, inr, ℕ, ◌<◌, ◌≤◌, ◌==◌, true, false, List, [], ◌∷◌, drop, length, Option, Some, refl, ap, sym, subst, ◌∙◌, arith, Contains, option_map, Crossing, HostMessage, CrossedAt, texts_on, before, receives, Life, eight_sent, AreApart, IsSentIn, gave, sent_log, took, two_log}
+use Rattle.world_keeps_lives.proofs.Common.{Contains, option_map, Crossing, HostMessage, before, receives, Life}
+use Rattle.std.proofs.Common.{◌≡◌, inl, inr, ℕ, ◌<◌, ◌≤◌, ◌==◌, true, false, List, [], ◌∷◌, drop, length, Option, Some, refl, ap, sym, subst, ◌∙◌, arith}
+use Rattle.promise.specs.Formed.{CrossedAt, texts_on, flow_of, link_of}
+use Rattle.net_sim.specs.WorkedMoments.{eight_sent}
+use Rattle.world_keeps_lives.specs.Firsts.{AreApart, IsSentIn, FirstBook, texts_before}
+use Rattle.world_keeps_lives.specs.WorkedFormed.{gave, sent_log, took, two_log, zeros_sent}
 use Rattle.interface.specs.declared.crossing.Crossing.TheVariants as crossing
-use Rattle.promise.specs.Formed.{flow_of, link_of}
-use Rattle.world_keeps_lives.specs.Firsts.{FirstBook, texts_before}
-use Rattle.world_keeps_lives.specs.WorkedFormed.{zeros_sent}
 use Rattle.world_keeps_lives.proofs.FormedRows.{rts_named}
 use Rattle.world_keeps_lives.proofs.Walk.Rules.{Each, each_in}
 

@@ -1,13 +1,12 @@
 -- The messages of each life are the first on its link, and each message that goes out is one of a life: from one moment to the next.
-use Rattle.world_keeps_lives.proofs.Common.{◌≡◌, ◌⊎◌, inl, inr, ℕ, suc, ◌+◌, ◌<◌, ◌≤◌, ◌==◌, ◌&&◌, max, not, Bool, true, false, List, [], ◌∷◌, ◌++◌, map, length, Some, refl, ap, sym, subst, ◌∙◌, arith, eq-eqb, Contains, max-le, eqb-true, map-append, Contains-append_left, Host, same_host, Crossing, HostMessage, same_host-refl, same_host-true, is_mine_on, is_open, Entry, both, carried, changed_when, lives_at, where_it, CrossedAt, coming, data_in, going, text_of, texts_for, AreTwo, Name, SafePartners, before, own_request, receives, Asked, Crossed, IsNext, Moment, places, program, crossings_of, Amount, Life, Coupled, places_same, begun, HasOpenEnd, mine_on}
-use Rattle.reset_law.specs.Network.{AreOurs, Network}
-use Rattle.net_sim.specs.Mixed.{mixed_kept}
-use Rattle.net_sim.proofs.lemmas.{coupled}
+use Rattle.world_keeps_lives.proofs.Common.{Contains, eqb-true, map-append, Host, same_host, Crossing, HostMessage, same_host-refl, same_host-true, not_true, contains_head, contains_tail, is_mine_on, is_open, Entry, both, AreTwo, Name, SafePartners, before, own_request, receives, Asked, Crossed, IsNext, Moment, places, program, crossings_of, Amount, Life, Coupled, places_same, coupled, begun, HasOpenEnd, mine_on, AreOurs, Network, mixed_kept}
+use Rattle.std.proofs.Common.{◌≡◌, ◌⊎◌, inl, inr, ℕ, suc, ◌+◌, ◌<◌, ◌≤◌, ◌==◌, ◌&&◌, max, not, Bool, true, false, List, [], ◌∷◌, ◌++◌, map, length, Some, refl, ap, sym, subst, ◌∙◌, arith, eq-eqb}
+use Rattle.std.proofs.Math.Nat.{max-le, le-max_left, le-max_right}
+use Rattle.std.proofs.lemmas.List.Elements.{Contains-append_left, Contains-append_right}
+use Rattle.net_sim.specs.Book.{carried, changed_when, lives_at, where_it}
+use Rattle.promise.specs.Formed.{CrossedAt, coming, data_in, going, text_of, texts_for, flow_of}
 use Rattle.world_keeps_pairing.proofs.lemmas.{in_book, queued_commands, safe_partners, served_in, two_in_book}
-use Rattle.std.proofs.Math.Nat.{le-max_left, le-max_right}
-use Rattle.std.proofs.lemmas.List.Elements.{Contains-append_right}
 use Rattle.interface.specs.declared.crossing.Crossing.TheVariants as crossing
-use Rattle.promise.specs.Formed.{flow_of}
 use Rattle.world_keeps_lives.proofs.Facts.{no}
 use Rattle.world_keeps_lives.proofs.Calms.{Born, Calm, kept_as, kept_so}
 use Rattle.world_keeps_lives.proofs.Firsts.Lists.{After, AreDistinct, From, Pairwise, after_all, all_distinct, each_changed, each_two, from_map, life_of, map_life, mapped, pairs_all, pairs_append, pairs_both, pairs_changed, two_in}
@@ -18,7 +17,6 @@ use Rattle.world_keeps_lives.proofs.Firsts.Linked.{IsFirst, IsSentIn, Linked, al
 use Rattle.world_keeps_lives.proofs.Walk.Rules.{Each, each_append, each_in, each_of, each_weaker}
 use Rattle.world_keeps_lives.proofs.Stamps.{HasLife, Now}
 use Rattle.world_keeps_lives.proofs.Firsts.Texts.{IsFull, before_all, before_here, before_still, first_more, first_still, full_more, take_whole, texts_none, texts_same}
-use Rattle.interface.proofs.lemmas.{not_true, contains_head, contains_tail}
 
 -- ---- one moment more
 

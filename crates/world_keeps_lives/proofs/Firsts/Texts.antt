@@ -1,8 +1,8 @@
 -- The texts on a life's link, as more crosses.
-use Rattle.world_keeps_lives.proofs.Common.{◌≡◌, ℕ, zero, suc, ◌+◌, ◌<◌, ◌≤◌, ◌&&◌, max, nat_lt, Bool, true, false, if◌then◌else◌, List, [], ◌∷◌, ◌++◌, take, drop, length, Option, Some, None, refl, ap, sym, ◌∙◌, arith, ltb-true, append_assoc, length-append, Flow, Crossing, carried, coming, data_in, going, joined, request, text_of, texts_for, before, receives, Life}
-use Rattle.std.proofs.Common.{append-nil, lt-ltb, ◌-◌}
-use Rattle.std.proofs.lemmas.List.{take-append-le}
-use Rattle.promise.specs.Formed.{flow_of, texts_of}
+use Rattle.world_keeps_lives.proofs.Common.{ltb-true, Flow, Crossing, carried, before, receives, Life}
+use Rattle.std.proofs.Common.{◌≡◌, ℕ, zero, suc, ◌+◌, ◌<◌, ◌≤◌, ◌&&◌, max, nat_lt, Bool, true, false, if◌then◌else◌, List, [], ◌∷◌, ◌++◌, take, drop, length, Option, Some, None, refl, ap, sym, ◌∙◌, arith, append-nil, lt-ltb, ◌-◌}
+use Rattle.std.proofs.lemmas.List.{append_assoc, length-append, take-append-le}
+use Rattle.promise.specs.Formed.{coming, data_in, going, joined, request, text_of, texts_for, flow_of, texts_of}
 use Rattle.world_keeps_lives.proofs.Grounds.{still_crossed}
 use Rattle.world_keeps_lives.proofs.Firsts.Linked.{HasRequests, IsFirst, Linked, all_data}
 

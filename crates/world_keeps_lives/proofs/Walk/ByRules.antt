@@ -1,6 +1,7 @@
 -- What holds of each end that a host's program has with a peer, through each of its calls, by rules that take all changes alike that name no request.
-use Rattle.world_keeps_lives.proofs.Common.{◌≡◌, ℕ, ◌==◌, true, false, List, find, Some, Host, Flow, Answer, HostMessage, data_bits, header_of, DataHeader, closed_by_partner, is_open, receives_on, cls_sent, Parcel, orders_of, Order, data_of, PairState, Entry, Notice, Command, AreCommands, NcpState, pair_with, AreInOrder, next_in, Peer, Request, accepted, served, offered}
-use Rattle.sockets.specs.Requests.{served_notices}
+use Rattle.world_keeps_lives.proofs.Common.{◌≡◌, ℕ, ◌==◌, true, false, List, find, Some, Host, Flow, Answer, HostMessage, data_bits, header_of, DataHeader, cls_sent, Parcel, orders_of, Order, data_of, PairState, Entry, Notice, Command, AreCommands, NcpState, pair_with, AreInOrder, next_in, offered, Peer, Request, accepted}
+use Rattle.host_pairs.specs.Entries.{closed_by_partner, is_open, receives_on}
+use Rattle.sockets.specs.Requests.{served, served_notices}
 use Rattle.interface.specs.declared.crossing.Inbound.TheVariants as inbound
 use Rattle.host_pairs.specs.Commands.{granted}
 use Rattle.host_pairs.specs.Parcels as parcel

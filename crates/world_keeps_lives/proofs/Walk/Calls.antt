@@ -1,18 +1,20 @@
 -- The walk of Leaves.antt over each call of a host's program.
-use Rattle.world_keeps_lives.proofs.Common.{◌≡◌, ℕ, ◌==◌, Bool, true, false, if◌then◌else◌, List, [], ◌∷◌, find, Option, Some, None, refl, sym, subst, Host, same_host, Flow, Answer, HostMessage, same_host-refl, same_host-true, data_bits, header_of, DataHeader, closed_end, commanded, contacted, interrupt_of, receiver_requested, requested, with_end, with_more_bits, orders_of, data_of, data_taken, desk_of, listens_on, free_link, is_busy, is_open, receives_on, sending_end, PairState, Parcel, pair_after, parcel_gone, is_ready, TurnState, answered_turn, message_taken, Entry, Notice, AreCommands, text_good, after_turn, turn_of, NcpState, owner_of, pair_with, AreInOrder, at_owner, closed_socket, next_in, offered_by, Peer, Request, next_pair}
-use Rattle.world_keeps_lives.proofs.Common.{both, eqb-true}
+use Rattle.world_keeps_lives.proofs.Common.{◌≡◌, ℕ, ◌==◌, Bool, true, false, if◌then◌else◌, List, [], ◌∷◌, find, Option, Some, None, refl, sym, subst, Host, same_host, Flow, Answer, HostMessage, same_host-refl, same_host-true, data_bits, header_of, DataHeader, orders_of, data_of, data_taken, desk_of, listens_on, PairState, is_ready, Entry, Notice, AreCommands, text_good, AreInOrder, Peer, Request, both, eqb-true}
+use Rattle.host_pairs.specs.Asked.{closed_end, commanded, contacted, interrupt_of, receiver_requested, requested, with_end, with_more_bits}
+use Rattle.host_pairs.specs.Entries.{free_link, is_busy, is_open, receives_on, sending_end}
+use Rattle.host_pairs.specs.Parcels.{Parcel, pair_after, parcel_gone, link_of}
+use Rattle.host_pairs.specs.Turn.{TurnState, answered_turn, message_taken}
+use Rattle.sockets.specs.Accepting.{after_turn, turn_of, accepted, accepted_answer, accepted_message}
+use Rattle.sockets.specs.Pairs.{NcpState, owner_of, pair_with, with_pair}
+use Rattle.sockets.specs.Requests.{at_owner, closed_socket, served, served_notices}
+use Rattle.sockets.specs.Sending.{next_in, offered_by, offered}
+use Rattle.sockets.proofs.lemmas.{next_pair, others_stay}
 use Rattle.interface.specs.declared.crossing.Inbound.TheVariants as inbound
 use Rattle.ncp_control.specs.declared.command.Command.TheVariants as command
 use Rattle.host_pairs.specs.Commands.{granted}
-use Rattle.host_pairs.specs.Parcels.{link_of}
 use Rattle.host_pairs.specs.declared.notice.Notice.TheVariants as notice
 use Rattle.host_keeps_pairing.proofs.lemmas.{peer_here}
-use Rattle.sockets.specs.Accepting.{accepted, accepted_answer, accepted_message}
-use Rattle.sockets.specs.Pairs.{with_pair}
-use Rattle.sockets.specs.Requests.{served, served_notices}
-use Rattle.sockets.specs.Sending.{offered}
 use Rattle.sockets.specs.declared.request.Request.TheVariants as request
-use Rattle.sockets.proofs.lemmas.{others_stay}
 use Rattle.world_keeps_lives.proofs.Walk.Rules.{Each}
 use Rattle.world_keeps_lives.proofs.Walk.Leaves.{GoodTurn, HearsAll, Leaves, MaySay, Starts, no_more, asked_by, asked_closed, asked_new, asked_receiver, good_data, good_parcel, plain_bits, turn_all, turn_answered, turn_ready}
 

@@ -1,18 +1,19 @@
 -- One walk over all that a host does with a peer, for a predicate on its ends and one on what it reports: what has to be shown at each leaf, and that each call
 -- keeps it then.
-use Rattle.world_keeps_lives.proofs.Common.{Allocation, ◌≡◌, ℕ, zero, suc, ◌*◌, Bool, false, not, ◌||◌, if◌then◌else◌, List, [], ◌∷◌, ◌++◌, filter, find, take, Option, Some, None, is_some, refl, Contains, list_any, flat_map, Host, Answer, IsCommand, spelling, data_bits, header_of, is_receive_socket, is_send_socket, Command, DataHeader, Ending, Open, Unconnected, asked_on_link, asked_with_size, at_end, changed, cls_taken_by, gvb_taken, interrupted, matched_once, ret_taken, rts_heard, rts_taken, rts_taken_by, str_heard, str_linked, str_taken_by, desk_taken, ERRONEOUS, Legal, NOT_CONNECTED, NO_SOCKET, Order, Wrong, error, closed_end, receiver_requested, requested, with_end, arrived, arrived_if, data_found, data_of, data_taken, is_acceptable, spent, text_faulted, DeskState, command_queued, desk_of, desk_told, listener_on, settled, swept, called_off, changed_first, closed_by_partner, closed_when, ending, entry_at, free_link, is_at, is_ending, is_mine_on, is_open, is_over, must_close, opening_by, opening_notices, receives_on, receiving_end, refused_end, sending_end, sends_on, PairState, Parcel, asked_at, bits_gone, cls_sent, command_gone, commands_gone, may_send_on, pair_after, parcel_gone, is_ready, TurnState, answered_turn, closed, command_taken, failed, failed_by, freed, if_ready, is_gone, order_taken, orders_taken, reply_notices, reset_notices, settled_turn, with_desk, Entry, Listener, Notice, Phase, AreCommands, AreOrders, IsOrder, true}
-use Rattle.host_pairs.specs.declared.entry.Closing.{Closing}
+use Rattle.world_keeps_lives.proofs.Common.{Allocation, ◌≡◌, ℕ, zero, suc, ◌*◌, Bool, false, not, ◌||◌, if◌then◌else◌, List, [], ◌∷◌, ◌++◌, filter, find, take, Option, Some, None, is_some, refl, true, ap, arith, sym, ◌∙◌, Contains, list_any, flat_map, Host, Answer, IsCommand, spelling, data_bits, header_of, is_receive_socket, is_send_socket, Command, DataHeader, ERRONEOUS, Legal, NOT_CONNECTED, NO_SOCKET, Order, Wrong, error, DeskState, command_queued, desk_of, desk_told, listener_on, settled, swept, PairState, is_ready, Entry, Listener, Notice, Phase, AreCommands, AreOrders, IsOrder, Closing}
+use Rattle.host_pairs.specs.Commands.{Ending, Open, Unconnected, asked_on_link, asked_with_size, at_end, changed, cls_taken_by, gvb_taken, interrupted, matched_once, ret_taken, rts_heard, rts_taken, rts_taken_by, str_heard, str_linked, str_taken_by, desk_taken, Found, all_taken, receiver_on, sender_on}
+use Rattle.host_pairs.specs.Asked.{closed_end, receiver_requested, requested, with_end}
+use Rattle.host_pairs.specs.Data.{arrived, arrived_if, data_found, data_of, data_taken, is_acceptable, spent, text_faulted}
+use Rattle.host_pairs.specs.Entries.{called_off, changed_first, closed_by_partner, closed_when, ending, entry_at, free_link, is_at, is_ending, is_mine_on, is_open, is_over, must_close, opening_by, opening_notices, receives_on, receiving_end, refused_end, sending_end, sends_on, is_sent, close_due}
+use Rattle.host_pairs.specs.Parcels.{Parcel, asked_at, bits_gone, cls_sent, command_gone, commands_gone, may_send_on, pair_after, parcel_gone, link_of}
+use Rattle.host_pairs.specs.Turn.{TurnState, answered_turn, closed, command_taken, failed, failed_by, freed, if_ready, is_gone, order_taken, orders_taken, reply_notices, reset_notices, settled_turn, with_desk}
 use Rattle.std.specs.Prelude.{◌≤◌, ◌-◌}
-use Rattle.std.proofs.Common.{ap, arith, sym, ◌∙◌}
 use Rattle.ncp_control.specs.Allocation as counters
-use Rattle.host_pairs.specs.Entries.{is_sent, close_due}
 use Rattle.bit_messages.specs.Octets.{octets_of}
 use Rattle.interface.specs.declared.crossing.Answer.TheVariants as answer
 use Rattle.ncp_control.specs.declared.command.Command.TheVariants as command
 use Rattle.host_pairs.specs.Commands as commands
-use Rattle.host_pairs.specs.Commands.{Found, all_taken, receiver_on, sender_on}
 use Rattle.host_pairs.specs.Parcels as parcel
-use Rattle.host_pairs.specs.Parcels.{link_of}
 use Rattle.host_pairs.specs.declared.entry.Closing.TheVariants as closing
 use Rattle.host_pairs.specs.declared.notice.Notice.TheVariants as notice
 use Rattle.ncp_control.specs.declared.phase.Phase.TheVariants as phase

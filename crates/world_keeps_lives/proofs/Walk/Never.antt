@@ -1,6 +1,5 @@
 -- What is so of no life up to now, by a test that computes. Rows say by it what never was.
-use Rattle.world_keeps_lives.proofs.Common.{◌≡◌, zero, suc, Bool, true, false, List, [], ◌∷◌, ◌++◌, if◌then◌else◌}
-use Rattle.world_keeps_lives.proofs.Common.{refl, subst, arith, Contains, Moment, kept_in, Life}
+use Rattle.world_keeps_lives.proofs.Common.{◌≡◌, zero, suc, Bool, true, false, List, [], ◌∷◌, ◌++◌, if◌then◌else◌, refl, subst, arith, Contains, Moment, kept_in, Life}
 
 -- of none of these lives
 unfoldable pub none_has : (Life → Bool) → List Life → Bool

@@ -1,10 +1,11 @@
 -- What holds of each end of a pair, by rules that take all changes alike that name no request: for the walk of Leaves.antt.
-use Rattle.world_keeps_lives.proofs.Common.{◌≡◌, ℕ, zero, suc, ◌*◌, ◌<◌, Bool, false, if◌then◌else◌, List, [], ◌∷◌, ◌++◌, map, filter, find, take, length, slice_index_or, Some, None, refl, subst, arith, Contains, Host, is_receive_socket, is_send_socket, Command, asked_on_link, asked_with_size, Legal, Order, changed_first, closed_by_partner, closed_when, has_cls, is_ending, is_open, refused_end, PairState, Parcel, asked_at, cls_sent, Entry, Notice}
-use Rattle.std.proofs.Common.{true}
+use Rattle.world_keeps_lives.proofs.Common.{Contains, Host, is_receive_socket, is_send_socket, Command, Legal, Order, PairState, Parcel, asked_at, cls_sent, Entry, Notice, contains_head, contains_tail}
+use Rattle.std.proofs.Common.{◌≡◌, ℕ, zero, suc, ◌*◌, ◌<◌, Bool, false, if◌then◌else◌, List, [], ◌∷◌, ◌++◌, map, filter, find, take, length, slice_index_or, Some, None, refl, subst, arith, true}
+use Rattle.host_pairs.specs.Commands.{asked_on_link, asked_with_size}
+use Rattle.host_pairs.specs.Entries.{changed_first, closed_by_partner, closed_when, has_cls, is_ending, is_open, refused_end}
 use Rattle.ncp_control.specs.declared.command.Command.TheVariants as command
 use Rattle.host_pairs.specs.Parcels as parcel
 use Rattle.host_pairs.specs.declared.notice.Notice.TheVariants as notice
-use Rattle.interface.proofs.lemmas.{contains_head, contains_tail}
 use Rattle.host_keeps_pairing.proofs.lemmas.{due_still}
 
 -- ---- lists

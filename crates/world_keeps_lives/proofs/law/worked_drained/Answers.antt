@@ -1,16 +1,17 @@
-use Rattle.world_keeps_lives.proofs.Common.{◌≡◌, Bool, true, false, List, [], ◌∷◌, Some, refl, ap, ◌∙◌, arith, has_cls, Entry, first, second, life_ended, Crossed, program, eight, ClosedFirst, ClosesFirst, gave}
-use Rattle.world_keeps_lives.specs.Drained.{all_lives}
+use Rattle.world_keeps_lives.proofs.Common.{◌≡◌, Bool, true, false, List, [], ◌∷◌, Some, refl, ap, ◌∙◌, arith, Entry, first, second, Crossed, program, ClosedFirst, ClosesFirst, all_lives}
+use Rattle.host_pairs.specs.Entries.{has_cls, new_entry}
+use Rattle.net_sim.specs.Book.{life_ended}
+use Rattle.net_sim.specs.Worked.{eight}
+use Rattle.world_keeps_lives.specs.WorkedFormed.{gave, closed_moments}
 use Rattle.bit_messages.specs.Octets.{octets_of}
 use Rattle.interface.specs.declared.crossing.Crossing.TheVariants as crossing
 use Rattle.ncp_control.specs.Packing.{packed_count}
 use Rattle.ncp_control.specs.Reading.{read_of, command_of}
 use Rattle.host_pairs.specs.Control.{orders_of}
-use Rattle.host_pairs.specs.Entries.{new_entry}
 use Rattle.host_pairs.specs.declared.entry.Closing.TheVariants as closing
 use Rattle.sockets.specs.Accepting.{accepted}
 use Rattle.sockets.specs.Requests.{refusal, served, served_notices}
 use Rattle.sockets.specs.Sending.{next_out, offered}
-use Rattle.world_keeps_lives.specs.WorkedFormed.{closed_moments}
 use Rattle.world_keeps_lives.proofs.Rows.{none_there}
 use Rattle.world_keeps_lives.proofs.law.worked_drained.Goals as goal
 

@@ -1,5 +1,4 @@
-use Rattle.world_keeps_lives.proofs.Common.{◌≡◌, Bool, true, false, List, [], ◌∷◌, if◌then◌else◌, refl, ap, sym, subst, ◌∙◌, Contains, is_send_socket, has_cls, Entry, pair_with, sends, Moment, program, kept_in, Life, mine_on, ClosedFirst, ClosesFirst}
-use Rattle.world_keeps_lives.specs.Drained.{all_lives}
+use Rattle.world_keeps_lives.proofs.Common.{◌≡◌, Bool, true, false, List, [], ◌∷◌, if◌then◌else◌, refl, ap, sym, subst, ◌∙◌, Contains, is_send_socket, has_cls, Entry, pair_with, sends, Moment, program, kept_in, Life, mine_on, ClosedFirst, ClosesFirst, all_lives}
 use Rattle.bit_messages.specs.Octets.{octets_of}
 use Rattle.ncp_control.specs.Packing.{packed_count}
 use Rattle.ncp_control.specs.Reading.{read_of, command_of}
