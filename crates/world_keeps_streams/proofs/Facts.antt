@@ -1,8 +1,8 @@
 -- Small facts of truth values, numbers and lists.
 pub use Rattle.std.proofs.lemmas.Bool.{false≢true as untrue, true≢false as unfalse}
 pub use Rattle.world_keeps_lives.proofs.lemmas.{no as clash}
-use Rattle.world_keeps_streams.proofs.Common.{◌≡◌, ◌≤◌, ◌==◌, ◌&&◌, not, ℕ, suc, Bool, true, false, if◌then◌else◌}
-use Rattle.world_keeps_streams.proofs.Common.{List, [], ◌∷◌, length, refl, ap, arith, ne_eqb}
+use Rattle.std.proofs.Common.{◌≡◌, ◌≤◌, ◌==◌, ◌&&◌, not, ℕ, suc, Bool, true, false, if◌then◌else◌, List, [], ◌∷◌, length, refl, ap, arith}
+use Rattle.std.proofs.lemmas.Bool.{ne_eqb}
 
 pub middle_off : (a b c : Bool) → b ≡ false → (a && b && c) ≡ false
 middle_off true b c e = ap (λ (v : Bool). v && c) e

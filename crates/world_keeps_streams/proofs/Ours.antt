@@ -1,11 +1,11 @@
 -- A host with a program, whatever strangers do: what it has on each socket, where `kept_in` has what every program would report. Strangers
 -- report nothing, and what one would report changes no life of another host.
-use Rattle.world_keeps_streams.proofs.Common.{◌≡◌, inl, inr, ℕ, false, List, [], ◌∷◌, refl, sym, subst, Contains, Host, Crossing, Match, HaveAddresses, Moment, Happened, AreOurs, Network, pair_with, program, crossings_of, Coupled, AllTied, all_tied, are_origins, coupled, mail_below, origin_in, served_in}
+use Rattle.world_keeps_streams.proofs.Common.{◌≡◌, inl, inr, ℕ, false, List, [], ◌∷◌, refl, sym, subst, Contains, Host, Crossing, Match, HaveAddresses, Moment, program, Happened, AreOurs, Network, pair_with, crossings_of, Coupled, coupled, origin_in, HasOpenEnd}
+use Rattle.world_keeps_pairing.proofs.lemmas.{AllTied, all_tied, are_origins, mail_below, served_in}
 use Rattle.interface.specs.Mailboxes as mail
 use Rattle.promise.specs.declared.life.Life.{Life}
 use Rattle.net_sim.specs.Book.{opening_kept}
 use Rattle.net_sim.specs.Told.{kept_in}
-use Rattle.world_keeps_lives.specs.Lives.{HasOpenEnd}
 use Rattle.world_keeps_lives.proofs.lemmas.{HasEnds, Holds, live_end, opening_holds}
 use Rattle.world_keeps_lives.proofs.lemmas.Sockets.{fit, idle, ordered, own_moment}
 

@@ -1,13 +1,12 @@
 -- Lives at rest whose ends are open, and between whose hosts no command is on its way, agree on what may still be sent.
-use Rattle.world_keeps_streams.proofs.Common.{◌≡◌, ℕ, suc, ◌==◌, Bool, true, List, [], length, refl, ap, sym, subst, ◌∙◌, arith, eqb-true, Seen, Host, Allocation, message_bits, is_link, sends_on, has_opened, numbered, numbered_tells, OfOne, IsLawful, Moment, events_of, WorldState, numbered_by_peer, Agree, Network, AreOurs, ◌++◌}
-use Rattle.reset_law.specs.Network.{all_ours}
+use Rattle.world_keeps_streams.proofs.Common.{◌≡◌, ℕ, suc, ◌==◌, Bool, true, List, [], length, refl, ap, sym, subst, ◌∙◌, arith, ◌++◌, eqb-true, Seen, Host, Allocation, message_bits, is_link, sends_on, has_opened, numbered, numbered_tells, IsLawful, Moment, events_of, WorldState, numbered_by_peer, Network, AreOurs, all_ours}
+use Rattle.pair_keeps_streams.proofs.lemmas.{OfOne, agree, counters, linked}
+use Rattle.world_keeps_streams.specs.Rests.{Agree, AllAgree, AreSettled}
 use Rattle.stream_law.specs.Agreed.{AreAgreed}
 use Rattle.stream_law.specs.Receivers.{Receiver}
-use Rattle.pair_keeps_streams.proofs.lemmas.{agree, counters, linked}
 use Rattle.reset_law.specs.Stays as stay
 use Rattle.promise.specs.declared.life.Life.{Life}
 use Rattle.world_keeps_lives.specs.Lives.{AddsUp}
-use Rattle.world_keeps_streams.specs.Rests.{AllAgree, AreSettled}
 use Rattle.world_keeps_streams.proofs.Books.Arrives.{rest_lawful}
 use Rattle.world_keeps_streams.proofs.Books.Closes as closes
 use Rattle.world_keeps_streams.proofs.Books.One.{HasPartner}

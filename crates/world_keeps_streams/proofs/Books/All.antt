@@ -1,8 +1,7 @@
 -- What a safe book asks of all lives between hosts with programs: what was taken has a source, and what was sent is granted.
-use Rattle.world_keeps_streams.proofs.Common.{◌≡◌, true, List, [], length, Contains, Seen, Host, HaveAddresses, IsLawful, IsGranted, Match, Source, Moment, crossings_of, WorldState, AreOurs, Happened, Network}
+use Rattle.world_keeps_streams.proofs.Common.{◌≡◌, true, List, [], length, Contains, Seen, Host, HaveAddresses, IsLawful, Moment, crossings_of, WorldState, AreOurs, Network, all_ours, Happened}
+use Rattle.promise.specs.Safe.{IsGranted, Match, Source, receives}
 use Rattle.interface.specs.Mailboxes as mail
-use Rattle.reset_law.specs.Network.{all_ours}
-use Rattle.promise.specs.Safe.{receives}
 use Rattle.net_sim.specs.Told.{kept_in}
 use Rattle.promise.specs.declared.life.Life.{Life}
 use Rattle.world_keeps_streams.proofs.Carried.World.{carries_numbered, carries_turned}

@@ -1,14 +1,10 @@
 -- While a message waits on the link of a receiving life, the sending life that it matches isn't over if its host stays
 -- (`goes_there`), and it counts all that went out there (`all_out`).
-use Rattle.world_keeps_streams.proofs.Common.{◌≡◌, inl, inr, ℕ, suc, ◌+◌, ◌<◌, ◌≤◌, ◌==◌, Bool, true, false}
-use Rattle.world_keeps_streams.proofs.Common.{if◌then◌else◌, List, [], ◌∷◌, length, map, filter, Option, Some, refl, ap}
-use Rattle.world_keeps_streams.proofs.Common.{sym, subst, ◌∙◌, eq-eqb, arith, Contains, Host, Flow, Crossing}
-use Rattle.world_keeps_streams.proofs.Common.{HostMessage, same_flow-true, same_host, box_of, is_send_socket, sends_on}
-use Rattle.world_keeps_streams.proofs.Common.{Entry, some_is, waiting_of, waits_of, IsPosted, Lies, Post, boxes}
-use Rattle.world_keeps_streams.proofs.Common.{gone_now, numbered, numbered_tells, numbered_by_peer, name_of, pair_with}
-use Rattle.world_keeps_streams.proofs.Common.{text_of, texts_for, texts_on, Match, Asked, Crossed, Moment, events_of}
-use Rattle.world_keeps_streams.proofs.Common.{program, crossings_of, seen_box, box_same, own_calls, send_odd, AreOurs}
-use Rattle.world_keeps_streams.proofs.Common.{Network}
+use Rattle.world_keeps_streams.proofs.Common.{◌≡◌, inl, inr, ℕ, suc, ◌+◌, ◌<◌, ◌≤◌, ◌==◌, Bool, true, false, if◌then◌else◌, List, [], ◌∷◌, length, map, filter, Option, Some, refl, ap, sym, subst, ◌∙◌, eq-eqb, arith, Contains, Host, same_host, Flow, Crossing, HostMessage, box_of, is_send_socket, sends_on, Entry, some_is, waiting_of, waits_of, IsPosted, Lies, Post, boxes, gone_now, numbered, numbered_tells, name_of, numbered_by_peer, own_calls, pair_with, Asked, Crossed, Moment, events_of, program, crossings_of, seen_box, send_odd, AreOurs, Network, AreSender, IsSentIn, linked_end, end_link, lives_among, mixed_kept}
+use Rattle.interface.proofs.lemmas.{same_flow-true, unlike}
+use Rattle.promise.specs.Formed.{text_of, texts_for, texts_on, flow_of, link_of}
+use Rattle.promise.specs.Safe.{Match, before, receives, sends}
+use Rattle.net_sim.proofs.lemmas.{box_same, flow_of as flow_from}
 use Rattle.interface.specs.Flow.{same_flow}
 use Rattle.interface.specs.Mailboxes as mail
 use Rattle.interface.specs.declared.crossing.Crossing.TheVariants as crossing
@@ -16,14 +12,7 @@ use Rattle.stream_law.specs.Receivers.{Receiver}
 use Rattle.stream_law.specs.Senders.{Sender}
 use Rattle.stream_law.specs.Streams.{Box, Empty, Taken, Waiting}
 use Rattle.reset_law.specs.Stays as stay
-use Rattle.host_keeps_streams.specs.Ends.{AreSender}
-use Rattle.promise.specs.Formed.{flow_of, link_of}
-use Rattle.promise.specs.Safe.{before, receives, sends}
 use Rattle.promise.specs.declared.life.Life.{Life}
-use Rattle.net_sim.proofs.lemmas.{flow_of as flow_from}
-use Rattle.world_keeps_lives.specs.Firsts.{IsSentIn}
-use Rattle.world_keeps_lives.proofs.lemmas.Books.{linked_end}
-use Rattle.world_keeps_lives.proofs.lemmas.Formed.{end_link}
 use Rattle.world_keeps_lives.proofs.lemmas.Full.{full}
 use Rattle.world_keeps_streams.proofs.Books.All.{all_given}
 use Rattle.world_keeps_streams.proofs.Books.Answered.{not_empty, not_fetched}
@@ -43,11 +32,8 @@ use Rattle.world_keeps_streams.proofs.Facts.{no_zero}
 use Rattle.world_keeps_streams.proofs.Lives.Lists.{IsOf, Named, contains, grown, is_of, of_drop, of_left, of_map}
 use Rattle.world_keeps_streams.proofs.Lives.Among.{among_now, now_kept}
 use Rattle.world_keeps_streams.proofs.Ours.{ours_receiver, ours_sender}
-use Rattle.net_sim.specs.Among.{lives_among}
-use Rattle.net_sim.specs.Mixed.{mixed_kept}
 use Rattle.world_keeps_streams.proofs.Requests.Sides.{Heard, Lawful, Own, below, lives_in}
 use Rattle.world_keeps_streams.proofs.Steps.Joined.{Joined, post_in}
-use Rattle.interface.proofs.lemmas.{unlike}
 
 -- ---- what waits in a mailbox did so before, where nothing went out on its flow
 

@@ -1,7 +1,6 @@
 -- Data whose sender got RFNM have arrived where they came for a receiving life.
-use Rattle.world_keeps_streams.proofs.Common.{◌≡◌, ℕ, Bool, true, false, List, [], ◌∷◌, ◌++◌, length, refl, ap, sym, subst, ◌∙◌, Seen, Host, same_host, box_of, SinceLastOut, taken_in, went_out, Flow, Crossing, HostMessage, same_flow-true, waits_with, IsLawful, Asked, Crossed, Moment, crossings_of, WorldState, Network, AreOurs}
-use Rattle.reset_law.specs.Network.{all_ours}
-use Rattle.interface.specs.Mailboxes.{Box, Empty, Fits, IsRun, Taken, Waiting, fetched, same_flow}
+use Rattle.world_keeps_streams.proofs.Common.{◌≡◌, ℕ, Bool, true, false, List, [], ◌∷◌, ◌++◌, length, refl, ap, sym, subst, ◌∙◌, Seen, Host, same_host, SinceLastOut, taken_in, went_out, Flow, Crossing, HostMessage, same_flow-true, waits_with, IsLawful, Asked, Crossed, Moment, crossings_of, WorldState, Network, AreOurs, all_ours}
+use Rattle.interface.specs.Mailboxes.{box_of, Box, Empty, Fits, IsRun, Taken, Waiting, fetched, same_flow}
 use Rattle.interface.specs.declared.crossing.Answer.TheVariants as answer
 use Rattle.interface.specs.declared.crossing.Crossing.TheVariants as crossing
 use Rattle.world_keeps_streams.specs.Answered.{AllAnswered, HasArrived}

@@ -1,6 +1,10 @@
 -- Data that are taken where they come for a receiving life whose end is open, or which no user of its host has closed, arrive there.
-use Rattle.world_keeps_streams.proofs.Common.{◌≡◌, inl, inr, ◌==◌, ◌&&◌, not, ℕ, Bool, true, false, List, [], ◌∷◌, ◌++◌, length, filter, find, drop, Option, Some, is_some, refl, ap, sym, subst, ◌∙◌, eq-eqb, eqb-true, Contains, Seen, Host, same_host, HostMessage, same_host-refl, data_bits, header_of, is_receive_socket, DataHeader, covers, Inv, some_is, waits_of, found_in, arrived_if, data_found, data_of, data_taken, is_acceptable, DeskState, desk_of, has_cls, is_link, is_mine_on, is_open, receives_on, message_taken, Entry, both, AreReceiver, HasReceiver, IsReceiver, HasClosed, name_now, numbered, receiver_now, accept_same, bits_there, closed_first, accepted, turn_of, NcpState, pair_with, HaveAddresses, IsLawful, Crossed, Moment, events_of, places, program, crossings_of, WorldState, program_own, HasOpenEnd, mail_below, Arrives, ComesFor, own_calls, Happened, Network, AreOurs}
-use Rattle.reset_law.specs.Network.{all_ours}
+use Rattle.world_keeps_streams.proofs.Common.{◌≡◌, inl, inr, ◌==◌, ◌&&◌, not, ℕ, Bool, true, false, List, [], ◌∷◌, ◌++◌, length, filter, find, drop, Option, Some, is_some, refl, ap, sym, subst, ◌∙◌, eq-eqb, eqb-true, Contains, Seen, Host, same_host, HostMessage, data_bits, header_of, is_receive_socket, DataHeader, covers, arrived_if, data_found, data_of, data_taken, is_acceptable, DeskState, desk_of, has_cls, is_link, is_mine_on, is_open, receives_on, message_taken, Entry, both, AreReceiver, HasReceiver, IsReceiver, HasClosed, name_now, numbered, receiver_now, accepted, turn_of, NcpState, pair_with, HaveAddresses, IsLawful, Crossed, Moment, events_of, places, program, crossings_of, WorldState, program_own, HasOpenEnd, mail_below, own_calls, Happened, Network, AreOurs, all_ours}
+use Rattle.interface.proofs.lemmas.{same_host-refl, unlike}
+use Rattle.stream_law.proofs.lemmas.{Inv, some_is, waits_of, acceptable}
+use Rattle.host_pairs.specs.Commands.{found_in, Found}
+use Rattle.host_keeps_streams.proofs.lemmas.{accept_same, bits_there, closed_first, first_is, open_found, open_same}
+use Rattle.world_keeps_streams.specs.Arrivals.{Arrives, ComesFor, AllArrive, IsUnclosed}
 use Rattle.interface.specs.Mailboxes as mail
 use Rattle.interface.specs.declared.crossing.Crossing.TheVariants as crossing
 use Rattle.interface.specs.declared.crossing.Inbound.TheVariants as inbound
@@ -9,15 +13,11 @@ use Rattle.stream_law.specs.Receivers as receivers
 use Rattle.stream_law.specs.Receivers.{Receiver}
 use Rattle.stream_law.specs.Streams.{Waiting}
 use Rattle.stream_law.specs.Senders.{Sender}
-use Rattle.stream_law.proofs.lemmas.{acceptable}
-use Rattle.host_pairs.specs.Commands.{Found}
 use Rattle.ncp_control.specs.Phases as phases
 use Rattle.host_pairs.specs.declared.notice.Notice.TheVariants as notice
-use Rattle.host_keeps_streams.proofs.lemmas.{first_is, open_found, open_same}
 use Rattle.reset_law.specs.Stays as stay
 use Rattle.promise.specs.Safe.{receives}
 use Rattle.promise.specs.declared.life.Life.{Life}
-use Rattle.world_keeps_streams.specs.Arrivals.{AllArrive, IsUnclosed}
 use Rattle.world_keeps_streams.proofs.Books.Lies.{Boxed, lies_there}
 use Rattle.world_keeps_streams.proofs.Deeds.Effects.{Among, among_filter, among_kept}
 use Rattle.world_keeps_streams.proofs.Lives.Left.{over_when_left}
@@ -26,7 +26,6 @@ use Rattle.world_keeps_streams.proofs.Moments.In.{notices_there}
 use Rattle.world_keeps_streams.proofs.Requests.Sides.{Lawful, lives_in, below, book_lawful}
 use Rattle.world_keeps_streams.proofs.Steps.JoinedAll.{joined}
 use Rattle.world_keeps_streams.proofs.Steps.Streams.{has_receiver}
-use Rattle.interface.proofs.lemmas.{unlike}
 use Rattle.world_keeps_streams.proofs.Ours.{held}
 
 -- ---- the one end on a link

@@ -1,12 +1,14 @@
 -- A sending life that isn't over where the receiving life has taken its CLS, then or later, closed first: its CLS has gone out, and it has taken none.
-use Rattle.world_keeps_streams.proofs.Common.{◌≡◌, inl, inr, ℕ, ◌+◌, ◌<◌, ◌≤◌, ◌&&◌, ◌==◌, Bool, true, false, List, [], ◌∷◌, ◌++◌, length, Option, Some, None, refl, ap, sym, subst, ◌∙◌, arith, eqb-true, length-append, Contains, Host, Crossing, is_send_socket, entry_at, has_cls, is_sent, Closing, Entry, both, gone_now, counted, has_heard, Sockets, receiver, sender, Asks, Mark, placed_event, Side, Joined, asks_said, count, place, begins_either, NcpState, pair_with, Match, Name, control_flow, last_out, Moment, event_in, events_of, program, crossings_of, Coupled, place_same, ClosesFirst, HasOpenEnd, law_events, origin_in, place_or, steps, Tie, all_says, all_tied, are_origins, at_texts, receiver_half, served_in, own_calls, IsClosedByPartner, Network, AreOurs}
+use Rattle.world_keeps_streams.proofs.Common.{◌≡◌, inl, inr, ℕ, ◌+◌, ◌<◌, ◌≤◌, ◌&&◌, ◌==◌, Bool, true, false, List, [], ◌∷◌, ◌++◌, length, Option, Some, None, refl, ap, sym, subst, ◌∙◌, arith, eqb-true, length-append, Contains, Host, Crossing, is_send_socket, entry_at, has_cls, is_sent, Closing, Entry, both, gone_now, counted, has_heard, placed_event, Side, Joined, asks_said, count, closes_said, begins_either, NcpState, pair_with, Moment, event_in, events_of, program, crossings_of, Coupled, place_same, HasOpenEnd, law_events, origin_in, place_or, steps, own_calls, IsClosedByPartner, Network, AreOurs}
+use Rattle.pairing_law.specs.Links.{Sockets, receiver, sender, Receiver, Sender}
+use Rattle.pairing_law.specs.Marks.{Asks, Mark, closes}
+use Rattle.reset_law.specs.Events.{place}
+use Rattle.promise.specs.Safe.{Match, Name, control_flow, last_out, before, named, sends}
+use Rattle.world_keeps_lives.specs.Drained.{ClosesFirst}
+use Rattle.world_keeps_pairing.proofs.lemmas.{Tie, all_says, all_tied, are_origins, at_texts, receiver_half, served_in, IsPair}
 use Rattle.host_pairs.specs.declared.entry.Closing.TheVariants as closing
-use Rattle.pairing_law.specs.Links.{Receiver, Sender}
-use Rattle.pairing_law.specs.Marks.{closes}
 use Rattle.reset_law.specs.Stays as stay
-use Rattle.promise.specs.Safe.{before, named, sends}
 use Rattle.promise.specs.declared.life.Life.{Life}
-use Rattle.world_keeps_pairing.proofs.lemmas.{IsPair}
 use Rattle.world_keeps_streams.proofs.Deeds.Effects.{Among}
 use Rattle.world_keeps_streams.proofs.Heard.Run.{heard_closes}
 use Rattle.world_keeps_streams.proofs.Lives.Left.{found_tied}
@@ -23,7 +25,6 @@ use Rattle.world_keeps_streams.proofs.Books.Given.{counts}
 use Rattle.world_keeps_streams.proofs.Books.Later.{one_number}
 use Rattle.world_keeps_streams.proofs.Books.Parted.{grows_by, said_now}
 use Rattle.world_keeps_streams.proofs.Books.Unasked.{asked_by, of_event, own_below, said_new}
-use Rattle.pairing_law.proofs.lemmas.{closes_said}
 use Rattle.world_keeps_streams.proofs.Ours.{live, ours_of}
 
 pub sent_cls : (c : Closing) → is_sent c ≡ true → has_cls c ≡ true

@@ -1,8 +1,6 @@
 -- The clauses of a safe book that are about two hosts: what was taken has a source, and what was sent is granted.
-use Rattle.world_keeps_streams.proofs.Common.{◌≡◌, ◌⊎◌, inl, inr, ℕ, ◌+◌, ◌≤◌, Bool, true, List, [], length, take, drop, refl, ap, sym, subst, ◌∙◌, arith, Contains, Seen, Host, Crossing, IsLawful, IsGranted, Match, Source, own_request, Moment, crossings_of, WorldState, Coupled, book_lives, served_in, Network, AreOurs, program}
-use Rattle.std.proofs.lemmas.Option.{same_Some}
-use Rattle.reset_law.specs.Network.{all_ours}
-use Rattle.promise.specs.Safe.{AreTwo, receives}
+use Rattle.world_keeps_streams.proofs.Common.{◌≡◌, ◌⊎◌, inl, inr, ℕ, ◌+◌, ◌≤◌, Bool, true, List, [], length, take, drop, refl, ap, sym, subst, ◌∙◌, arith, Contains, Seen, Host, Crossing, IsLawful, Moment, program, crossings_of, WorldState, Coupled, book_lives, served_in, Network, AreOurs, all_ours, same_Some}
+use Rattle.promise.specs.Safe.{IsGranted, Match, Source, own_request, AreTwo, receives}
 use Rattle.promise.specs.declared.life.Life.{Life}
 use Rattle.net_sim.specs.Told.{kept_in}
 use Rattle.world_keeps_lives.proofs.lemmas.{safe_life}

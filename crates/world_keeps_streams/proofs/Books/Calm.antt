@@ -1,13 +1,15 @@
 -- Lives whose hosts have nothing left to do agree.
-use Rattle.world_keeps_streams.proofs.Common.{◌≡◌, ℕ, ◌==◌, true, false, List, [], Option, Some, None, is_some, refl, ap, sym, subst, ◌∙◌, eqb-true, Seen, Host, is_receive_socket, is_busy, is_mine_on, is_open, is_receiving, was_closed, next_of, sendable, Entry, both, boxes, kind_in, pair, sound_run, stays_ready, pair_with, next_in, IsLawful, Agrees, Moment, events_of, program, crossings_of, seen_box, WorldState, box_same, story_agrees, send_odd, Agree, AreAtRest, AreSilent, NoneOut, NoneWaits, Network, AreOurs, ◌++◌, Contains, Match, HasOpenEnd, NcpState}
-use Rattle.reset_law.specs.Network.{all_ours}
+use Rattle.world_keeps_streams.proofs.Common.{◌≡◌, ℕ, ◌==◌, true, false, List, [], Option, Some, None, is_some, refl, ap, sym, subst, ◌∙◌, ◌++◌, eqb-true, Seen, Host, is_receive_socket, is_busy, is_mine_on, is_open, is_receiving, was_closed, Entry, both, boxes, kind_in, pair, pair_with, NcpState, IsLawful, Agrees, Moment, events_of, program, crossings_of, seen_box, WorldState, send_odd, Network, AreOurs, all_ours, Contains, Match, HasOpenEnd, linked_end}
+use Rattle.host_pairs.specs.Parcels.{next_of, sendable}
+use Rattle.reset_law.proofs.lemmas.{sound_run, stays_ready, ready_phase}
+use Rattle.sockets.specs.Sending.{next_in, next_out}
+use Rattle.net_sim.proofs.lemmas.{box_same, story_agrees}
+use Rattle.world_keeps_streams.specs.Rests.{Agree, AreAtRest, AreSilent, NoneOut, NoneWaits, AllCalm, AreCalm, AreOpen}
 use Rattle.interface.specs.Mailboxes as mail
 use Rattle.ncp_control.specs.Phases as program_phases
 use Rattle.reset_law.specs.Stays as stay
-use Rattle.sockets.specs.Sending.{next_out}
 use Rattle.net_sim.specs.Told.{kept_in}
 use Rattle.promise.specs.declared.life.Life.{Life}
-use Rattle.world_keeps_streams.specs.Rests.{AllCalm, AreCalm, AreOpen}
 use Rattle.world_keeps_streams.proofs.Books.Agree.{settled}
 use Rattle.world_keeps_streams.proofs.Books.Arrives.{end_at, rest_lawful, stays_of}
 use Rattle.world_keeps_streams.proofs.Books.Closes.{AtLink, rests}
@@ -19,10 +21,8 @@ use Rattle.world_keeps_streams.proofs.Requests.Sides.{Lawful, coupled_in, book_l
 use Rattle.world_keeps_streams.proofs.Stays.Resets.{up_ready}
 use Rattle.world_keeps_streams.proofs.Tidy.Mute.{none_in, none_next, none_queued, not_busy, nothing_goes}
 use Rattle.world_keeps_streams.proofs.Calls.Chain.{ready_both}
-use Rattle.reset_law.proofs.lemmas.{ready_phase}
 use Rattle.world_keeps_streams.proofs.Ours.{ours_sender}
 use Rattle.world_keeps_streams.proofs.Lives.Among.{among_now}
-use Rattle.world_keeps_lives.proofs.lemmas.Books.{linked_end}
 
 -- ---- a program that has nothing to say
 

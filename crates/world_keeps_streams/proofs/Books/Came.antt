@@ -1,11 +1,9 @@
 -- Where the end of a receiving life has taken its partner's CLS, all that its partner sent has come in; and it sends nothing more.
-use Rattle.world_keeps_streams.proofs.Common.{◌≡◌, ◌⊎◌, inl, inr, ℕ, zero, suc, ◌+◌, ◌≤◌, ◌==◌, Bool, true, false, List, [], ◌∷◌, ◌++◌, length, map, Option, Some, None, refl, ap, sym, subst, ◌∙◌, eq-eqb, arith, Contains, Seen, Host, Crossing, is_receive_socket, IsSafe, came_inv, safe_inv, numbered, receiver_now, Match, Name, control_flow, last_out, own_request, partner_request, IsLawful, Moment, crossings_of, WorldState, texts_for, own_calls, HasTakenCls, Network, AreOurs}
-use Rattle.reset_law.specs.Network.{all_ours}
-use Rattle.std.proofs.lemmas.Option.{same_Some}
+use Rattle.world_keeps_streams.proofs.Common.{◌≡◌, ◌⊎◌, inl, inr, ℕ, zero, suc, ◌+◌, ◌≤◌, ◌==◌, Bool, true, false, List, [], ◌∷◌, ◌++◌, length, map, Option, Some, None, refl, ap, sym, subst, ◌∙◌, eq-eqb, arith, Contains, Seen, Host, Crossing, is_receive_socket, IsSafe, came_inv, safe_inv, numbered, receiver_now, IsLawful, Moment, crossings_of, WorldState, texts_for, own_calls, Network, AreOurs, all_ours, same_Some}
+use Rattle.promise.specs.Safe.{Match, Name, control_flow, last_out, own_request, partner_request, before, named, receives}
+use Rattle.world_keeps_streams.specs.Came.{HasTakenCls, HadTakenCls, AllCame, CameAll}
 use Rattle.stream_law.specs.Receivers.{Receiver}
-use Rattle.promise.specs.Safe.{before, named, receives}
 use Rattle.promise.specs.declared.life.Life.{Life}
-use Rattle.world_keeps_streams.specs.Came.{HadTakenCls, AllCame, CameAll}
 use Rattle.world_keeps_streams.proofs.Books.All.{all_given}
 use Rattle.world_keeps_streams.proofs.Books.Arrives.{rest_lawful}
 use Rattle.world_keeps_streams.proofs.Books.Books.{one_own}

@@ -1,6 +1,12 @@
 -- As many messages came in on the link of a receiving life that isn't over, after both its requests, as the law counts in its connection.
-use Rattle.world_keeps_streams.proofs.Common.{◌≡◌, ◌⊎◌, inl, inr, ℕ, zero, suc, ◌+◌, ◌<◌, ◌≤◌, ◌==◌, Bool, false, if◌then◌else◌, List, [], ◌∷◌, ◌++◌, length, map, Option, Some, refl, ap, sym, subst, ◌∙◌, eq-eqb, arith, eqb-true, length-append, Host, same_host, Flow, HostMessage, same_flow-refl, same_flow-true, same_host-refl, header_of, is_receive_socket, DataHeader, IsSafe, safe_inv, waiting_of, waits_of, all_received, Takes, gone_now, name_now, numbered, receiver_now, data_received, numbered_tells, Fresh, begins_fresh, stays_ready, pair_with, texts_for, texts_of, Name, own_request, Asked, Crossed, Moment, event_in, events_of, program, crossings_of, texts_one, keeps, mail_below, calls_by, own_calls, Network, AreOurs, Contains}
-use Rattle.std.proofs.Common.{max, true}
+use Rattle.world_keeps_streams.proofs.Common.{eqb-true, length-append, Host, same_host, Flow, HostMessage, header_of, is_receive_socket, DataHeader, IsSafe, safe_inv, waiting_of, waits_of, all_received, Takes, gone_now, name_now, numbered, receiver_now, numbered_tells, Fresh, begins_fresh, stays_ready, pair_with, Asked, Crossed, Moment, event_in, events_of, program, crossings_of, keeps, mail_below, Network, AreOurs, Contains}
+use Rattle.std.proofs.Common.{◌≡◌, ◌⊎◌, inl, inr, ℕ, zero, suc, ◌+◌, ◌<◌, ◌≤◌, ◌==◌, Bool, false, if◌then◌else◌, List, [], ◌∷◌, ◌++◌, length, map, Option, Some, refl, ap, sym, subst, ◌∙◌, eq-eqb, arith, max, true}
+use Rattle.interface.proofs.lemmas.{same_flow-refl, same_flow-true, same_host-refl, unlike}
+use Rattle.host_keeps_streams.specs.Moves.{data_received}
+use Rattle.promise.specs.Formed.{texts_for, texts_of, flow_of}
+use Rattle.promise.specs.Safe.{Name, own_request, receives}
+use Rattle.world_keeps_lives.proofs.lemmas.{texts_one, WasAt, texts_none, texts_same}
+use Rattle.world_keeps_streams.specs.Calls.{calls_by, own_calls, called}
 use Rattle.std.proofs.Math.Nat.{max-le}
 use Rattle.interface.specs.Flow.{same_flow}
 use Rattle.interface.specs.declared.crossing.Crossing.TheVariants as crossing
@@ -10,13 +16,9 @@ use Rattle.stream_law.specs.Receivers.{Receiver}
 use Rattle.stream_law.specs.Streams.{Box}
 use Rattle.host_keeps_streams.specs.Histories as calls
 use Rattle.reset_law.specs.Stays as stay
-use Rattle.promise.specs.Formed.{flow_of}
-use Rattle.promise.specs.Safe.{receives}
 use Rattle.promise.specs.declared.life.Life.{Life}
 use Rattle.world_keeps_lives.specs.Firsts.{begun}
 use Rattle.world_keeps_lives.proofs.lemmas.Books as books
-use Rattle.world_keeps_lives.proofs.lemmas.{WasAt, texts_none, texts_same}
-use Rattle.world_keeps_streams.specs.Calls.{called}
 use Rattle.world_keeps_streams.proofs.Books.All.{all_given}
 use Rattle.world_keeps_streams.proofs.Books.Books.{one_own}
 use Rattle.world_keeps_streams.proofs.Books.Closes as closes
@@ -36,7 +38,6 @@ use Rattle.world_keeps_streams.proofs.Steps.Joined.{Joined}
 use Rattle.world_keeps_streams.proofs.Steps.JoinedAll.{joined}
 use Rattle.world_keeps_streams.proofs.Calls.Chain.{ready_both}
 use Rattle.world_keeps_streams.proofs.Facts.{no_zero}
-use Rattle.interface.proofs.lemmas.{unlike}
 use Rattle.world_keeps_streams.proofs.Ours.{ours_of}
 use Rattle.world_keeps_streams.proofs.Lives.Among.{among_now, now_kept}
 

@@ -1,8 +1,8 @@
 -- Of all lives of a book: what was taken has a source, and what was sent is granted.
-use Rattle.world_keeps_streams.proofs.Common.{◌≡◌, ◌⊎◌, inl, inr, ℕ, ◌≤◌, Bool, true, false, List, [], ◌∷◌, length, map, take, refl, ap, sym, subst, ◌∙◌, arith, Host, is_receive_socket, is_send_socket, Fresh, begins_fresh, IsGranted, Match, Moment, Crossed, Asked, event_in, events_of, crossings_of, Network, AreOurs}
+use Rattle.world_keeps_streams.proofs.Common.{◌≡◌, ◌⊎◌, inl, inr, ℕ, ◌≤◌, Bool, true, false, List, [], ◌∷◌, length, map, take, refl, ap, sym, subst, ◌∙◌, arith, Host, is_receive_socket, is_send_socket, Fresh, begins_fresh, Moment, Crossed, Asked, event_in, events_of, crossings_of, Network, AreOurs}
+use Rattle.promise.specs.Safe.{IsGranted, Match, receives, sends}
 use Rattle.reset_law.specs.Stays as stay
 use Rattle.promise.specs.Safe as book
-use Rattle.promise.specs.Safe.{receives, sends}
 use Rattle.promise.specs.declared.life.Life.{Life}
 use Rattle.world_keeps_streams.proofs.Lives.Lists.{IsOf, Grown, contains, grown, of_drop, of_left, of_map, of_mapped, of_parts, of_take, take_grown}
 use Rattle.world_keeps_streams.proofs.Requests.Names.{request_grows}

@@ -1,16 +1,16 @@
 -- A receiving life that isn't over beside the law of its link; and one at rest, whose end is open, took all that its partner sent.
-use Rattle.world_keeps_streams.proofs.Common.{◌≡◌, ◌⊎◌, inl, inr, ℕ, suc, ◌+◌, ◌≤◌, ◌==◌, Bool, true, false, List, [], ◌∷◌, ◌++◌, length, filter, Some, refl, ap, sym, subst, ◌∙◌, arith, eqb-true, ne_eqb, Contains, Seen, Host, box_of, IsSafe, waiting_in, safe_inv, some_is, is_mine_on, receives_on, both, HasReceiver, IsReceiver, name_now, numbered, receiver_now, Fetched, Free, IsPosted, boxes, pair_with, IsLawful, Match, Moment, events_of, program, crossings_of, seen_box, WorldState, box_same, HasOpenEnd, open_parts, own_calls, AreAtRest, Network, AreOurs}
-use Rattle.std.proofs.Common.{append-nil}
-use Rattle.reset_law.specs.Network.{all_ours}
+use Rattle.world_keeps_streams.proofs.Common.{Contains, Seen, Host, box_of, IsSafe, waiting_in, safe_inv, some_is, is_mine_on, receives_on, both, HasReceiver, IsReceiver, name_now, numbered, receiver_now, Fetched, Free, IsPosted, boxes, pair_with, IsLawful, Moment, events_of, program, crossings_of, seen_box, WorldState, HasOpenEnd, open_parts, own_calls, Network, AreOurs, all_ours}
+use Rattle.std.proofs.Common.{◌≡◌, ◌⊎◌, inl, inr, ℕ, suc, ◌+◌, ◌≤◌, ◌==◌, Bool, true, false, List, [], ◌∷◌, ◌++◌, length, filter, Some, refl, ap, sym, subst, ◌∙◌, arith, append-nil}
+use Rattle.std.proofs.lemmas.Bool.{eqb-true, ne_eqb}
+use Rattle.promise.specs.Safe.{Match, receives}
+use Rattle.net_sim.proofs.lemmas.{box_same, flow_of}
+use Rattle.world_keeps_streams.specs.Rests.{AreAtRest, AllRest}
 use Rattle.interface.specs.Mailboxes as mail
 use Rattle.stream_law.specs.Receivers.{Receiver}
 use Rattle.stream_law.specs.Streams.{Box, Empty, Waiting, Taken}
 use Rattle.reset_law.specs.Boxes as reset
 use Rattle.reset_law.specs.Stays as stay
-use Rattle.promise.specs.Safe.{receives}
 use Rattle.promise.specs.declared.life.Life.{Life}
-use Rattle.net_sim.proofs.lemmas.{flow_of}
-use Rattle.world_keeps_streams.specs.Rests.{AllRest}
 use Rattle.world_keeps_streams.proofs.Books.All.{all_given}
 use Rattle.world_keeps_streams.proofs.Books.Arrives.{end_at, on_link, one_end, rest_lawful, stays_of}
 use Rattle.world_keeps_streams.proofs.Books.Books.{one_receiver, one_sender}

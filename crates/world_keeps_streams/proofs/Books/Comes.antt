@@ -1,11 +1,11 @@
 -- Data of a sending life come for the receiving life that it matches.
-use Rattle.world_keeps_streams.proofs.Common.{◌≡◌, ℕ, ◌==◌, true, false, List, ◌∷◌, Some, refl, sym, subst, ◌∙◌, Seen, Host, HostMessage, some_is, is_link, numbered, numbered_tells, HaveAddresses, IsLawful, Crossed, Moment, crossings_of, WorldState, mail_below, numbered_by_peer, ComesFor, Happened, Network, AreOurs, ◌++◌}
-use Rattle.reset_law.specs.Network.{all_ours}
+use Rattle.world_keeps_streams.proofs.Common.{◌≡◌, ℕ, ◌==◌, true, false, List, ◌∷◌, Some, refl, sym, subst, ◌∙◌, ◌++◌, Seen, Host, HostMessage, some_is, is_link, numbered, HaveAddresses, IsLawful, Crossed, Moment, crossings_of, WorldState, mail_below, numbered_by_peer, Happened, Network, AreOurs, all_ours, linked_end}
+use Rattle.host_keeps_streams.proofs.lemmas.{numbered_tells, link_is}
+use Rattle.world_keeps_streams.specs.Arrivals.{ComesFor, AllCome, ComesBetween}
 use Rattle.interface.specs.Mailboxes as mail
 use Rattle.interface.specs.declared.crossing.Crossing.TheVariants as crossing
 use Rattle.pair_keeps_streams.proofs.lemmas.{linked_waiting}
 use Rattle.promise.specs.declared.life.Life.{Life}
-use Rattle.world_keeps_streams.specs.Arrivals.{AllCome, ComesBetween}
 use Rattle.world_keeps_streams.proofs.Books.Arrives.{rest_lawful}
 use Rattle.world_keeps_streams.proofs.Books.Closes.{AtLink}
 use Rattle.world_keeps_streams.proofs.Books.Firsts.{together}
@@ -15,10 +15,8 @@ use Rattle.world_keeps_streams.proofs.Books.One.{HasPartner}
 use Rattle.world_keeps_streams.proofs.Requests.Sides.{Lawful, book_lawful}
 use Rattle.world_keeps_streams.proofs.Steps.Joined.{Joined, party, turned_tells}
 use Rattle.world_keeps_streams.proofs.Steps.JoinedAll.{joined}
-use Rattle.host_keeps_streams.proofs.lemmas.{link_is}
 use Rattle.world_keeps_streams.proofs.Ours.{ours_sender}
 use Rattle.world_keeps_streams.proofs.Lives.Among.{among_now}
-use Rattle.world_keeps_lives.proofs.lemmas.Books.{linked_end}
 
 module _ (hosts : Network) (addresses : HaveAddresses hosts.all) (m : HostMessage) (ms : List Moment)
     (run : mail.IsRun hosts.all (crossings_of (Crossed (crossing.In m) ∷ ms)))

@@ -1,8 +1,9 @@
 -- How many CLS a host has said and heard of a connection, by the end that it has of it.
-use Rattle.world_keeps_streams.proofs.Common.{◌≡◌, ℕ, ◌+◌, ◌≤◌, ◌&&◌, Bool, true, false, List, refl, ap, ◌∙◌, arith, Host, is_sent, Entry, end_of, is_past, standing, End, Sockets, Who, Mark, Side, Half, count, stays_same, pair_with, Moment, events_of, program, crossings_of, law_events, origin_in, Tie, at_texts, foreign_of, half, other, own_of, Network}
-use Rattle.pairing_law.specs.Marks.{closes}
+use Rattle.world_keeps_streams.proofs.Common.{◌≡◌, ℕ, ◌+◌, ◌≤◌, ◌&&◌, Bool, true, false, List, refl, ap, ◌∙◌, arith, Host, is_sent, Entry, end_of, is_past, standing, End, Sockets, Who, Side, pair_with, Moment, events_of, program, crossings_of, law_events, origin_in, Network}
+use Rattle.pairing_law.specs.Marks.{Mark, closes}
+use Rattle.pairing_law.proofs.lemmas.{Half, count, stays_same}
+use Rattle.world_keeps_pairing.proofs.lemmas.{Tie, at_texts, foreign_of, half, other, own_of, IsPair}
 use Rattle.reset_law.specs.Stays as stay
-use Rattle.world_keeps_pairing.proofs.lemmas.{IsPair}
 use Rattle.world_keeps_streams.proofs.Deeds.Effects.{Among}
 use Rattle.world_keeps_streams.proofs.Lives.Left.{entry_end}
 use Rattle.world_keeps_streams.proofs.Requests.Now.{side_stays}

@@ -1,13 +1,13 @@
 -- A sending life whose CLS its partner has taken, and whose partner has said none, isn't over while its host stays: so it is there, or it was at the last
 -- moment before its host left.
-use Rattle.world_keeps_streams.proofs.Common.{◌≡◌, inl, inr, ℕ, suc, ◌+◌, ◌<◌, ◌≤◌, ◌&&◌, ◌||◌, not, if◌then◌else◌, Bool, true, false, List, [], ◌∷◌, ◌++◌, refl, ap, sym, subst, ◌∙◌, arith, Contains, Host, Crossing, is_receive_socket, is_send_socket, entry_at, gone_now, counted, has_heard, heard_from, Sockets, Who, receiver, sender, Asks, Mark, IsIn, Side, Joined, Stands, Stood, asks_once, asks_said, every_in, from_asks, begins_either, pair_with, life_ended, Asked, Crossed, Moment, event_in, events_of, program, crossings_of, Coupled, law_events, origin_in, life_of, openings, steps, even_odd, foreign_of, own_of, sender_half, served_in, own_calls, Network, AreOurs}
-use Rattle.pairing_law.specs.Links.{Receiver, Sender}
-use Rattle.pairing_law.specs.Marks.{closes}
+use Rattle.world_keeps_streams.proofs.Common.{◌≡◌, inl, inr, ℕ, suc, ◌+◌, ◌<◌, ◌≤◌, ◌&&◌, ◌||◌, not, if◌then◌else◌, Bool, true, false, List, [], ◌∷◌, ◌++◌, refl, ap, sym, subst, ◌∙◌, arith, Contains, Host, Crossing, is_receive_socket, is_send_socket, entry_at, gone_now, counted, has_heard, heard_from, IsIn, Side, Joined, Stands, Stood, asks_once, asks_said, every_in, from_asks, closes_said, begins_either, pair_with, life_ended, Asked, Crossed, Moment, event_in, events_of, program, crossings_of, Coupled, law_events, origin_in, life_of, openings, steps, own_calls, Network, AreOurs}
+use Rattle.pairing_law.specs.Links.{Sockets, Who, receiver, sender, Receiver, Sender}
+use Rattle.pairing_law.specs.Marks.{Asks, Mark, closes}
+use Rattle.world_keeps_pairing.proofs.lemmas.{even_odd, foreign_of, own_of, sender_half, served_in, IsPair}
 use Rattle.pairing_law.specs.Sides as law
 use Rattle.reset_law.specs.Stays as stay
 use Rattle.promise.specs.Safe.{sends}
 use Rattle.promise.specs.declared.life.Life.{Life}
-use Rattle.world_keeps_pairing.proofs.lemmas.{IsPair}
 use Rattle.world_keeps_streams.proofs.Books.All.{all_given}
 use Rattle.world_keeps_streams.proofs.Books.Arrives.{rest_lawful}
 use Rattle.world_keeps_streams.proofs.Books.Counts.{side_of}
@@ -21,7 +21,6 @@ use Rattle.world_keeps_streams.proofs.Lives.Lists.{IsOf, Named, contains, named_
 use Rattle.world_keeps_streams.proofs.Requests.Names.{origin_grows}
 use Rattle.world_keeps_streams.proofs.Requests.Now.{joined_halves}
 use Rattle.world_keeps_streams.proofs.Requests.Sides.{Heard, Lawful, Own, coupled_in, law_joined, lives_in, own_on, below}
-use Rattle.pairing_law.proofs.lemmas.{closes_said}
 use Rattle.world_keeps_streams.proofs.Lives.Among.{life_in}
 use Rattle.world_keeps_streams.proofs.Ours.{ours_of}
 

@@ -1,17 +1,18 @@
 -- A receiving life that ended by CLS was closed by its partner: an open one is of a connection that no user has closed, and where its end goes, the sender's
 -- CLS was heard before.
-use Rattle.world_keeps_streams.proofs.Common.{◌≡◌, ◌⊎◌, inl, inr, ℕ, suc, ◌≤◌, ◌==◌, Bool, true, false, if◌then◌else◌, List, ◌∷◌, ◌++◌, map, drop, filter, Some, None, refl, ap, sym, subst, ◌∙◌, arith, eqb-true, Host, or_false, is_receive_socket, is_send_socket, Inv, some_is, has_cls, is_ending, is_mine_on, receives_on, Entry, both, AreReceiver, AreAllowed, HasClosed, IsHistory, gone_now, name_now, numbered, receiver_now, closed_first, numbered_tells, pair_with, begins_fresh, IsBeside, own_request, Fate, Asked, Moment, event_in, events_of, program, host_in, notices_by, Coupled, kept_fated, HasOpenEnd, keeps, served_in, calls_by, own_calls, IsClosedByPartner, WasClosedByPartner, Network, AreOurs}
-use Rattle.std.proofs.Common.{[]}
+use Rattle.world_keeps_streams.proofs.Common.{eqb-true, Host, is_receive_socket, is_send_socket, Inv, some_is, has_cls, is_ending, is_mine_on, receives_on, Entry, both, AreReceiver, AreAllowed, HasClosed, IsHistory, gone_now, name_now, numbered, receiver_now, closed_first, numbered_tells, pair_with, begins_fresh, Fate, Asked, Moment, event_in, events_of, program, Coupled, kept_fated, HasOpenEnd, keeps, served_in, other_sends, calls_by, own_calls, IsClosedByPartner, WasClosedByPartner, Network, AreOurs}
+use Rattle.std.proofs.Common.{◌≡◌, ◌⊎◌, inl, inr, ℕ, suc, ◌≤◌, ◌==◌, Bool, true, false, if◌then◌else◌, List, ◌∷◌, ◌++◌, map, drop, filter, Some, None, refl, ap, sym, subst, ◌∙◌, arith, []}
+use Rattle.interface.proofs.lemmas.{or_false, unlike}
+use Rattle.promise.specs.Fates.{IsBeside, is_over}
+use Rattle.promise.specs.Safe.{own_request, receives}
+use Rattle.net_sim.specs.Told.{host_in, notices_by, kept_in}
 use Rattle.stream_law.specs.Receivers.{Receiver}
 use Rattle.host_keeps_streams.specs.Histories as calls
 use Rattle.reset_law.specs.Stays as stay
 use Rattle.sockets.specs.Requests.{served_notices}
 use Rattle.sockets.specs.declared.request.Request.TheVariants as request
-use Rattle.promise.specs.Fates.{is_over}
-use Rattle.promise.specs.Safe.{receives}
 use Rattle.promise.specs.declared.life.Fate.TheVariants as fate
 use Rattle.promise.specs.declared.life.Life.{Life}
-use Rattle.net_sim.specs.Told.{kept_in}
 use Rattle.world_keeps_streams.proofs.Calls.Chain.{chain}
 use Rattle.world_keeps_streams.proofs.Deeds.Effects.{Among, among_filter}
 use Rattle.world_keeps_streams.proofs.Lives.Fates.{Came, IsBegun, IsClose, Moved, TellsEnd, TellsOpening, beside_of, beside_over, came}
@@ -37,8 +38,6 @@ use Rattle.world_keeps_streams.proofs.Books.Later.{named_request}
 use Rattle.world_keeps_streams.proofs.Books.Run.{whole}
 use Rattle.world_keeps_streams.proofs.Books.Whole.{GoesOn, PresentR, Receives, Whole, present_in, since}
 use Rattle.world_keeps_streams.proofs.Facts.{no_zero, own_if}
-use Rattle.interface.proofs.lemmas.{unlike}
-use Rattle.world_keeps_pairing.proofs.lemmas.{other_sends}
 use Rattle.world_keeps_streams.proofs.Lives.Among.{life_paired}
 use Rattle.world_keeps_streams.proofs.Ours.{live, ours_of}
 

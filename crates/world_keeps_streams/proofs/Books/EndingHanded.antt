@@ -1,7 +1,6 @@
 -- A receiving life that ended by CLS took all that its partner sent, and all that was handed over there.
-use Rattle.world_keeps_streams.proofs.Common.{List, sym, subst, Seen, Host, Crossing, Kept, IsLawful, Moment, crossings_of, WorldState, Network, ◌≡◌, AreOurs, Contains, IsBeside, Match, refl}
-use Rattle.reset_law.specs.Network.{all_ours}
-use Rattle.promise.specs.Fates.{ClosesWhole}
+use Rattle.world_keeps_streams.proofs.Common.{List, sym, subst, ◌≡◌, refl, Seen, Host, Crossing, Kept, IsLawful, Moment, crossings_of, WorldState, Network, AreOurs, all_ours, Contains, Match}
+use Rattle.promise.specs.Fates.{IsBeside, ClosesWhole}
 use Rattle.promise.specs.declared.life.Fate.TheVariants as fate
 use Rattle.promise.specs.declared.life.Life.{Life}
 use Rattle.net_sim.specs.Told.{kept_in}

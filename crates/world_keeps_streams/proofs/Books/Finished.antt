@@ -1,11 +1,10 @@
 -- What was sent to a receiving life when its end had taken its partner's CLS stays all that is sent to it, whatever becomes of both lives later.
-use Rattle.world_keeps_streams.proofs.Common.{◌≡◌, ◌⊎◌, inl, inr, ℕ, suc, ◌+◌, ◌≤◌, ◌==◌, Bool, true, false, List, [], ◌∷◌, ◌++◌, length, map, take, drop, Some, refl, ap, sym, subst, ◌∙◌, arith, eqb-true, Host, IsSafe, safe_inv, numbered, receiver_now, sender_now, numbered_tells, Fresh, begins_either, Match, Name, own_request, Moment, event_in, events_of, crossings_of, keeps, calls_by, own_calls, Network, AreOurs}
-use Rattle.std.proofs.lemmas.Option.{same_Some}
+use Rattle.world_keeps_streams.proofs.Common.{◌≡◌, ◌⊎◌, inl, inr, ℕ, suc, ◌+◌, ◌≤◌, ◌==◌, Bool, true, false, List, [], ◌∷◌, ◌++◌, length, map, take, drop, Some, refl, ap, sym, subst, ◌∙◌, arith, eqb-true, Host, IsSafe, safe_inv, numbered, receiver_now, sender_now, numbered_tells, Fresh, begins_either, Moment, event_in, events_of, crossings_of, keeps, calls_by, own_calls, Network, AreOurs, same_Some}
+use Rattle.promise.specs.Safe.{Match, Name, own_request, receives}
 use Rattle.stream_law.specs.Receivers.{Receiver}
 use Rattle.stream_law.specs.Senders.{Sender}
 use Rattle.host_keeps_streams.specs.Histories as calls
 use Rattle.reset_law.specs.Stays as stay
-use Rattle.promise.specs.Safe.{receives}
 use Rattle.promise.specs.declared.life.Life.{Life}
 use Rattle.world_keeps_streams.proofs.Books.All.{all_given}
 use Rattle.world_keeps_streams.proofs.Books.Books.{one_own, one_sender}

@@ -1,17 +1,13 @@
 -- Each life is made of the first messages on its link: what two programs do together to make it so.
-use Rattle.world_keeps_streams.proofs.Common.{◌≡◌, inl, inr, ℕ, ◌==◌, true, false, List, [], ◌∷◌, drop, filter, refl, sym, subst, ◌∙◌, Contains, Seen, Host, Crossing, is_open, sends_on, Entry, name_now, numbered, sender_now, IsSending, pair_with, IsLawful, Moment, program, crossings_of, WorldState, LinkedBook, book_lives, own_calls, Network, AreOurs, CrossedAt, HostMessage}
+use Rattle.world_keeps_streams.proofs.Common.{◌≡◌, inl, inr, ℕ, ◌==◌, true, false, List, [], ◌∷◌, drop, filter, refl, sym, subst, ◌∙◌, Contains, Seen, Host, Crossing, is_open, sends_on, Entry, name_now, numbered, sender_now, IsSending, pair_with, IsLawful, Moment, program, crossings_of, WorldState, book_lives, own_calls, Network, AreOurs, all_ours, HostMessage, AreSender, lives_among, mixed_kept, among_all}
+use Rattle.world_keeps_lives.proofs.lemmas.{LinkedBook, HasOwner, Together}
+use Rattle.promise.specs.Formed.{CrossedAt, FormedBook}
 use Rattle.stream_law.specs.Senders.{Sender}
-use Rattle.host_keeps_streams.specs.Ends.{AreSender}
-use Rattle.promise.specs.Formed.{FormedBook}
 use Rattle.interface.specs.declared.crossing.Crossing.TheVariants as crossing
-use Rattle.reset_law.specs.Network.{all_ours}
-use Rattle.net_sim.specs.Among.{lives_among}
-use Rattle.net_sim.specs.Mixed.{mixed_kept}
 use Rattle.promise.specs.declared.life.Life.{Life}
 use Rattle.world_keeps_lives.specs.Firsts.{AreApart, FirstBook, IsSentIn}
 use Rattle.world_keeps_lives.proofs.lemmas.Books.{linked_book}
 use Rattle.world_keeps_lives.proofs.lemmas.Formed.{apart_book, formed_book, sent_book}
-use Rattle.world_keeps_lives.proofs.lemmas.{HasOwner, Together}
 use Rattle.world_keeps_streams.proofs.Books.Arrives.{arrives}
 use Rattle.world_keeps_streams.proofs.Carried.Calls.{Carries, recent, since}
 use Rattle.world_keeps_streams.proofs.Carried.Step.{LifeFor}
@@ -24,7 +20,6 @@ use Rattle.world_keeps_streams.proofs.Lives.Present.{from_among}
 use Rattle.world_keeps_streams.proofs.Lives.Opened.{contains_among}
 use Rattle.world_keeps_streams.proofs.Ours.{ours_of}
 use Rattle.world_keeps_streams.proofs.Lives.Among.{among_now, among_same, now_kept}
-use Rattle.world_keeps_lives.proofs.lemmas.AllOurs.{among_all}
 
 -- of the ends on a link there is one that sends
 one_of : (name : ℕ → ℕ → ℕ) (xs : List Entry) (s : Sender) → AreSender name xs s → (e f : Entry) → Among e xs → Among f xs → e ≡ f

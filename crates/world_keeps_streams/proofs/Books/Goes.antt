@@ -1,5 +1,5 @@
 -- What the book has of two hosts beside their streams, moment by moment.
-use Rattle.world_keeps_streams.proofs.Common.{◌≡◌, ℕ, suc, ◌+◌, ◌≤◌, Bool, true, false, List, [], ◌∷◌, length, map, drop, if◌then◌else◌, refl, ap, sym, subst, ◌∙◌, arith, length-append, Host, Allocation, numbered, life_ended, Moment, event_in, events_of}
+use Rattle.world_keeps_streams.proofs.Common.{◌≡◌, ℕ, suc, ◌+◌, ◌≤◌, Bool, true, false, List, [], ◌∷◌, length, map, drop, if◌then◌else◌, refl, ap, sym, subst, ◌∙◌, arith, length-append, Host, Allocation, numbered, life_ended, Moment, event_in, events_of, prefix_more}
 use Rattle.reset_law.specs.Stays as stay
 use Rattle.promise.specs.Safe.{receives, sends}
 use Rattle.promise.specs.declared.life.Life.{Life}
@@ -9,7 +9,6 @@ use Rattle.world_keeps_streams.proofs.Lives.Lists.{IsOf, Grown, grown, of_drop}
 use Rattle.world_keeps_streams.proofs.Requests.Sides.{lives_in}
 use Rattle.world_keeps_streams.proofs.Books.Streams.{front_bits}
 use Rattle.world_keeps_streams.proofs.Books.Whole.{since, present_in, Away, Was, PresentR, PresentS, HasR, HasS, was_there, still_there}
-use Rattle.world_keeps_lives.proofs.lemmas.{prefix_more}
 
 map_length : (f : Life → Life) (xs : List Life) → length (map f xs) ≡ length xs
 map_length f [] = refl

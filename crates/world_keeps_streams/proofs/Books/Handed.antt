@@ -1,23 +1,20 @@
 -- A receiving life that its partner has closed, and no user of its host, took all that was handed over in the life that it matches.
-use Rattle.world_keeps_streams.proofs.Common.{◌≡◌, inl, inr, ℕ, ◌+◌, ◌≤◌, Bool, true, false, List, [], ◌∷◌, ◌++◌, map, refl, ap, sym, subst, ◌∙◌, arith, append_assoc, Contains, Seen, Host, is_send_socket, is_sent, gone_now, pair_with, IsLawful, IsBeside, Match, own_request, Moment, events_of, program, crossings_of, WorldState, ClosesFirst, HasOpenEnd, origin_in, own_calls, IsClosedByPartner, WasClosedBy, WasClosedByPartner, Network, AreOurs, Happened}
-use Rattle.net_sim.specs.Timeline.{IsTimeline}
+use Rattle.world_keeps_streams.proofs.Common.{◌≡◌, inl, inr, ℕ, ◌+◌, ◌≤◌, Bool, true, false, List, [], ◌∷◌, ◌++◌, map, refl, ap, sym, subst, ◌∙◌, arith, append_assoc, Contains, Seen, Host, is_send_socket, is_sent, gone_now, pair_with, IsLawful, IsBeside, Moment, events_of, program, WorldState, HasOpenEnd, origin_in, own_calls, Network, AreOurs, all_ours, Happened, mixed_kept, lives_among}
+use Rattle.promise.specs.Safe.{Match, own_request, AreHanded, IsPrefix, sends}
+use Rattle.net_sim.specs.Timeline.{crossings_of, IsTimeline}
+use Rattle.world_keeps_lives.specs.Drained.{ClosesFirst, AllSent, ClosedFirst, all_lives}
+use Rattle.world_keeps_streams.specs.Closes.{IsClosedByPartner, WasClosedBy, WasClosedByPartner, AllHanded, TookHanded}
 use Rattle.pairing_law.specs.Links.{Receiver}
 use Rattle.pairing_law.specs.Marks.{closes}
 use Rattle.reset_law.specs.Stays as stay
-use Rattle.promise.specs.Safe.{AreHanded, IsPrefix, sends}
 use Rattle.net_sim.specs.Told.{kept_in}
-use Rattle.reset_law.specs.Network.{all_ours}
 use Rattle.promise.specs.declared.life.Life.{Life}
-use Rattle.world_keeps_lives.specs.Drained.{AllSent, ClosedFirst, all_lives}
-use Rattle.net_sim.specs.Among.{lives_among}
-use Rattle.net_sim.specs.Mixed.{mixed_kept}
 use Rattle.world_keeps_lives.proofs.lemmas.{drained, handed_among, handed_in}
 use Rattle.world_keeps_lives.proofs.lemmas.AllOurs as given
 use Rattle.world_keeps_lives.proofs.lemmas.Drained as by_cls
 use Rattle.world_keeps_lives.proofs.lemmas.Laws as laws
 use Rattle.world_keeps_streams.proofs.Lives.Among.{among_now}
 use Rattle.world_keeps_pairing.proofs.lemmas.{IsPair}
-use Rattle.world_keeps_streams.specs.Closes.{AllHanded, TookHanded}
 use Rattle.world_keeps_streams.proofs.Deeds.Effects.{Among}
 use Rattle.world_keeps_streams.proofs.Lives.Fates.{beside_of}
 use Rattle.world_keeps_streams.proofs.Lives.Lists.{IsOf, Named, contains, grown, is_of, named_itself, of_left, of_map}

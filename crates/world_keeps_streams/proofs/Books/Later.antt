@@ -1,13 +1,11 @@
 -- A receiving life that its partner has closed, and no user of its host, has all that its partner sent, whatever becomes of both later.
-use Rattle.world_keeps_streams.proofs.Common.{◌≡◌, ◌⊎◌, inl, inr, ℕ, zero, suc, ◌+◌, ◌≤◌, Bool, true, false, List, [], ◌∷◌, ◌++◌, length, map, take, drop, Some, refl, ap, sym, subst, ◌∙◌, arith, Contains, Seen, Host, is_receive_socket, is_send_socket, Allocation, IsSafe, safe_inv, HasClosed, name_now, numbered, receiver_now, closed_first, numbered_tells, receiver, Fresh, asks_once, begins_fresh, IsLawful, Match, Name, own_request, partner_request, Asked, Crossed, Moment, event_in, events_of, crossings_of, WorldState, law_events, keeps, steps, calls_by, own_calls, IsClosedByPartner, WasClosedByPartner, Network, AreOurs}
-use Rattle.std.proofs.lemmas.Option.{same_Some}
+use Rattle.world_keeps_streams.proofs.Common.{◌≡◌, ◌⊎◌, inl, inr, ℕ, zero, suc, ◌+◌, ◌≤◌, Bool, true, false, List, [], ◌∷◌, ◌++◌, length, map, take, drop, Some, refl, ap, sym, subst, ◌∙◌, arith, Contains, Seen, Host, is_receive_socket, is_send_socket, Allocation, IsSafe, safe_inv, HasClosed, name_now, numbered, receiver_now, closed_first, numbered_tells, receiver, Fresh, asks_once, begins_fresh, IsLawful, Asked, Crossed, Moment, event_in, events_of, crossings_of, WorldState, law_events, keeps, steps, calls_by, own_calls, Network, AreOurs, all_ours, same_Some}
+use Rattle.promise.specs.Safe.{Match, Name, own_request, partner_request, receives, sends}
+use Rattle.world_keeps_streams.specs.Closes.{IsClosedByPartner, WasClosedByPartner, AllClose, TookAll}
 use Rattle.stream_law.specs.Receivers.{Receiver}
 use Rattle.host_keeps_streams.specs.Histories as calls
-use Rattle.reset_law.specs.Network.{all_ours}
 use Rattle.reset_law.specs.Stays as stay
-use Rattle.promise.specs.Safe.{receives, sends}
 use Rattle.promise.specs.declared.life.Life.{Life}
-use Rattle.world_keeps_streams.specs.Closes.{AllClose, TookAll}
 use Rattle.world_keeps_streams.proofs.Calls.Chain.{chain}
 use Rattle.world_keeps_streams.proofs.Carried.Streams.{all_bits}
 use Rattle.world_keeps_streams.proofs.Lives.Lists.{Grown, IsOf, Named, contains, drop_grown, grown, is_of, of_drop, of_left, of_map, of_parts, of_take, of_whole, take_grown}

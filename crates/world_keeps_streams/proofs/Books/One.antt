@@ -1,10 +1,11 @@
 -- A receiving life and the sending one that it matches are of one connection.
-use Rattle.world_keeps_streams.proofs.Common.{◌≡◌, inl, inr, ℕ, ◌==◌, Bool, true, false, List, [], ◌∷◌, Option, Some, None, refl, ap, sym, subst, ◌∙◌, eq-eqb, eqb-true, Contains, Host, is_receive_socket, is_send_socket, entry_at, is_at, is_link, is_mine_on, is_receiving, sends_on, Entry, both, gone_now, numbered, name_of, AreSeparate, OfOne, separate, receiver, sender, Asks, asks_once, asks_said, pair_with, Moment, events_of, program, crossings_of, Match, Name, own_request, HasOpenEnd, law_events, origin_in, place_or, steps, send_odd, numbered_by_peer, own_calls, Network, AreOurs}
-use Rattle.pairing_law.proofs.lemmas.{Joined as Paired}
+use Rattle.world_keeps_streams.proofs.Common.{◌≡◌, inl, inr, ℕ, ◌==◌, Bool, true, false, List, [], ◌∷◌, Option, Some, None, refl, ap, sym, subst, ◌∙◌, eq-eqb, eqb-true, Contains, Host, is_receive_socket, is_send_socket, entry_at, is_at, is_link, is_mine_on, is_receiving, sends_on, Entry, both, gone_now, numbered, name_of, receiver, sender, Asks, pair_with, Moment, events_of, program, crossings_of, HasOpenEnd, law_events, origin_in, place_or, steps, numbered_by_peer, own_calls, Network, AreOurs}
+use Rattle.pair_keeps_streams.proofs.lemmas.{AreSeparate, OfOne, separate}
+use Rattle.pairing_law.proofs.lemmas.{asks_once, asks_said, Joined as Paired}
+use Rattle.promise.specs.Safe.{Match, Name, own_request, named}
+use Rattle.world_keeps_pairing.proofs.lemmas.{send_odd, IsPair}
 use Rattle.reset_law.specs.Stays as stay
-use Rattle.promise.specs.Safe.{named}
 use Rattle.promise.specs.declared.life.Life.{Life}
-use Rattle.world_keeps_pairing.proofs.lemmas.{IsPair}
 use Rattle.world_keeps_streams.proofs.Books.Arrives.{end_at, stays_of}
 use Rattle.world_keeps_streams.proofs.Books.Closes as closes
 use Rattle.world_keeps_streams.proofs.Books.Given.{counts}

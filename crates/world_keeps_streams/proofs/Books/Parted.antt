@@ -1,16 +1,15 @@
 -- How many CLS a host has said of a connection while it stays, and that it says none any more once it has left.
-use Rattle.world_keeps_streams.proofs.Common.{◌≡◌, ◌+◌, ◌≤◌, ◌&&◌, ◌||◌, not, if◌then◌else◌, Bool, List, [], ◌∷◌, ◌++◌, refl, ap, sym, subst, ◌∙◌, arith, Host, is_sent, Entry, Sockets, Who, Ask, Close, Mark, Side, hears, says, placed_event, Joined, count, stays_same, Contact, Event, Other, Out, are, begins_either, stays_ready, pair_with, Moment, event_in, events_of, program, crossings_of, Coupled, law_events, origin_in, keeps, all_hears, all_says, all_tied, are_origins, at_texts, hears_if, left_if, met_if, other, served_in, Network, AreOurs}
-use Rattle.std.proofs.Common.{true, false}
-use Rattle.pairing_law.specs.Links.{Receiver, Sender}
-use Rattle.pairing_law.specs.Marks.{closes}
-use Rattle.reset_law.specs.Events.{Reply, Reset}
+use Rattle.world_keeps_streams.proofs.Common.{Host, is_sent, Entry, Side, hears, says, placed_event, Joined, count, stays_same, closes_said, begins_either, stays_ready, pair_with, Moment, event_in, events_of, program, crossings_of, Coupled, law_events, origin_in, keeps, Network, AreOurs}
+use Rattle.std.proofs.Common.{◌≡◌, ◌+◌, ◌≤◌, ◌&&◌, ◌||◌, not, if◌then◌else◌, Bool, List, [], ◌∷◌, ◌++◌, refl, ap, sym, subst, ◌∙◌, arith, true, false}
+use Rattle.pairing_law.specs.Links.{Sockets, Who, Receiver, Sender}
+use Rattle.pairing_law.specs.Marks.{Ask, Close, Mark, closes}
+use Rattle.reset_law.specs.Events.{Contact, Event, Other, Out, are, Reply, Reset}
+use Rattle.world_keeps_pairing.proofs.lemmas.{all_hears, all_says, all_tied, are_origins, at_texts, hears_if, left_if, met_if, other, served_in, IsPair, before}
 use Rattle.reset_law.specs.Stays as stay
-use Rattle.world_keeps_pairing.proofs.lemmas.{IsPair, before}
 use Rattle.world_keeps_streams.proofs.Books.Counts.{Counted, bounds, counted, side_of}
 use Rattle.world_keeps_streams.proofs.Deeds.Effects.{Among}
 use Rattle.world_keeps_streams.proofs.Requests.Now.{joined_halves, side_stays}
 use Rattle.world_keeps_streams.proofs.Requests.Sides.{Lawful, begins_same, coupled_in}
-use Rattle.pairing_law.proofs.lemmas.{closes_said}
 
 -- at none of these moments, after older ones, is a host together with its peer: its pair was reset, or it has stopped
 abbrev pub HasLeft : Host → Host → List Moment → List Moment → Type 0

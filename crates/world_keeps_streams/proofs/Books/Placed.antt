@@ -1,17 +1,17 @@
 -- Where messages of a run crossed: what was before a place, the texts that came in since, and what a message that
 -- comes in was when it went out.
-use Rattle.world_keeps_streams.proofs.Common.{◌≡◌, inl, inr, ℕ, ◌+◌, ◌<◌, ◌≤◌, ◌==◌, ◌&&◌, nat_lt, Bool, true, false, if◌then◌else◌, List, ◌∷◌, ◌++◌, drop, length, Some, refl, ap, sym, subst, ◌∙◌, arith, length-append, Host, box_of, went_out, Flow, Crossing, HostMessage, or_false, same_flow-refl, waits_with, CrossedAt, text_of, texts_of, last_out, texts_one}
-use Rattle.std.proofs.Common.{◌-◌, [], ne_eqb}
+use Rattle.world_keeps_streams.proofs.Common.{length-append, Host, went_out, Flow, Crossing, HostMessage, same_Some}
+use Rattle.std.proofs.Common.{◌≡◌, inl, inr, ℕ, ◌+◌, ◌<◌, ◌≤◌, ◌==◌, ◌&&◌, nat_lt, Bool, true, false, if◌then◌else◌, List, ◌∷◌, ◌++◌, drop, length, Some, refl, ap, sym, subst, ◌∙◌, arith, ◌-◌, [], ne_eqb}
+use Rattle.interface.specs.Mailboxes.{box_of, IsRun, Waiting, WaitsWith}
+use Rattle.interface.proofs.lemmas.{or_false, same_flow-refl, waits_with}
+use Rattle.promise.specs.Formed.{CrossedAt, text_of, texts_of, link_of, named_at}
+use Rattle.promise.specs.Safe.{last_out, before, receives}
+use Rattle.world_keeps_lives.proofs.lemmas.{texts_one, crossed_below, before_still}
 use Rattle.std.proofs.Math.Seq.{drop-append_seam}
-use Rattle.std.proofs.lemmas.Option.{same_Some}
 use Rattle.interface.specs.Flow.{same_flow}
-use Rattle.interface.specs.Mailboxes.{IsRun, Waiting, WaitsWith}
 use Rattle.interface.specs.declared.crossing.Crossing.TheVariants as crossing
-use Rattle.promise.specs.Formed.{link_of, named_at}
-use Rattle.promise.specs.Safe.{before, receives}
 use Rattle.promise.specs.declared.life.Life.{Life}
 use Rattle.world_keeps_streams.proofs.Books.Answered.{Waits, waiting}
-use Rattle.world_keeps_lives.proofs.lemmas.{crossed_below, before_still}
 
 -- ---- places
 

@@ -1,10 +1,10 @@
 -- What the book has of two hosts beside their streams, over all moments.
-use Rattle.world_keeps_streams.proofs.Common.{◌≡◌, ℕ, suc, ◌≤◌, ◌||◌, ◌&&◌, not, Bool, true, false, List, [], ◌∷◌, refl, ap, sym, subst, ◌∙◌, arith, Host, Allocation, Stream, numbered, receiver_now, sender_now, begins_either, Match, Moment, event_in, events_of, crossings_of, own_calls, Network, AreOurs}
+use Rattle.world_keeps_streams.proofs.Common.{◌≡◌, ℕ, suc, ◌≤◌, ◌||◌, ◌&&◌, not, Bool, true, false, List, [], ◌∷◌, refl, ap, sym, subst, ◌∙◌, arith, Host, Allocation, Stream, numbered, receiver_now, sender_now, begins_either, Moment, event_in, events_of, crossings_of, own_calls, Network, AreOurs}
+use Rattle.promise.specs.Safe.{Match, receives, sends}
 use Rattle.stream_law.specs.Receivers.{Receiver}
 use Rattle.stream_law.specs.Senders.{Sender}
 use Rattle.stream_law.specs.Streams as streams
 use Rattle.reset_law.specs.Stays as stay
-use Rattle.promise.specs.Safe.{receives, sends}
 use Rattle.promise.specs.declared.life.Life.{Life}
 use Rattle.world_keeps_streams.proofs.Steps.Joined.{Joined, Keeps, numbered_by_peer}
 use Rattle.world_keeps_streams.proofs.Lives.Lists.{IsOf}

@@ -1,9 +1,8 @@
 -- In a world that has settled all lives that match agree.
-use Rattle.world_keeps_streams.proofs.Common.{◌≡◌, ◌<◌, ℕ, zero, suc, Bool, true, List, [], ◌∷◌, ◌++◌, length, map, Option, Some, None, refl, ap, sym, subst, ◌∙◌, arith, Contains, Seen, Host, same_host, same_host-true, Crossing, stays_ready, IsLawful, events_of, program, crossings_of, WorldState, Seat, NoneOut}
-use Rattle.std.proofs.Common.{false, slice_get}
-use Rattle.interface.specs.Host.{is_host}
+use Rattle.world_keeps_streams.proofs.Common.{Contains, Seen, same_host-true, Crossing, stays_ready, IsLawful, events_of, program, crossings_of, WorldState, Seat, NoneOut, all_ours}
+use Rattle.std.proofs.Common.{◌≡◌, ◌<◌, ℕ, zero, suc, Bool, true, List, [], ◌∷◌, ◌++◌, length, map, Option, Some, None, refl, ap, sym, subst, ◌∙◌, arith, false, slice_get}
+use Rattle.interface.specs.Host.{Host, same_host, is_host}
 use Rattle.interface.specs.Mailboxes as mail
-use Rattle.reset_law.specs.Network.{all_ours}
 use Rattle.sockets.specs.Sending.{next_out}
 use Rattle.net_sim.specs.Told.{kept_in}
 use Rattle.net_sim.specs.Whole.{seat_in}

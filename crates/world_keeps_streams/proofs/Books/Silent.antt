@@ -1,9 +1,11 @@
 -- Two lives of one connection, between whose hosts no command is on its way: each end has heard what the other said.
-use Rattle.world_keeps_streams.proofs.Common.{◌≡◌, ℕ, zero, suc, ◌==◌, true, false, List, [], ◌++◌, Some, refl, ap, sym, subst, ◌∙◌, Host, box_of, Command, has_cls, sends_on, has_opened, numbered, numbered_tells, OfOne, boxes, pair_with, Moment, events_of, program, crossings_of, seen_box, box_same, control_flow, numbered_by_peer, AreSilent, NoneWaits, Network}
+use Rattle.world_keeps_streams.proofs.Common.{◌≡◌, ℕ, zero, suc, ◌==◌, true, false, List, [], ◌++◌, Some, refl, ap, sym, subst, ◌∙◌, Host, box_of, Command, has_cls, sends_on, has_opened, numbered, numbered_tells, boxes, pair_with, Moment, events_of, program, crossings_of, seen_box, control_flow, numbered_by_peer, Network, linked_end}
+use Rattle.pair_keeps_streams.proofs.lemmas.{OfOne}
+use Rattle.net_sim.proofs.lemmas.{box_same, flow_of}
+use Rattle.world_keeps_streams.specs.Rests.{AreSilent, NoneWaits}
 use Rattle.interface.specs.Mailboxes as mail
 use Rattle.pair_keeps_streams.proofs.lemmas as pair
 use Rattle.reset_law.specs.Stays as stay
-use Rattle.net_sim.proofs.lemmas.{flow_of}
 use Rattle.promise.specs.declared.life.Life.{Life}
 use Rattle.world_keeps_streams.proofs.Books.Closes as closes
 use Rattle.world_keeps_streams.proofs.Books.Firsts.{together}
@@ -13,7 +15,6 @@ use Rattle.world_keeps_streams.proofs.Requests.Sides.{Lawful}
 use Rattle.world_keeps_streams.proofs.Steps.Joined.{Joined, commands_in, party, turned_tells}
 use Rattle.world_keeps_streams.proofs.Ours.{ours_sender}
 use Rattle.world_keeps_streams.proofs.Lives.Among.{among_now}
-use Rattle.world_keeps_lives.proofs.lemmas.Books.{linked_end}
 
 -- ---- small facts
 

@@ -1,7 +1,7 @@
 -- What follows for lives since both met: what was taken has a source, and what was sent is granted.
-use Rattle.world_keeps_streams.proofs.Common.{◌≡◌, ◌⊎◌, inl, inr, ℕ, suc, ◌+◌, ◌≤◌, Bool, true, List, [], ◌∷◌, length, refl, ap, sym, subst, ◌∙◌, arith, Host, Allocation, IsSafe, message_bits, safe_inv, numbered, numbered_tells, IsGranted, Match, Moment, crossings_of}
+use Rattle.world_keeps_streams.proofs.Common.{◌≡◌, ◌⊎◌, inl, inr, ℕ, suc, ◌+◌, ◌≤◌, Bool, true, List, [], ◌∷◌, length, refl, ap, sym, subst, ◌∙◌, arith, Host, Allocation, IsSafe, message_bits, safe_inv, numbered, numbered_tells, Moment, crossings_of, prefix_more}
+use Rattle.promise.specs.Safe.{IsGranted, Match, receives, sends}
 use Rattle.promise.specs.Safe as book
-use Rattle.promise.specs.Safe.{receives, sends}
 use Rattle.promise.specs.declared.life.Life.{Life}
 use Rattle.world_keeps_streams.proofs.Steps.Joined.{Joined}
 use Rattle.world_keeps_streams.proofs.Carried.Streams.{all_bits}
@@ -9,7 +9,6 @@ use Rattle.world_keeps_streams.proofs.Lives.Lists.{IsOf, of_drop}
 use Rattle.world_keeps_streams.proofs.Requests.Sides.{lives_in}
 use Rattle.world_keeps_streams.proofs.Books.Streams.{all_bits_length, front_bits, front_none, fronts_none}
 use Rattle.world_keeps_streams.proofs.Books.Whole.{since, present_in, PresentR, PresentS, HasR, HasS, Whole}
-use Rattle.world_keeps_lives.proofs.lemmas.{prefix_more}
 
 module _ (a b : Host) (Own Heard : List Moment → ℕ → ℕ → ℕ → ℕ → Type 0) (ms : List Moment) where
   -- whom a receiving life took from

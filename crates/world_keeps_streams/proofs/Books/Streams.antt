@@ -1,7 +1,7 @@
 -- Bits of messages, and prefixes of them.
-use Rattle.world_keeps_streams.proofs.Common.{◌≡◌, ℕ, ◌+◌, Bool, List, [], ◌∷◌, ◌++◌, length, refl, ap, sym, ◌∙◌, append_assoc, length-append, message_bits}
+use Rattle.world_keeps_streams.proofs.Common.{◌≡◌, ℕ, ◌+◌, Bool, List, [], ◌∷◌, ◌++◌, length, refl, ap, sym, ◌∙◌, append_assoc, length-append}
+use Rattle.stream_law.specs.Within.{message_bits, IsPrefix}
 use Rattle.promise.specs.Safe as book
-use Rattle.stream_law.specs.Within.{IsPrefix}
 use Rattle.world_keeps_streams.proofs.Carried.Streams.{all_bits}
 
 all_bits_append : (xs ys : List (List Bool)) → all_bits (xs ++ ys) ≡ all_bits xs ++ all_bits ys

@@ -1,15 +1,15 @@
 -- The requests that a host said since it met its peer last aren't those of lives from before.
-use Rattle.world_keeps_streams.proofs.Common.{◌≡◌, ◌⊎◌, inl, inr, ℕ, suc, ◌<◌, ◌==◌, ◌&&◌, if◌then◌else◌, Bool, true, false, List, [], ◌∷◌, ◌++◌, length, map, take, refl, ap, sym, subst, ◌∙◌, arith, Contains, Host, is_send_socket, Command, Legal, Order, Wrong, orders_of, mark_of, marks_in, Sockets, Who, Ask, Asks, Close, Mark, placed_event, tagged, Side, says, Contact, Event, Other, Out, are, place, begins_either, CrossedAt, Moment, event_in, events_of, crossings_of, place_same, Linked, LinkedBook, law_events, all_says, at_texts, foreign_of, heard_is, met_if, other, own_of, Network, AreOurs}
-use Rattle.net_sim.specs.Among.{lives_among}
-use Rattle.net_sim.specs.Mixed.{mixed_kept}
+use Rattle.world_keeps_streams.proofs.Common.{◌≡◌, ◌⊎◌, inl, inr, ℕ, suc, ◌<◌, ◌==◌, ◌&&◌, if◌then◌else◌, Bool, true, false, List, [], ◌∷◌, ◌++◌, length, map, take, refl, ap, sym, subst, ◌∙◌, arith, Contains, Host, is_send_socket, Command, Legal, Order, Wrong, orders_of, mark_of, marks_in, Ask, Asks, Close, Mark, placed_event, tagged, Side, says, begins_either, Moment, event_in, events_of, crossings_of, place_same, law_events, Network, AreOurs, lives_among, mixed_kept}
+use Rattle.pairing_law.specs.Links.{Sockets, Who, Receiver, Sender}
+use Rattle.reset_law.specs.Events.{Contact, Event, Other, Out, are, place, Reply, Reset}
+use Rattle.promise.specs.Formed.{CrossedAt}
+use Rattle.world_keeps_lives.proofs.lemmas.{Linked, LinkedBook, crossed_below}
+use Rattle.world_keeps_pairing.proofs.lemmas.{all_says, at_texts, foreign_of, heard_is, met_if, other, own_of, IsPair, before}
 use Rattle.interface.specs.declared.crossing.Crossing.TheVariants as crossing
 use Rattle.ncp_control.specs.declared.command.Command.TheVariants as command
-use Rattle.pairing_law.specs.Links.{Receiver, Sender}
-use Rattle.reset_law.specs.Events.{Reply, Reset}
 use Rattle.reset_law.specs.Stays as stay
 use Rattle.promise.specs.Safe.{sends}
 use Rattle.promise.specs.declared.life.Life.{Life}
-use Rattle.world_keeps_pairing.proofs.lemmas.{IsPair, before}
 use Rattle.world_keeps_streams.proofs.Books.All.{all_given}
 use Rattle.world_keeps_streams.proofs.Books.Clauses.{Older, older, settled_s}
 use Rattle.world_keeps_streams.proofs.Books.Counts.{side_of}
@@ -19,7 +19,6 @@ use Rattle.world_keeps_streams.proofs.Books.Parted.{said_now}
 use Rattle.world_keeps_streams.proofs.Books.Whole.{since}
 use Rattle.world_keeps_streams.proofs.Lives.Lists.{IsOf, of_take, contains, is_of}
 use Rattle.world_keeps_streams.proofs.Requests.Sides.{Heard, Lawful, Own, begins_same, lives_in, below}
-use Rattle.world_keeps_lives.proofs.lemmas.{crossed_below}
 use Rattle.world_keeps_streams.proofs.Ours.{ours_of}
 use Rattle.world_keeps_streams.proofs.Lives.Among.{among_now}
 

@@ -1,7 +1,10 @@
 -- Two lives between whose hosts nothing is left to be done: nobody has closed their ends, but for a sender that drains.
-use Rattle.world_keeps_streams.proofs.Common.{◌≡◌, inl, inr, ℕ, Bool, true, false, List, [], ◌∷◌, ◌++◌, Option, Some, None, refl, ap, sym, subst, ◌∙◌, Host, is_receive_socket, is_send_socket, Command, End, Close, entry_at, is_answered, is_busy, is_open, is_receiving, was_closed, Closing, Entry, Stand, Standing, standing, marks, found_at, has_opened, pair_with, Moment, program, crossings_of, IsOfTwo, origin_in, AreSilent, Network, AreOurs}
+use Rattle.world_keeps_streams.proofs.Common.{◌≡◌, inl, inr, ℕ, Bool, true, false, List, [], ◌∷◌, ◌++◌, Option, Some, None, refl, ap, sym, subst, ◌∙◌, Host, is_receive_socket, is_send_socket, Command, End, Close, entry_at, is_answered, is_busy, is_open, is_receiving, was_closed, Closing, Entry, marks, has_opened, pair_with, Moment, program, crossings_of, origin_in, Network, AreOurs}
+use Rattle.host_keeps_pairing.specs.Ends.{Stand, Standing, standing, close_waits, request_due}
+use Rattle.host_keeps_pairing.proofs.lemmas.{found_at}
+use Rattle.world_keeps_lives.proofs.lemmas.{IsOfTwo}
+use Rattle.world_keeps_streams.specs.Rests.{AreSilent}
 use Rattle.host_pairs.specs.declared.entry.Closing.TheVariants as closing
-use Rattle.host_keeps_pairing.specs.Ends.{close_waits, request_due}
 use Rattle.promise.specs.declared.life.Life.{Life}
 use Rattle.world_keeps_streams.proofs.Books.Arrives.{end_at}
 use Rattle.world_keeps_streams.proofs.Books.Closes as closes

@@ -1,21 +1,12 @@
 -- Each message that a receiving life counts is, with its number, one of the sending life that it matches (`was_sent`).
-use Rattle.world_keeps_streams.proofs.Common.{◌≡◌, inl, inr, ℕ, ◌+◌, ◌<◌, ◌≤◌, Bool, true, false, List, [], ◌∷◌, ◌++◌}
-use Rattle.world_keeps_streams.proofs.Common.{length, map, Option, Some, refl, ap, sym, subst, ◌∙◌, arith, option_map}
-use Rattle.world_keeps_streams.proofs.Common.{append_assoc, length-append, Contains, Seen, Host, Flow, Crossing}
-use Rattle.world_keeps_streams.proofs.Common.{HostMessage, waits_with, box_of, is_receive_socket, some_is, IsCounted}
-use Rattle.world_keeps_streams.proofs.Common.{CrossedAt, texts_for, texts_of, texts_on, Match, last_out, IsLawful}
-use Rattle.world_keeps_streams.proofs.Common.{Asked, Crossed, Moment, program, crossings_of, WorldState, book_lives}
-use Rattle.world_keeps_streams.proofs.Common.{send_odd, AreOurs, Network}
+use Rattle.world_keeps_streams.proofs.Common.{◌≡◌, inl, inr, ℕ, ◌+◌, ◌<◌, ◌≤◌, Bool, true, false, List, [], ◌∷◌, ◌++◌, length, map, Option, Some, refl, ap, sym, subst, ◌∙◌, arith, option_map, append_assoc, length-append, Contains, Seen, Host, Flow, Crossing, HostMessage, waits_with, box_of, is_receive_socket, some_is, IsCounted, IsLawful, Asked, Crossed, Moment, program, crossings_of, WorldState, book_lives, send_odd, in_book, AreOurs, Network, all_ours, among_all, end_link, lives_among}
+use Rattle.promise.specs.Formed.{CrossedAt, texts_for, texts_of, texts_on, flow_of, link_of}
+use Rattle.promise.specs.Safe.{Match, last_out, before, receives}
 use Rattle.interface.specs.Mailboxes as mail
 use Rattle.interface.specs.declared.crossing.Crossing.TheVariants as crossing
-use Rattle.promise.specs.Formed.{flow_of, link_of}
-use Rattle.promise.specs.Safe.{before, receives}
 use Rattle.promise.specs.declared.life.Life.{Life}
 use Rattle.net_sim.proofs.lemmas.{flow_of as flow_from}
-use Rattle.reset_law.specs.Network.{all_ours}
 use Rattle.world_keeps_lives.proofs.lemmas.{crossed_below}
-use Rattle.world_keeps_lives.proofs.lemmas.AllOurs.{among_all}
-use Rattle.world_keeps_lives.proofs.lemmas.Formed.{end_link}
 use Rattle.world_keeps_lives.proofs.lemmas.Full.{Latest, WasThere, latest, were_there}
 use Rattle.world_keeps_streams.specs.Sent.{EachWasSent, WasSent}
 use Rattle.world_keeps_streams.proofs.Books.AllOut.{all_out, sending, sending_in, sending_matches, sender_counts, link_named, flow_named, takes_on}
@@ -35,8 +26,6 @@ use Rattle.world_keeps_streams.proofs.Ends.Within.{enough}
 use Rattle.world_keeps_streams.proofs.Lives.Lists.{IsOf, Named, contains, grown, is_of, named_itself, of_left, of_map}
 use Rattle.world_keeps_streams.proofs.Lives.Among.{among_now, among_there, now_kept}
 use Rattle.world_keeps_streams.proofs.Ours.{ours_of, ours_sender}
-use Rattle.world_keeps_pairing.proofs.lemmas.{in_book}
-use Rattle.net_sim.specs.Among.{lives_among}
 use Rattle.net_sim.specs.Told.{kept_in}
 use Rattle.world_keeps_streams.proofs.Requests.Sides.{Lawful, below, book_lawful, lives_in}
 

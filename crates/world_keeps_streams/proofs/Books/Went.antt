@@ -1,11 +1,11 @@
 -- A life and what was handed over in it, back to earlier moments: at one of these it wasn't over, or it was there at the first; or nothing was handed over.
-use Rattle.world_keeps_streams.proofs.Common.{◌≡◌, ◌⊎◌, inl, inr, ℕ, suc, ◌+◌, Bool, true, false, if◌then◌else◌, List, [], ◌∷◌, ◌++◌, length, refl, ap, sym, ◌∙◌, arith, length-append, Host, Notice, IsBeside, Kept, all_told, book_told, carried, changed_when, life_ended, lives_at, lives_between, lives_on, lives_with, new_life, where_it, Asked, Crossed, Moment, host_in, kept_by, notices_by}
+use Rattle.world_keeps_streams.proofs.Common.{◌≡◌, ◌⊎◌, inl, inr, ℕ, suc, ◌+◌, Bool, true, false, if◌then◌else◌, List, [], ◌∷◌, ◌++◌, length, refl, ap, sym, ◌∙◌, arith, length-append, Host, Notice, IsBeside, Asked, Crossed, Moment}
+use Rattle.net_sim.specs.Book.{Kept, all_told, book_told, carried, changed_when, life_ended, lives_at, lives_between, lives_on, lives_with, new_life, where_it, granted, handed_to, returned}
+use Rattle.net_sim.specs.Told.{host_in, kept_by, notices_by, kept_in}
 use Rattle.interface.specs.declared.crossing.Crossing.TheVariants as crossing
 use Rattle.host_pairs.specs.declared.notice.Notice.TheVariants as notice
 use Rattle.sockets.specs.declared.request.Request.TheVariants as request
 use Rattle.promise.specs.declared.life.Life.{Life}
-use Rattle.net_sim.specs.Book.{granted, handed_to, returned}
-use Rattle.net_sim.specs.Told.{kept_in}
 use Rattle.world_keeps_streams.proofs.Lives.Fates.{beside_of, was_life}
 use Rattle.world_keeps_streams.proofs.Lives.Lists.{IsOf, Named, at_off, named_itself}
 use Rattle.world_keeps_streams.proofs.Requests.Sides.{lives_in}

@@ -1,14 +1,10 @@
 -- Each call of a world's programs may be made.
-use Rattle.world_keeps_streams.proofs.Common.{◌≡◌, ℕ, ◌&&◌, Bool, true, false, if◌then◌else◌, List, [], ◌∷◌, None, Option, Some, refl, ap, sym, subst, ◌∙◌, Host, same_host, Flow, Answer, HostMessage, same_host-true, is_busy, PairState, Parcel, AreCommands, IsRanged, pair_range, HasEnd, End, turn_of, pair_with, refusal, next_in, Peer, Request, next_is, next_pair, HaveAddresses, Asked, Crossed, Moment, places, program, crossings_of, Coupled, origin_in, AllBare, AllTied, AreOrigins, all_bare, all_tied, are_origins, mail_below, programs_ranged, takes, calls_by, message_calls, next_calls, parcel_calls, request_calls}
-use Rattle.net_sim.proofs.lemmas.{coupled}
-use Rattle.world_keeps_pairing.proofs.lemmas.{served_in}
-use Rattle.reset_law.specs.Network.{AreOurs, Network}
-use Rattle.net_sim.specs.Mixed.{Happened}
+use Rattle.world_keeps_streams.proofs.Common.{◌≡◌, ℕ, ◌&&◌, Bool, true, false, if◌then◌else◌, List, [], ◌∷◌, None, Option, Some, refl, ap, sym, subst, ◌∙◌, Host, same_host, Flow, Answer, HostMessage, same_host-true, is_busy, PairState, Parcel, AreCommands, IsRanged, pair_range, HasEnd, End, turn_of, pair_with, refusal, next_in, Peer, Request, next_is, next_pair, HaveAddresses, Asked, Crossed, Moment, places, program, crossings_of, Coupled, coupled, origin_in, calls_by, message_calls, next_calls, parcel_calls, request_calls, AreOurs, Network, Happened}
+use Rattle.world_keeps_pairing.proofs.lemmas.{AllBare, AllTied, AreOrigins, all_bare, all_tied, are_origins, mail_below, programs_ranged, takes, served_in, AreServed}
 use Rattle.world_keeps_streams.proofs.Calls.Chain.{plain_at}
 use Rattle.interface.specs.Mailboxes as mail
 use Rattle.interface.specs.declared.crossing.Crossing.TheVariants as crossing
 use Rattle.host_keeps_streams.specs.Histories as calls
-use Rattle.world_keeps_pairing.proofs.lemmas.{AreServed}
 use Rattle.world_keeps_streams.proofs.Calls.CallSizes.{all_sized}
 use Rattle.world_keeps_streams.proofs.Calls.May.{AllMay}
 use Rattle.world_keeps_streams.proofs.Calls.MayAsk.{AreSized, parcel_may, request_may}

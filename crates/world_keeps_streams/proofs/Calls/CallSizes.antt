@@ -1,20 +1,15 @@
 -- Each call of a world's programs finds byte sizes that are octets and not zero.
-use Rattle.world_keeps_streams.proofs.Common.{◌≡◌, ℕ, ◌==◌, ◌&&◌, IsTrue, not, Bool, true, false, if◌then◌else◌, List, [], ◌∷◌, ◌++◌, take, Option, Some, None, refl, ap, sym, subst, ◌∙◌, Host, same_host, not_false, same_host-true, is_byte_size, is_receive_socket, is_send_socket, Command, desk_taken, Legal, Order, Wrong, error, orders_of, desk_of, listens_on, command_queued, is_busy, PairState, Parcel, command_gone, with_connections, is_ready, TurnState, order_taken, with_desk, Entry, Listener, AreOrders, AreSizes, IsRanged, pair_range, text_good, AreJoint, ready_when, AsksBack, Closes, Gives, Grants, Hears, OpensReceiver, OpensSender, Says, Takes, turn_of, NcpState, owner_of, pair_with, is_taken, next_in, Peer, Request, not_first, HaveAddresses, IsApart, message_on, Asked, Crossed, IsStory, Moment, event_in, events_of, places, program, crossings_of, keeps, AText, AnRrp, AnRst, Sort, mail_below, plain_joint, programs_ranged, sort_of, calls_by, commands_said, message_calls, next_calls, orders_heard, own_calls, owner_calls, parcel_calls, request_calls}
-use Rattle.host_pairs.proofs.lemmas.{both}
-use Rattle.net_sim.proofs.lemmas.{coupled}
-use Rattle.world_keeps_pairing.proofs.lemmas.{served_in}
-use Rattle.reset_law.specs.Network.{AreOurs, Network}
-use Rattle.net_sim.specs.Mixed.{Happened, MayHappen}
+use Rattle.world_keeps_streams.proofs.Common.{◌≡◌, ℕ, ◌==◌, ◌&&◌, IsTrue, not, Bool, true, false, if◌then◌else◌, List, [], ◌∷◌, ◌++◌, take, Option, Some, None, refl, ap, sym, subst, ◌∙◌, Host, same_host, not_false, same_host-true, is_byte_size, is_receive_socket, is_send_socket, Command, desk_taken, Legal, Order, Wrong, error, orders_of, desk_of, listens_on, command_queued, is_busy, PairState, Parcel, command_gone, with_connections, is_ready, TurnState, order_taken, with_desk, Entry, Listener, AreJoint, ready_when, turn_of, NcpState, owner_of, pair_with, next_in, Peer, Request, not_first, HaveAddresses, IsApart, message_on, Asked, Crossed, IsStory, Moment, event_in, events_of, places, program, crossings_of, keeps, AText, AnRrp, AnRst, Sort, mail_below, plain_joint, programs_ranged, sort_of, served_in, both, coupled, AreOurs, Network, Happened, MayHappen}
+use Rattle.host_keeps_ranges.specs.Ranges.{AreOrders, AreSizes, IsRanged, IsAsked, IsPair}
+use Rattle.host_keeps_ranges.proofs.lemmas.{pair_range, text_good, Ranged, ranged_error, ranged_taken}
+use Rattle.host_keeps_streams.specs.Histories.{AsksBack, Closes, Gives, Grants, Hears, OpensReceiver, OpensSender, Says, Takes, Call}
+use Rattle.sockets.specs.Requests.{is_taken, refusal}
+use Rattle.world_keeps_streams.specs.Calls.{calls_by, commands_said, message_calls, next_calls, orders_heard, own_calls, owner_calls, parcel_calls, request_calls, called}
 use Rattle.interface.specs.Mailboxes as mail
 use Rattle.interface.specs.declared.crossing.Crossing.TheVariants as crossing
 use Rattle.host_pairs.specs.Parcels as parcel
-use Rattle.host_keeps_ranges.specs.Ranges.{IsAsked, IsPair}
-use Rattle.host_keeps_ranges.proofs.lemmas.{Ranged, ranged_error, ranged_taken}
 use Rattle.host_keeps_streams.specs.Histories as calls
-use Rattle.host_keeps_streams.specs.Histories.{Call}
-use Rattle.sockets.specs.Requests.{refusal}
 use Rattle.sockets.specs.declared.request.Request.TheVariants as request
-use Rattle.world_keeps_streams.specs.Calls.{called}
 use Rattle.world_keeps_streams.proofs.Calls.Chain.{chain, plain_at}
 use Rattle.world_keeps_streams.proofs.Calls.MayAsk.{AreSized}
 use Rattle.world_keeps_streams.proofs.Calls.Sizes.{AllSizes, HasSize, history_sized, is_size, sizes_append}

@@ -1,15 +1,12 @@
 -- The calls of a host with a peer follow one another, and lead to the ends that its program has.
-use Rattle.world_keeps_streams.proofs.Common.{◌≡◌, ℕ, Bool, true, false, not, ◌&&◌, if◌then◌else◌, List, [], ◌∷◌, ◌++◌, None, refl, ap, sym, subst, ◌∙◌, Host, same_host, Flow, Answer, HostMessage, same_host-true, PairState, is_ready, IsHistory, ends_now, In, Message, Other, Pair, accepted, turn_of, opening_state, pair_with, refusal, served, next_in, offered, Request, answer_leaves, message_leaves, HaveAddresses, message_on, Asked, Crossed, IsStory, Moment, event_in, events_of, places, program, crossings_of, Coupled, by_request, program_own, clash, mail_below, answer_calls, calls_by, message_calls, next_calls, own_calls, request_calls}
-use Rattle.net_sim.proofs.lemmas.{coupled}
-use Rattle.reset_law.specs.Network.{AreOurs, Network}
-use Rattle.net_sim.specs.Mixed.{Happened, MayHappen}
+use Rattle.world_keeps_streams.proofs.Common.{◌≡◌, ℕ, Bool, true, false, not, ◌&&◌, if◌then◌else◌, List, [], ◌∷◌, ◌++◌, None, refl, ap, sym, subst, ◌∙◌, Host, same_host, Flow, Answer, HostMessage, same_host-true, PairState, is_ready, IsHistory, ends_now, Pair, accepted, turn_of, opening_state, pair_with, refusal, served, next_in, offered, Request, answer_leaves, message_leaves, HaveAddresses, message_on, Asked, Crossed, IsStory, Moment, event_in, events_of, places, program, crossings_of, Coupled, by_request, program_own, coupled, clash, answer_calls, calls_by, message_calls, next_calls, own_calls, request_calls, AreOurs, Network, Happened, MayHappen}
+use Rattle.reset_law.specs.Events.{In, Message, Other, Reset, Reply}
+use Rattle.world_keeps_pairing.proofs.lemmas.{mail_below, ready_is}
 use Rattle.pairing_law.proofs.lemmas.{pair_same}
 use Rattle.interface.specs.Mailboxes as mail
 use Rattle.interface.specs.declared.crossing.Crossing.TheVariants as crossing
 use Rattle.interface.specs.declared.crossing.Inbound.TheVariants as inbound
-use Rattle.reset_law.specs.Events.{Reset, Reply}
 use Rattle.reset_law.specs.Stays as stay
-use Rattle.world_keeps_pairing.proofs.lemmas.{ready_is}
 use Rattle.world_keeps_streams.proofs.Calls.Leads.{IsIdle, Turned, is_reset, same_turned}
 use Rattle.world_keeps_streams.proofs.Calls.Moved.{answer_moved, message_moved, offered_moved, request_moved}
 

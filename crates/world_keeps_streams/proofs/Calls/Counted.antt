@@ -1,5 +1,9 @@
 -- How many messages of data came to a host on a link, by the law of streams: only one that it takes or drops there counts.
-use Rattle.world_keeps_streams.proofs.Common.{◌≡◌, ℕ, ◌==◌, ◌&&◌, Bool, true, false, if◌then◌else◌, List, [], ◌∷◌, ◌++◌, take, Option, Some, None, refl, ap, sym, subst, ◌∙◌, Host, same_host, Flow, HostMessage, header_of, is_ready, Command, DataHeader, holds, Legal, Order, Wrong, orders_of, desk_of, listener_on, listens_on, entry_at, free_link, is_busy, receives_on, PairState, Parcel, command_gone, with_connections, TurnState, order_taken, Entry, Listener, all_received, Hears, Takes, Says, Answered, OpensReceiver, OpensSender, Grants, AsksBack, Gives, Closes, name_now, receiver_now, received_at, cls_received, data_received, received_by, received_out, str_received, eqb-sym, IsAsking, turn_of, NcpState, owner_of, pair_with, next_in, Peer, Request, Asked, Crossed, Moment, places, program, text_of, answer_calls, calls_by, commands_said, message_calls, next_calls, orders_heard, owner_calls, parcel_calls, request_calls}
+use Rattle.world_keeps_streams.proofs.Common.{◌≡◌, ℕ, ◌==◌, ◌&&◌, Bool, true, false, if◌then◌else◌, List, [], ◌∷◌, ◌++◌, take, Option, Some, None, refl, ap, sym, subst, ◌∙◌, Host, same_host, Flow, HostMessage, header_of, is_ready, Command, DataHeader, holds, Legal, Order, Wrong, orders_of, desk_of, listener_on, listens_on, entry_at, free_link, is_busy, receives_on, PairState, Parcel, command_gone, with_connections, TurnState, order_taken, Entry, Listener, all_received, eqb-sym, IsAsking, turn_of, NcpState, owner_of, pair_with, next_in, Peer, Request, Asked, Crossed, Moment, places, program}
+use Rattle.host_keeps_streams.specs.Histories.{Hears, Takes, Says, Answered, OpensReceiver, OpensSender, Grants, AsksBack, Gives, Closes, name_now, receiver_now, received_at, Call}
+use Rattle.host_keeps_streams.specs.Moves.{cls_received, data_received, received_by, received_out, str_received, asks_for}
+use Rattle.promise.specs.Formed.{text_of}
+use Rattle.world_keeps_streams.specs.Calls.{answer_calls, calls_by, commands_said, message_calls, next_calls, orders_heard, owner_calls, parcel_calls, request_calls, called}
 use Rattle.interface.specs.Flow.{same_flow}
 use Rattle.interface.specs.declared.crossing.Crossing.TheVariants as crossing
 use Rattle.ncp_control.specs.declared.command.Command.TheVariants as command
@@ -8,11 +12,8 @@ use Rattle.stream_law.specs.Receivers as receivers
 use Rattle.stream_law.specs.Receivers.{Receiver}
 use Rattle.host_pairs.specs.Parcels as parcel
 use Rattle.host_keeps_streams.specs.Histories as calls
-use Rattle.host_keeps_streams.specs.Histories.{Call}
-use Rattle.host_keeps_streams.specs.Moves.{asks_for}
 use Rattle.host_keeps_streams.specs.Names.{named}
 use Rattle.sockets.specs.declared.request.Request.TheVariants as request
-use Rattle.world_keeps_streams.specs.Calls.{called}
 use Rattle.world_keeps_streams.proofs.Deeds.Law.{AreStill, IsStill, asks_still, cls_still, out_still, str_still}
 use Rattle.world_keeps_streams.proofs.Stays.Quiet.{Asks, IsSolo, Quiet, Replied, Told}
 

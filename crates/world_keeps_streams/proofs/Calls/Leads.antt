@@ -1,14 +1,14 @@
 -- The calls of one turn lead from the ends that it finds to those that it leaves.
-use Rattle.world_keeps_streams.proofs.Common.{◌≡◌, ℕ, ◌==◌, Bool, true, false, not, ◌||◌, if◌then◌else◌, List, [], ◌∷◌, ◌++◌, take, refl, ap, sym, subst, ◌∙◌, Host, Answer, Command, MayGo, desk_taken, Order, Legal, Wrong, error, orders_of, data_taken, DeskState, desk_of, command_queued, settled, PairState, Parcel, command_gone, commands_gone, pair_after, parcel_gone, with_connections, is_ready, rfnm_phase, TurnState, answered_turn, failed_by, freed, is_gone, message_taken, order_taken, orders_taken, settled_turn, with_desk, Entry, Listener, Phase, AreJoint, orders_idle, ready_when, reply_idle, work_of, Answered, Hears, IsHistory, Says, Sends, Takes, ends_by, ends_now, Message, Other, IsApart, message_on, clash, AText, AnRrp, AnRst, Sort, plain_joint, sort_of, commands_said, message_calls, orders_heard, parcel_calls}
+use Rattle.world_keeps_streams.proofs.Common.{◌≡◌, ℕ, ◌==◌, Bool, true, false, not, ◌||◌, if◌then◌else◌, List, [], ◌∷◌, ◌++◌, take, refl, ap, sym, subst, ◌∙◌, Host, Answer, Command, MayGo, desk_taken, Order, Legal, Wrong, error, orders_of, data_taken, DeskState, desk_of, command_queued, settled, PairState, Parcel, command_gone, commands_gone, pair_after, parcel_gone, with_connections, is_ready, rfnm_phase, TurnState, answered_turn, failed_by, freed, is_gone, message_taken, order_taken, orders_taken, settled_turn, with_desk, Entry, Listener, Phase, AreJoint, IsApart, message_on, clash, AText, AnRrp, AnRst, Sort, plain_joint, sort_of}
+use Rattle.host_keeps_pairing.proofs.lemmas.{orders_idle, ready_when, reply_idle, work_of, rfnm_idle}
+use Rattle.host_keeps_streams.specs.Histories.{Answered, Hears, IsHistory, Says, Sends, Takes, ends_by, ends_now, Call}
+use Rattle.reset_law.specs.Events.{Message, Other, Reset, Reply}
+use Rattle.world_keeps_streams.specs.Calls.{commands_said, message_calls, orders_heard, parcel_calls, called}
 use Rattle.interface.specs.declared.crossing.Answer.TheVariants as answer
 use Rattle.ncp_control.specs.declared.command.Command.TheVariants as command
 use Rattle.host_pairs.specs.Parcels as parcel
 use Rattle.ncp_control.specs.declared.phase.Phase.TheVariants as phase
-use Rattle.host_keeps_pairing.proofs.lemmas.{rfnm_idle}
 use Rattle.host_keeps_streams.specs.Histories as calls
-use Rattle.host_keeps_streams.specs.Histories.{Call}
-use Rattle.reset_law.specs.Events.{Reset, Reply}
-use Rattle.world_keeps_streams.specs.Calls.{called}
 
 -- ---- what is shown of a turn
 

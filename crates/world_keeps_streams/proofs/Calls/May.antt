@@ -1,8 +1,9 @@
 -- What may be said of each call of a world's program when it is made.
-use Rattle.world_keeps_streams.proofs.Common.{◌≡◌, not, true, false, List, [], ◌∷◌, find, Some, None, list_any, IsCommand, IsHeader, is_receive_socket, is_send_socket, Command, passes, entry_at, is_mine_on, is_open, sends_on, was_closed, PairState, Bytes, next_of, Entry, HasSaid, Answered, AsksBack, Closes, Gives, Grants, Hears, OpensReceiver, OpensSender, Says, Sends, Takes, IsFirst, IsPaired}
+use Rattle.world_keeps_streams.proofs.Common.{◌≡◌, not, true, false, List, [], ◌∷◌, find, Some, None, list_any, IsCommand, IsHeader, is_receive_socket, is_send_socket, Command, passes, entry_at, is_mine_on, is_open, sends_on, was_closed, PairState, Bytes, next_of, Entry, HasSaid}
+use Rattle.host_keeps_streams.specs.Histories.{Answered, AsksBack, Closes, Gives, Grants, Hears, OpensReceiver, OpensSender, Says, Sends, Takes, Call}
+use Rattle.pair_keeps_streams.proofs.lemmas.{IsFirst, IsPaired}
 use Rattle.ncp_control.specs.declared.command.Command.TheVariants as command
 use Rattle.host_keeps_streams.specs.Histories as calls
-use Rattle.host_keeps_streams.specs.Histories.{Call}
 
 -- an RTS that is heard names a link that no sending end has, and a CLS is of a receiving socket and a sending one
 abbrev pub IsHeard : Command → List Entry → Type 0

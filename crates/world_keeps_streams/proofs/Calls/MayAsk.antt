@@ -1,18 +1,18 @@
 -- What a user asks for, and what goes out next, may be done.
-use Rattle.world_keeps_streams.proofs.Common.{◌≡◌, ℕ, zero, suc, ◌*◌, ◌<◌, ◌≤◌, ◌&&◌, not, Bool, true, false, if◌then◌else◌, List, [], ◌∷◌, take, drop, find, Option, Some, None, is_some, refl, ap, sym, subst, ◌∙◌, arith, Host, same_host, not_false, or_false, same_host-true, is_receive_socket, is_send_socket, Command, passes, listens_on, entry_at, is_mine_on, is_open, was_closed, PairState, Parcel, may_send_on, next_of, is_ready, Entry, Listener, both, what_goes, AreCommands, HasEnd, Stand, at, marks, found_same, marks_append, AsksBack, Closes, Gives, Grants, OpensReceiver, OpensSender, End, Mark, NcpState, owner_of, pair_with, AreInOrder, grant_fault, is_taken, on_open, Request, not_first, owner_found, send_odd, owner_calls, parcel_calls, request_calls}
-use Rattle.std.proofs.Common.{◌^◌}
+use Rattle.world_keeps_streams.proofs.Common.{Host, same_host, not_false, or_false, same_host-true, is_receive_socket, is_send_socket, Command, passes, listens_on, entry_at, is_mine_on, is_open, was_closed, PairState, is_ready, Entry, Listener, both, what_goes, AreCommands, HasEnd, Stand, at, marks, End, Mark, NcpState, owner_of, pair_with, AreInOrder, Request, not_first, owner_found, send_odd}
+use Rattle.std.proofs.Common.{◌≡◌, ℕ, zero, suc, ◌*◌, ◌<◌, ◌≤◌, ◌&&◌, not, Bool, true, false, if◌then◌else◌, List, [], ◌∷◌, take, drop, find, Option, Some, None, is_some, refl, ap, sym, subst, ◌∙◌, arith, ◌^◌}
+use Rattle.host_pairs.specs.Parcels.{Parcel, may_send_on, next_of, link_of}
+use Rattle.host_keeps_pairing.proofs.lemmas.{found_same, marks_append, none_is}
+use Rattle.host_keeps_streams.specs.Histories.{AsksBack, Closes, Gives, Grants, OpensReceiver, OpensSender, Call}
+use Rattle.sockets.specs.Requests.{grant_fault, is_taken, on_open, close_fault, closing_fault, is_used, refusal}
+use Rattle.world_keeps_streams.specs.Calls.{owner_calls, parcel_calls, request_calls, called}
 use Rattle.std.proofs.lemmas.List.{take-append-drop}
 use Rattle.host_pairs.specs.Parcels as parcel
-use Rattle.host_pairs.specs.Parcels.{link_of}
-use Rattle.host_keeps_streams.specs.Histories.{Call}
 use Rattle.host_keeps_streams.proofs.lemmas.Senders as senders
-use Rattle.sockets.specs.Requests.{close_fault, closing_fault, is_used, refusal}
 use Rattle.sockets.specs.declared.fault.NcpFault.{NcpFault}
 use Rattle.sockets.specs.declared.request.Request.TheVariants as request
-use Rattle.world_keeps_streams.specs.Calls.{called}
 use Rattle.world_keeps_streams.proofs.Calls.May.{AllMay, MayCall}
 use Rattle.world_keeps_streams.proofs.Calls.MayTurns.{said_may}
-use Rattle.host_keeps_pairing.proofs.lemmas.{none_is}
 
 -- ---- byte sizes
 

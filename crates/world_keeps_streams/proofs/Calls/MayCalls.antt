@@ -1,8 +1,9 @@
 -- What holds of each call of a host's program.
-use Rattle.world_keeps_streams.proofs.Common.{◌≡◌, ℕ, List, [], ◌∷◌, Some, IsCommand, IsHeader, PairState, Bytes, next_of, HasSaid, Hears, Takes, Says, Sends, Answered, IsAllowed, IsFirst, IsHeard, IsPaired, IsPairedCall}
+use Rattle.world_keeps_streams.proofs.Common.{◌≡◌, ℕ, List, [], ◌∷◌, Some, IsCommand, IsHeader, PairState, Bytes, next_of, HasSaid}
+use Rattle.host_keeps_streams.specs.Histories.{Hears, Takes, Says, Sends, Answered, IsAllowed, Call}
+use Rattle.pair_keeps_streams.proofs.lemmas.{IsFirst, IsHeard, IsPaired, IsPairedCall}
 use Rattle.stream_law.specs.Senders.{Sender}
 use Rattle.host_keeps_streams.specs.Histories as calls
-use Rattle.host_keeps_streams.specs.Histories.{Call}
 
 abbrev pub MayCall : Call → PairState → Type 0
 MayCall (Hears stamp said c) q = IsCommand c × IsPaired c × IsFirst c q.entries × IsHeard c q.entries

@@ -1,14 +1,14 @@
 -- What a host hears of a peer may be heard, over all moments.
-use Rattle.world_keeps_streams.proofs.Common.{◌≡◌, ℕ, ◌==◌, ◌&&◌, Bool, if◌then◌else◌, List, [], ◌∷◌, refl, sym, subst, Host, HostMessage, same_host-refl, waits_with, is_receive_socket, is_send_socket, Order, orders_of, is_ready, both, text_good, HasEnd, AreJoint, AllFit, marks_in, Takes, End, Sockets, Mark, Message, turn_of, pair_with, IsApart, Crossed, IsStory, Moment, events_of, places, program, crossings_of, TakesFreeAt, AText, AllBare, AllTied, AnRrp, AnRst, AreOrigins, IsUnpaired, Side_of, Sort, plain_joint, sort_of, message_calls, orders_heard}
-use Rattle.reset_law.specs.Network.{AreOurs, Network}
-use Rattle.std.proofs.Common.{true, false}
+use Rattle.world_keeps_streams.proofs.Common.{Host, HostMessage, same_host-refl, waits_with, is_receive_socket, is_send_socket, Order, orders_of, is_ready, both, HasEnd, AreJoint, AllFit, marks_in, Takes, Mark, Message, turn_of, pair_with, IsApart, Crossed, IsStory, Moment, events_of, places, program, crossings_of, TakesFreeAt, AreOurs, Network}
+use Rattle.std.proofs.Common.{◌≡◌, ℕ, ◌==◌, ◌&&◌, Bool, if◌then◌else◌, List, [], ◌∷◌, refl, sym, subst, true, false}
+use Rattle.host_keeps_ranges.proofs.lemmas.{text_good}
+use Rattle.pairing_law.specs.Ends.{End, nothing}
+use Rattle.pairing_law.specs.Links.{Sockets, Receiver, Sender}
+use Rattle.world_keeps_pairing.proofs.lemmas.{AText, AllBare, AllTied, AnRrp, AnRst, AreOrigins, IsUnpaired, Side_of, Sort, plain_joint, sort_of, IsSilent, receiver_hears, sender_hears, unpaired_turned, waiting_silent}
+use Rattle.world_keeps_streams.specs.Calls.{message_calls, orders_heard, called}
 use Rattle.interface.specs.Mailboxes as mail
 use Rattle.interface.specs.declared.crossing.Crossing.TheVariants as crossing
-use Rattle.pairing_law.specs.Ends.{nothing}
-use Rattle.pairing_law.specs.Links.{Receiver, Sender}
 use Rattle.reset_law.specs.Runs.{IsRun}
-use Rattle.world_keeps_pairing.proofs.lemmas.{IsSilent, receiver_hears, sender_hears, unpaired_turned, waiting_silent}
-use Rattle.world_keeps_streams.specs.Calls.{called}
 use Rattle.world_keeps_streams.proofs.Calls.May.{AllMay}
 use Rattle.world_keeps_streams.proofs.Calls.MayTurns.{AreSilent, Fits, heard_may}
 

@@ -1,11 +1,10 @@
 -- What may be said of each call of a world's programs, as the steps of two programs on a link need it.
-use Rattle.world_keeps_streams.proofs.Common.{List, [], ◌∷◌, Host, Command, PairState, Entry, Answered, AsksBack, Hears, OpensReceiver, OpensSender, Says, Sends, Takes, HaveAddresses, Moment, crossings_of, calls_by, IsHeard}
-use Rattle.reset_law.specs.Network.{AreOurs, Network}
-use Rattle.net_sim.specs.Mixed.{Happened}
+use Rattle.world_keeps_streams.proofs.Common.{List, [], ◌∷◌, Host, Command, PairState, Entry, HaveAddresses, Moment, crossings_of, calls_by, AreOurs, Network, Happened}
+use Rattle.host_keeps_streams.specs.Histories.{Answered, AsksBack, Hears, OpensReceiver, OpensSender, Says, Sends, Takes, Call}
+use Rattle.pair_keeps_streams.proofs.lemmas.{IsHeard}
 use Rattle.interface.specs.Mailboxes as mail
 use Rattle.ncp_control.specs.declared.command.Command.TheVariants as command
 use Rattle.host_keeps_streams.specs.Histories as calls
-use Rattle.host_keeps_streams.specs.Histories.{Call}
 use Rattle.world_keeps_streams.proofs.Calls.Allowed.{may_calls}
 use Rattle.world_keeps_streams.proofs.Calls.May as may
 use Rattle.world_keeps_streams.proofs.Calls.May.{AllMay}

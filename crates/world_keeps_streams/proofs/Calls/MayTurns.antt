@@ -1,12 +1,14 @@
 -- Each call of a turn may be made: what goes out was said by its end, and what is heard is the first of its kind.
-use Rattle.world_keeps_streams.proofs.Common.{◌≡◌, ℕ, ◌==◌, ◌&&◌, not, Bool, true, false, if◌then◌else◌, List, [], ◌∷◌, ◌++◌, Option, Some, None, is_some, refl, ap, sym, subst, ◌∙◌, inl, inr, eq-eqb, append_assoc, Host, IsCommand, is_receive_socket, is_send_socket, Command, Legal, Order, Wrong, desk_of, entry_at, has_cls, PairState, command_gone, with_connections, is_ready, TurnState, order_taken, with_desk, Entry, Listener, both, not_is, AreCommands, AreOrders, HasEnd, Stand, Standing, at, came_from, standing, AreJoint, AllFit, all_gone, mark_in, mark_of, marks, marks_in, found_at, live_end, one_gone, plain, ready_when, work_of, HasSaid, Hears, Says, End, fits, is_begun, Mark, Ask, Close, clash, IsUnpaired, send_odd, commands_said, orders_heard}
+use Rattle.world_keeps_streams.proofs.Common.{◌≡◌, ℕ, ◌==◌, ◌&&◌, not, Bool, true, false, if◌then◌else◌, List, [], ◌∷◌, ◌++◌, Option, Some, None, is_some, refl, ap, sym, subst, ◌∙◌, inl, inr, eq-eqb, append_assoc, Host, IsCommand, is_receive_socket, is_send_socket, Command, Legal, Order, Wrong, desk_of, entry_at, has_cls, PairState, command_gone, with_connections, is_ready, TurnState, order_taken, with_desk, Entry, Listener, both, not_is, HasEnd, Stand, Standing, at, came_from, standing, HasSaid, Hears, Says, Mark, Ask, Close, clash}
+use Rattle.host_keeps_ranges.specs.Ranges.{AreCommands, AreOrders}
+use Rattle.host_keeps_pairing.specs.Hearing.{AreJoint, AreFree}
+use Rattle.host_keeps_pairing.specs.Words.{AllFit, all_gone, mark_in, mark_of, marks, marks_in, all_taken}
+use Rattle.host_keeps_pairing.proofs.lemmas.{found_at, live_end, one_gone, plain, ready_when, work_of, Found, fit_first, heads, none_at, one_order}
+use Rattle.pairing_law.specs.Ends.{End, fits, is_begun, nothing}
+use Rattle.world_keeps_pairing.proofs.lemmas.{IsUnpaired, send_odd}
+use Rattle.world_keeps_streams.specs.Calls.{commands_said, orders_heard, called}
 use Rattle.ncp_control.specs.declared.command.Command.TheVariants as command
-use Rattle.host_keeps_pairing.specs.Hearing.{AreFree}
-use Rattle.host_keeps_pairing.specs.Words.{all_taken}
-use Rattle.host_keeps_pairing.proofs.lemmas.{Found, fit_first, heads, none_at, one_order}
 use Rattle.host_keeps_streams.specs.Histories as calls
-use Rattle.pairing_law.specs.Ends.{nothing}
-use Rattle.world_keeps_streams.specs.Calls.{called}
 use Rattle.world_keeps_streams.proofs.Calls.May.{AllMay, MayCall}
 
 same_two : (a b : ℕ) → (a == a && b == b) ≡ true

@@ -1,16 +1,16 @@
 -- Each call of a host's program, for one peer: the calls of streams that it is lead from the ends before it to those after it.
-use Rattle.world_keeps_streams.proofs.Common.{◌≡◌, ℕ, Bool, true, false, not, if◌then◌else◌, cond, List, [], ◌∷◌, find, Option, Some, None, refl, ap, sym, subst, ◌∙◌, Host, same_host, Flow, Answer, HostMessage, not_false, same_host-true, closed_end, commanded, contacted, interrupt_of, receiver_requested, requested, with_end, with_more_bits, desk_of, listens_on, free_link, is_busy, is_mine_on, sending_end, PairState, Parcel, pair_after, parcel_gone, is_ready, answered_turn, message_taken, Entry, what_goes, put, AsksBack, Closes, Gives, Grants, OpensReceiver, OpensSender, ends_by, turn_of, NcpState, owner_of, pair_with, with_pair, AreInOrder, at_owner, closed_socket, with_peer, next_in, offered_by, Peer, Request, next_is, next_pair, not_first, pair_changed, IsApart, message_on, clash, owner_found, answer_calls, message_calls, next_calls, owner_calls, parcel_calls, request_calls}
+use Rattle.world_keeps_streams.proofs.Common.{◌≡◌, ℕ, Bool, true, false, not, if◌then◌else◌, cond, List, [], ◌∷◌, find, Option, Some, None, refl, ap, sym, subst, ◌∙◌, Host, same_host, Flow, Answer, HostMessage, not_false, same_host-true, closed_end, commanded, contacted, interrupt_of, receiver_requested, requested, with_end, with_more_bits, desk_of, listens_on, free_link, is_busy, is_mine_on, sending_end, PairState, is_ready, answered_turn, message_taken, Entry, what_goes, put, NcpState, owner_of, pair_with, with_pair, AreInOrder, Peer, Request, next_is, next_pair, not_first, pair_changed, IsApart, message_on, clash, owner_found}
+use Rattle.host_pairs.specs.Parcels.{Parcel, pair_after, parcel_gone, link_of}
+use Rattle.host_keeps_streams.specs.Histories.{AsksBack, Closes, Gives, Grants, OpensReceiver, OpensSender, ends_by, Call}
+use Rattle.sockets.specs.Accepting.{turn_of, accepted}
+use Rattle.sockets.specs.Requests.{at_owner, closed_socket, with_peer, refusal, served}
+use Rattle.sockets.specs.Sending.{next_in, offered_by, offered}
+use Rattle.world_keeps_streams.specs.Calls.{answer_calls, message_calls, next_calls, owner_calls, parcel_calls, request_calls, called}
 use Rattle.interface.specs.declared.crossing.Inbound.TheVariants as inbound
 use Rattle.ncp_control.specs.declared.command.Command.TheVariants as command
 use Rattle.host_pairs.specs.Commands.{granted}
-use Rattle.host_pairs.specs.Parcels.{link_of}
 use Rattle.host_keeps_streams.specs.Histories as calls
-use Rattle.host_keeps_streams.specs.Histories.{Call}
-use Rattle.sockets.specs.Accepting.{accepted}
-use Rattle.sockets.specs.Requests.{refusal, served}
-use Rattle.sockets.specs.Sending.{offered}
 use Rattle.sockets.specs.declared.request.Request.TheVariants as request
-use Rattle.world_keeps_streams.specs.Calls.{called}
 use Rattle.world_keeps_streams.proofs.Calls.Leads.{IsIdle, Turned, answer_turned, is_reset, message_turned, one_lead, parcel_turned, same_turned}
 
 -- ---- a program

@@ -1,12 +1,13 @@
 -- The byte sizes of a pair's ends are octets, and not zero: each call keeps that.
-use Rattle.world_keeps_streams.proofs.Common.{◌≡◌, ℕ, zero, suc, ◌&&◌, IsTrue, nat_le, Bool, true, false, if◌then◌else◌, List, [], ◌∷◌, ◌++◌, map, filter, Option, Some, None, is_some, refl, sym, subst, arith, list_any, Host, IsCommand, header_of, is_byte_size, Command, DataHeader, receiver_requested, Ending, Open, Unconnected, at_end, cls_taken_by, gvb_taken, interrupted, matched_once, receiver_on, ret_taken, rts_heard, rts_taken_by, sender_on, str_heard, str_linked, str_taken_by, desk_taken, ERRONEOUS, arrived_if, data_found, is_acceptable, DeskState, listener_on, changed_first, entry_at, free_link, receiving_end, sends_on, PairState, command_gone, Entry, Listener, AreSizes, Answered, AsksBack, Closes, Hears, IsHistory, OpensReceiver, OpensSender, Says, Takes, ends_by, ends_now}
-use Rattle.ncp_control.specs.Command.{IsOctet}
+use Rattle.world_keeps_streams.proofs.Common.{◌≡◌, ℕ, zero, suc, ◌&&◌, IsTrue, nat_le, Bool, true, false, if◌then◌else◌, List, [], ◌∷◌, ◌++◌, map, filter, Option, Some, None, is_some, refl, sym, subst, arith, list_any, Host, header_of, is_byte_size, Command, DataHeader, receiver_requested, ERRONEOUS, arrived_if, data_found, is_acceptable, DeskState, listener_on, changed_first, entry_at, free_link, receiving_end, sends_on, PairState, command_gone, Entry, Listener}
+use Rattle.ncp_control.specs.Command.{IsCommand, IsOctet}
+use Rattle.host_pairs.specs.Commands.{Ending, Open, Unconnected, at_end, cls_taken_by, gvb_taken, interrupted, matched_once, receiver_on, ret_taken, rts_heard, rts_taken_by, sender_on, str_heard, str_linked, str_taken_by, desk_taken, Found, all_taken}
+use Rattle.host_keeps_ranges.specs.Ranges.{AreSizes}
+use Rattle.host_keeps_streams.specs.Histories.{Answered, AsksBack, Closes, Hears, IsHistory, OpensReceiver, OpensSender, Says, Takes, ends_by, ends_now, Call}
 use Rattle.ncp_control.specs.declared.command.Command.TheVariants as command
 use Rattle.host_pairs.specs.Commands as commands
-use Rattle.host_pairs.specs.Commands.{Found, all_taken}
 use Rattle.host_keeps_ranges.proofs.lemmas.{size_found}
 use Rattle.host_keeps_streams.specs.Histories as calls
-use Rattle.host_keeps_streams.specs.Histories.{Call}
 use Rattle.world_keeps_streams.proofs.Calls.MayAsk.{AreSized, IsSize}
 
 -- ---- lists

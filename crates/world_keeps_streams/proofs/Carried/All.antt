@@ -1,6 +1,6 @@
 -- After a call, all that holds of the lives of a host with one peer holds again.
-use Rattle.world_keeps_streams.proofs.Common.{◌≡◌, ◌⊎◌, inl, inr, ℕ, ◌==◌, not, Bool, true, List, [], ◌∷◌, ◌++◌, map, length, Option, Some, is_some, refl, ap, sym, subst, ◌∙◌, arith, eqb-true, Host, is_receive_socket, is_send_socket, Allocation, is_link, is_open, is_receiving, receives_on, sends_on, Entry, both, not_is, has_opened, IsTelling, gone_by, is_there, name_of, new_life, clash, open_parts, odd_send}
-use Rattle.std.proofs.Common.{false}
+use Rattle.world_keeps_streams.proofs.Common.{eqb-true, Host, is_receive_socket, is_send_socket, Allocation, is_link, is_open, is_receiving, receives_on, sends_on, Entry, both, not_is, has_opened, IsTelling, gone_by, is_there, name_of, new_life, clash, open_parts, odd_send}
+use Rattle.std.proofs.Common.{◌≡◌, ◌⊎◌, inl, inr, ℕ, ◌==◌, not, Bool, true, List, [], ◌∷◌, ◌++◌, map, length, Option, Some, is_some, refl, ap, sym, subst, ◌∙◌, arith, false}
 use Rattle.stream_law.specs.Receivers.{Receiver}
 use Rattle.stream_law.specs.Senders.{Sender}
 use Rattle.host_keeps_streams.specs.Names.{named}

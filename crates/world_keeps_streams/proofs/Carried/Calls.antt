@@ -1,8 +1,8 @@
 -- The lives of a host with one peer beside the calls of its program, and what comes of it for the host's book.
-use Rattle.world_keeps_streams.proofs.Common.{◌≡◌, inl, inr, ℕ, suc, ◌==◌, Bool, true, false, if◌then◌else◌, List, [], ◌∷◌, ◌++◌, drop, length, Some, refl, ap, sym, ◌∙◌, subst, eq-eqb, arith, eqb-true, Contains, Host, entry_at, Entry, AreAllowed, IsHistory, IsTelling, ends_after, gone_now, receiver_now, sender_now, holds_now, name_of, AreApart, is_among, numbers, Ask, Asks, Close, Mark, pair_with, Moment, event_in, events_of, program, AreRefusing, keeps, own_calls}
+use Rattle.world_keeps_streams.proofs.Common.{◌≡◌, inl, inr, ℕ, suc, ◌==◌, Bool, true, false, if◌then◌else◌, List, [], ◌∷◌, ◌++◌, drop, length, Some, refl, ap, sym, ◌∙◌, subst, eq-eqb, arith, eqb-true, Contains, Host, entry_at, Entry, AreAllowed, IsHistory, IsTelling, ends_after, gone_now, receiver_now, sender_now, Ask, Asks, Close, Mark, pair_with, Moment, event_in, events_of, program, AreRefusing, keeps, own_calls}
+use Rattle.host_keeps_streams.proofs.lemmas.{holds_now, name_of, Holds}
+use Rattle.host_keeps_streams.specs.Names.{AreApart, is_among, numbers, named}
 use Rattle.host_keeps_streams.specs.Histories as calls
-use Rattle.host_keeps_streams.proofs.lemmas.{Holds}
-use Rattle.host_keeps_streams.specs.Names.{named}
 use Rattle.promise.specs.declared.life.Life.{Life}
 use Rattle.net_sim.specs.Told.{kept_in}
 use Rattle.world_keeps_streams.proofs.Deeds.Effects.{Among}

@@ -1,11 +1,12 @@
 -- The lives of a host with one peer, over all that it hears in one message of its peer.
-use Rattle.world_keeps_streams.proofs.Common.{◌≡◌, ℕ, ◌≤◌, ◌==◌, true, false, List, [], ◌∷◌, ◌++◌, drop, length, refl, ap, sym, subst, ◌∙◌, arith, Host, Command, desk_taken, Legal, Order, Wrong, error, DeskState, desk_of, listens_on, command_queued, is_ready, TurnState, command_taken, if_ready, order_taken, orders_taken, with_desk, Entry, Notice, AreAllowed, Hears, IsHistory, IsTelling, ends_after, gone_now, receiver_now, sender_now, holds_now, Kept, all_told, AreRefusing, GoodTurn, Place, all_told_append, good_queued, good_ready, good_taken, orders_heard}
-use Rattle.std.proofs.Common.{append-nil}
+use Rattle.world_keeps_streams.proofs.Common.{Host, Command, desk_taken, Legal, Order, Wrong, error, DeskState, desk_of, listens_on, command_queued, is_ready, TurnState, command_taken, if_ready, order_taken, orders_taken, with_desk, Entry, Notice, AreAllowed, Hears, IsHistory, IsTelling, ends_after, gone_now, receiver_now, sender_now, Kept, all_told, AreRefusing}
+use Rattle.std.proofs.Common.{◌≡◌, ℕ, ◌≤◌, ◌==◌, true, false, List, [], ◌∷◌, ◌++◌, drop, length, refl, ap, sym, subst, ◌∙◌, arith, append-nil}
+use Rattle.host_keeps_streams.proofs.lemmas.{holds_now, Holds}
+use Rattle.world_keeps_lives.proofs.lemmas.{GoodTurn, Place, all_told_append, good_queued, good_ready, good_taken}
+use Rattle.world_keeps_streams.specs.Calls.{orders_heard, called}
 use Rattle.ncp_control.specs.declared.command.Command.TheVariants as command
 use Rattle.host_keeps_streams.specs.Histories as calls
-use Rattle.host_keeps_streams.proofs.lemmas.{Holds}
 use Rattle.promise.specs.declared.life.Life.{Life}
-use Rattle.world_keeps_streams.specs.Calls.{called}
 use Rattle.world_keeps_streams.proofs.Deeds.Effects.{all_lives}
 use Rattle.world_keeps_streams.proofs.Deeds.Kinds.{deed_of, hears}
 use Rattle.world_keeps_streams.proofs.Deeds.Told.{After, call_told, notices_of}

@@ -1,5 +1,7 @@
 -- The lives of a host with one peer, from one moment to the next: where it drops its ends, where it makes one call, and where it makes none.
-use Rattle.world_keeps_streams.proofs.Common.{◌≡◌, inl, inr, ℕ, Bool, true, false, List, [], ◌∷◌, ◌++◌, drop, length, refl, ap, sym, subst, ◌∙◌, Host, same_host, same_host-true, listens_on, Entry, IsHistory, IsTelling, ends_after, turn_of, NcpState, pair_with, Kept, HaveAddresses, Moment, event_in, events_of, program, crossings_of, AreRefusing, IsLifeOf, mine_on, At, Elsewhere, GoodTurn, Near, Place, same_turned, keeps, calls_by, own_calls, Happened, Network, AreOurs}
+use Rattle.world_keeps_streams.proofs.Common.{◌≡◌, inl, inr, ℕ, Bool, true, false, List, [], ◌∷◌, ◌++◌, drop, length, refl, ap, sym, subst, ◌∙◌, Host, same_host, same_host-true, listens_on, Entry, IsHistory, IsTelling, ends_after, turn_of, NcpState, pair_with, Kept, HaveAddresses, Moment, event_in, events_of, program, crossings_of, keeps, calls_by, own_calls, Happened, Network, AreOurs}
+use Rattle.world_keeps_lives.specs.Lives.{AreRefusing, IsLifeOf, mine_on, EachIn, IsOwned}
+use Rattle.world_keeps_lives.proofs.lemmas.{At, Elsewhere, GoodTurn, Near, Place, same_turned, Holds}
 use Rattle.interface.specs.Mailboxes as mail
 use Rattle.stream_law.specs.Receivers.{Receiver}
 use Rattle.stream_law.specs.Senders.{Sender}
@@ -7,8 +9,6 @@ use Rattle.host_pairs.proofs.lemmas.{none_left}
 use Rattle.host_keeps_streams.specs.Histories as calls
 use Rattle.promise.specs.declared.life.Life.{Life}
 use Rattle.net_sim.specs.Told.{kept_in}
-use Rattle.world_keeps_lives.specs.Lives.{EachIn, IsOwned}
-use Rattle.world_keeps_lives.proofs.lemmas.{Holds}
 use Rattle.world_keeps_streams.proofs.Deeds.Effects.{Among}
 use Rattle.world_keeps_streams.proofs.Deeds.Kinds.{deed_of}
 use Rattle.world_keeps_streams.proofs.Deeds.Told.{After}

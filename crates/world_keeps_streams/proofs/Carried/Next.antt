@@ -1,9 +1,9 @@
 -- The step itself: after a call all lives of a host with one peer are again beside the laws of their links.
-use Rattle.world_keeps_streams.proofs.Common.{◌≡◌, inl, inr, ℕ, suc, ◌≤◌, ◌==◌, ◌&&◌, Bool, true, false, List, map, Option, Some, is_some, refl, ap, sym, subst, ◌∙◌, eq-eqb, arith, eqb-true, Host, same_host, same_host-refl, is_receive_socket, is_send_socket, Allocation, is_link, is_receiving, receives_on, sends_on, Entry, has_opened, IsTelling, gone_by, is_there, name_of, lives_at, clash}
+use Rattle.world_keeps_streams.proofs.Common.{◌≡◌, inl, inr, ℕ, suc, ◌≤◌, ◌==◌, ◌&&◌, Bool, true, false, List, map, Option, Some, is_some, refl, ap, sym, subst, ◌∙◌, eq-eqb, arith, eqb-true, Host, same_host, same_host-refl, and_none, is_receive_socket, is_send_socket, Allocation, is_link, is_receiving, receives_on, sends_on, Entry, has_opened, IsTelling, gone_by, lives_at, clash}
+use Rattle.host_keeps_streams.proofs.lemmas.{is_there, name_of, odd_is}
 use Rattle.stream_law.specs.Receivers.{Receiver}
 use Rattle.stream_law.specs.Senders.{Sender}
 use Rattle.host_keeps_streams.specs.Names.{named}
-use Rattle.host_keeps_streams.proofs.lemmas.{odd_is}
 use Rattle.promise.specs.declared.life.Life.{Life}
 use Rattle.promise.specs.Safe.{receives, sends}
 use Rattle.world_keeps_streams.proofs.Deeds.Effects.{Among, Deed, From, Receives, Sends, among_front, among_mapped, at_receiver, at_sender, granted_by, life_by, new_by, taken_by}
@@ -11,7 +11,6 @@ use Rattle.world_keeps_streams.proofs.Deeds.Ends.{Does, IsAt}
 use Rattle.world_keeps_streams.proofs.Deeds.Told.{After}
 use Rattle.world_keeps_streams.proofs.Carried.Streams.{EndOf, HasSent, HasTaken, IsSent, IsTaken, among_there, end_opened, end_own, end_there, gone_more, gone_one, gone_same, sent_step, taken_step, the_end}
 use Rattle.world_keeps_streams.proofs.Carried.Step.{AreOwned, CarriedOn, Carry, by_goes, by_over, by_same, by_stamp}
-use Rattle.interface.proofs.lemmas.{and_none}
 
 module _ (told next_told : ℕ → ℕ → ℕ → ℕ → Type 0) (grows : (own foreign g v : ℕ) → told own foreign g v → next_told own foreign g v) (number : ℕ → ℕ → ℕ → ℕ) (tells : IsTelling number) (a b : Host) (gone : ℕ → ℕ → ℕ) (es : List Entry) (r : ℕ → Receiver) (s : ℕ → Sender) where
   -- ---- where a life is hit, the law is

@@ -1,13 +1,14 @@
 -- Lives that continue and their ends, by what world_keeps_lives has of each socket; and the lives of a book since a host dropped its ends.
-use Rattle.world_keeps_streams.proofs.Common.{◌≡◌, inl, inr, ℕ, zero, suc, ◌+◌, ◌≤◌, ◌==◌, Bool, true, false, if◌then◌else◌, List, [], ◌∷◌, ◌++◌, map, drop, length, refl, ap, sym, subst, ◌∙◌, eq-eqb, arith, length-append, Host, same_host, same_host-refl, Entry, Notice, pair_with, Request, Kept, all_told, lives_asked, lives_told, where_it, HaveAddresses, Asked, Crossed, Moment, event_in, events_of, program, crossings_of, host_in, kept_by, notices_by, HasOpenEnd, IsLifeOf, at_socket, mine_on, At, Elsewhere, Near, Place, clash, keeps, Happened, Network}
+use Rattle.world_keeps_streams.proofs.Common.{◌≡◌, inl, inr, ℕ, zero, suc, ◌+◌, ◌≤◌, ◌==◌, Bool, true, false, if◌then◌else◌, List, [], ◌∷◌, ◌++◌, map, drop, length, refl, ap, sym, subst, ◌∙◌, eq-eqb, arith, length-append, Host, same_host, same_host-refl, Entry, Notice, pair_with, Request, Kept, all_told, lives_asked, lives_told, where_it, HaveAddresses, Asked, Crossed, Moment, event_in, events_of, program, crossings_of, keeps, Happened, Network}
+use Rattle.net_sim.specs.Told.{host_in, kept_by, notices_by, kept_in}
+use Rattle.world_keeps_lives.specs.Lives.{HasOpenEnd, IsLifeOf, at_socket, mine_on, EachOn, NoneOf}
+use Rattle.world_keeps_lives.proofs.lemmas.{At, Elsewhere, Near, Place, clash}
 use Rattle.interface.specs.Mailboxes as mail
 use Rattle.interface.specs.declared.crossing.Crossing.TheVariants as crossing
 use Rattle.host_pairs.specs.declared.notice.Notice.TheVariants as notice
 use Rattle.sockets.specs.declared.request.Request.TheVariants as request
 use Rattle.promise.specs.declared.life.Life.{Life}
 use Rattle.net_sim.specs.Book as book
-use Rattle.net_sim.specs.Told.{kept_in}
-use Rattle.world_keeps_lives.specs.Lives.{EachOn, NoneOf}
 use Rattle.world_keeps_streams.proofs.Deeds.Effects.{Among, Deed, all_lives, life_by, new_by}
 use Rattle.world_keeps_streams.proofs.Deeds.Told.{After}
 use Rattle.world_keeps_streams.proofs.Carried.Streams.{EndOf}

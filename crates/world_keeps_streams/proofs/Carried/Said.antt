@@ -1,12 +1,12 @@
 -- The lives of a host with one peer, over all commands that go out to it in one message.
-use Rattle.world_keeps_streams.proofs.Common.{◌≡◌, inl, inr, ℕ, ◌≤◌, ◌==◌, ◌&&◌, Bool, true, if◌then◌else◌, List, [], ◌∷◌, ◌++◌, drop, length, Some, None, refl, ap, sym, subst, ◌∙◌, eq-eqb, arith, Host, IsCommand, Command, End, Ask, Mark, Stand, Standing, at, standing, mark_of, marks, found_at, marks_append, one_gone, AreCommands, DeskState, desk_of, listens_on, entry_at, PairState, command_gone, commands_gone, with_connections, Entry, Listener, Notice, AreAllowed, IsHistory, IsTelling, Says, Kept, all_told, IsOfTwo, Place, all_told_append, commands_said}
-use Rattle.std.proofs.Common.{append-nil}
+use Rattle.world_keeps_streams.proofs.Common.{Host, IsCommand, Command, End, Ask, Mark, Stand, Standing, at, standing, mark_of, marks, AreCommands, DeskState, desk_of, listens_on, entry_at, PairState, command_gone, commands_gone, with_connections, Entry, Listener, Notice, AreAllowed, IsHistory, IsTelling, Says, Kept, all_told}
+use Rattle.std.proofs.Common.{◌≡◌, inl, inr, ℕ, ◌≤◌, ◌==◌, ◌&&◌, Bool, true, if◌then◌else◌, List, [], ◌∷◌, ◌++◌, drop, length, Some, None, refl, ap, sym, subst, ◌∙◌, eq-eqb, arith, append-nil}
+use Rattle.host_keeps_pairing.proofs.lemmas.{found_at, marks_append, one_gone, Found}
+use Rattle.world_keeps_lives.proofs.lemmas.{IsOfTwo, Place, all_told_append, G, Waits, all_go, unasked_by}
+use Rattle.world_keeps_streams.specs.Calls.{commands_said, called}
 use Rattle.ncp_control.specs.declared.command.Command.TheVariants as command
-use Rattle.host_keeps_pairing.proofs.lemmas.{Found}
 use Rattle.host_keeps_streams.specs.Histories as calls
 use Rattle.promise.specs.declared.life.Life.{Life}
-use Rattle.world_keeps_lives.proofs.lemmas.{G, Waits, all_go, unasked_by}
-use Rattle.world_keeps_streams.specs.Calls.{called}
 use Rattle.world_keeps_streams.proofs.Deeds.Effects.{all_lives}
 use Rattle.world_keeps_streams.proofs.Deeds.Kinds.{says}
 use Rattle.world_keeps_streams.proofs.Deeds.Told.{After, call_told}

@@ -1,6 +1,6 @@
 -- The lives of a host with one peer beside what the laws of their links have, as one call changes them.
-use Rattle.world_keeps_streams.proofs.Common.{◌≡◌, inl, inr, ℕ, suc, ◌+◌, ◌≤◌, ◌==◌, ◌&&◌, not, Bool, true, false, if◌then◌else◌, List, [], ◌∷◌, ◌++◌, length, Option, Some, is_some, refl, ap, sym, subst, ◌∙◌, eq-eqb, arith, eqb-true, append_assoc, length-append, Host, Allocation, is_at, is_mine_on, is_receiving, Entry, both, has_opened, gone_by, is_there, changed_when, life_ended, lives_at, lives_between, mine_on, clash}
-use Rattle.std.proofs.Common.{append-nil}
+use Rattle.world_keeps_streams.proofs.Common.{eqb-true, append_assoc, length-append, Host, Allocation, is_at, is_mine_on, is_receiving, Entry, both, has_opened, gone_by, is_there, changed_when, life_ended, lives_at, lives_between, mine_on, clash}
+use Rattle.std.proofs.Common.{◌≡◌, inl, inr, ℕ, suc, ◌+◌, ◌≤◌, ◌==◌, ◌&&◌, not, Bool, true, false, if◌then◌else◌, List, [], ◌∷◌, ◌++◌, length, Option, Some, is_some, refl, ap, sym, subst, ◌∙◌, eq-eqb, arith, append-nil}
 use Rattle.ncp_control.specs.Allocation as counters
 use Rattle.stream_law.specs.Receivers.{Receiver}
 use Rattle.stream_law.specs.Senders.{Sender}

@@ -1,22 +1,20 @@
 -- What becomes of a host's ends by a call, beside its deed.
-use Rattle.world_keeps_streams.proofs.Common.{◌≡◌, ◌⊎◌, inl, inr, ℕ, ◌*◌, ◌==◌, ◌&&◌, ◌||◌, not, Bool, true, false, nat_le, if◌then◌else◌, List, [], ◌∷◌, ◌++◌, take, map, filter, find, Option, Some, None, is_some, refl, ap, sym, subst, ◌∙◌, eq-eqb, eqb-true, list_any, Host, IsCommand, data_bits, header_of, is_receive_socket, Command, DataHeader, MayGo, receiver_requested, with_more_bits, Unconnected, Ending, Open, asked_on_link, asked_with_size, at_end, found_in, given_back, interrupted, ret_taken, desk_taken, arrived_if, data_found, data_of, data_taken, is_acceptable, spent, DeskState, desk_of, listener_on, called_off, changed_at, changed_first, closed_by_partner, closed_when, entry_at, free_link, is_at, is_ending, is_mine_on, is_open, is_receiving, must_close, receives_on, receiving_end, refused_end, sending_end, sends_on, PairState, Bytes, asked_at, bits_gone, cls_sent, command_gone, may_send_on, next_of, freed, Entry, Listener, both, not_is, what_goes, found_same, has_opened, Hears, Takes, Says, Sends, Answered, OpensReceiver, OpensSender, Grants, AsksBack, Gives, Closes, ends_by, AreApart, is_among, numbers, find_passes, is_there, numbers_mapped, unlike, AreRefusing, clash, open_mine, open_parts, refusing_found}
-use Rattle.ncp_control.specs.Numbers.{is_connection_link}
+use Rattle.world_keeps_streams.proofs.Common.{◌≡◌, ◌⊎◌, inl, inr, ℕ, ◌*◌, ◌==◌, ◌&&◌, ◌||◌, not, Bool, true, false, nat_le, if◌then◌else◌, List, [], ◌∷◌, ◌++◌, take, map, filter, find, Option, Some, None, is_some, refl, ap, sym, subst, ◌∙◌, eq-eqb, eqb-true, list_any, Host, IsCommand, data_bits, header_of, Command, DataHeader, MayGo, receiver_requested, with_more_bits, arrived_if, data_found, data_of, data_taken, is_acceptable, spent, DeskState, desk_of, listener_on, PairState, freed, Entry, Listener, both, not_is, what_goes, found_same, has_opened, AreRefusing, and_none}
+use Rattle.ncp_control.specs.Numbers.{is_receive_socket, is_connection_link}
+use Rattle.host_pairs.specs.Commands.{Unconnected, Ending, Open, asked_on_link, asked_with_size, at_end, found_in, given_back, interrupted, ret_taken, desk_taken, Found, granted, returned}
+use Rattle.host_pairs.specs.Entries.{called_off, changed_at, changed_first, closed_by_partner, closed_when, entry_at, free_link, is_at, is_ending, is_mine_on, is_open, is_receiving, must_close, receives_on, receiving_end, refused_end, sending_end, sends_on, is_over}
+use Rattle.host_pairs.specs.Parcels.{Bytes, asked_at, bits_gone, cls_sent, command_gone, may_send_on, next_of, link_of}
+use Rattle.host_keeps_streams.specs.Histories.{Hears, Takes, Says, Sends, Answered, OpensReceiver, OpensSender, Grants, AsksBack, Gives, Closes, ends_by, Call}
+use Rattle.host_keeps_streams.specs.Names.{AreApart, is_among, numbers, named}
+use Rattle.host_keeps_streams.proofs.lemmas.{find_passes, is_there, numbers_mapped, unlike, numbers_changed, received_is}
+use Rattle.world_keeps_lives.proofs.lemmas.{clash, open_mine, open_parts, refusing_found, IsLess, IsRefusing, called_less, closed_less, found_changed, heard_less, none_changed, sent_less, not_zero}
 use Rattle.ncp_control.specs.declared.command.Command.TheVariants as command
 use Rattle.host_pairs.specs.Commands as commands
-use Rattle.host_pairs.specs.Commands.{Found, granted, returned}
-use Rattle.host_pairs.specs.Entries.{is_over}
-use Rattle.host_pairs.specs.Parcels.{link_of}
 use Rattle.host_keeps_ranges.proofs.lemmas.{free_is_link}
-use Rattle.host_keeps_streams.specs.Histories.{Call}
-use Rattle.host_keeps_streams.specs.Names.{named}
-use Rattle.host_keeps_streams.proofs.lemmas.{numbers_changed, received_is}
 use Rattle.host_keeps_streams.proofs.lemmas.Senders as senders
-use Rattle.world_keeps_lives.proofs.lemmas.{IsLess, IsRefusing, called_less, closed_less, found_changed, heard_less, none_changed, sent_less}
 use Rattle.world_keeps_streams.proofs.Deeds.Effects as deeds
 use Rattle.world_keeps_streams.proofs.Deeds.Effects.{Among, Becomes, Comes, Deed, HasLink, IsLinked, IsNew, OpensAs, Stays, among_filter, changed_comes, changed_stays, filtered_stays, found_among, joined_comes, mapped_stays, stays_comes, stays_same, stays_then}
 use Rattle.world_keeps_streams.proofs.Deeds.Kinds.{arrives, arrives_if, closings, deed_of, hears, matches, opens, opens_by, returns, says, sweeps}
-use Rattle.interface.proofs.lemmas.{and_none}
-use Rattle.world_keeps_lives.proofs.lemmas.{not_zero}
 
 -- ---- at which ends
 

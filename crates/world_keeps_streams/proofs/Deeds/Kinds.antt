@@ -1,9 +1,9 @@
 -- Which deed each call of a host's program is.
-use Rattle.world_keeps_streams.proofs.Common.{ℕ, ◌*◌, ◌&&◌, Bool, nat_le, if◌then◌else◌, List, take, map, filter, find, Option, Some, None, is_some, list_any, data_bits, header_of, Command, DataHeader, Unconnected, Ending, Open, asked_on_link, asked_with_size, found_in, data_of, is_acceptable, changed_at, closed_by_partner, closed_when, entry_at, is_ending, must_close, receives_on, sends_on, PairState, asked_at, cls_sent, Entry, Hears, Takes, Says, Sends, Grants}
+use Rattle.world_keeps_streams.proofs.Common.{ℕ, ◌*◌, ◌&&◌, Bool, nat_le, if◌then◌else◌, List, take, map, filter, find, Option, Some, None, is_some, list_any, data_bits, header_of, Command, DataHeader, data_of, is_acceptable, PairState, asked_at, cls_sent, Entry}
+use Rattle.host_pairs.specs.Commands.{Unconnected, Ending, Open, asked_on_link, asked_with_size, found_in, Found}
+use Rattle.host_pairs.specs.Entries.{changed_at, closed_by_partner, closed_when, entry_at, is_ending, must_close, receives_on, sends_on, is_over}
+use Rattle.host_keeps_streams.specs.Histories.{Hears, Takes, Says, Sends, Grants, Call}
 use Rattle.ncp_control.specs.declared.command.Command.TheVariants as command
-use Rattle.host_pairs.specs.Commands.{Found}
-use Rattle.host_pairs.specs.Entries.{is_over}
-use Rattle.host_keeps_streams.specs.Histories.{Call}
 use Rattle.world_keeps_streams.proofs.Deeds.Effects as deeds
 use Rattle.world_keeps_streams.proofs.Deeds.Effects.{Deed}
 

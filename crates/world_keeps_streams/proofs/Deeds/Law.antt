@@ -1,17 +1,18 @@
 -- What the laws of a link have of each call of a host's program.
-use Rattle.world_keeps_streams.proofs.Common.{◌≡◌, ℕ, ◌*◌, ◌==◌, ◌&&◌, not, Bool, false, nat_le, if◌then◌else◌, List, [], ◌∷◌, ◌++◌, take, map, find, length, Option, Some, None, is_some, refl, ap, sym, subst, ◌∙◌, eqb-true, list_any, data_bits, header_of, Command, DataHeader, for, covers, holds, Unconnected, Ending, Open, asked_on_link, asked_with_size, found_in, data_of, is_acceptable, desk_of, listener_on, changed_at, closed_by_partner, closed_when, entry_at, free_link, is_ending, is_open, is_receiving, must_close, receives_on, sends_on, PairState, asked_at, Closing, Entry, Listener, all_received, received_close, received_gone, received_open, HasReceiver, Hears, Takes, Says, Sends, OpensReceiver, Grants, AsksBack, Closes, received_at, answers_str, cls_received, closed_received, asked_received, data_received, received_by, received_out, str_received, accept_same, bits_there, find_passes}
-use Rattle.std.proofs.Common.{true}
+use Rattle.world_keeps_streams.proofs.Common.{eqb-true, list_any, data_bits, header_of, Command, DataHeader, for, covers, holds, data_of, is_acceptable, desk_of, listener_on, PairState, asked_at, Closing, Entry, Listener, all_received, received_close, received_gone, received_open, HasReceiver}
+use Rattle.std.proofs.Common.{◌≡◌, ℕ, ◌*◌, ◌==◌, ◌&&◌, not, Bool, false, nat_le, if◌then◌else◌, List, [], ◌∷◌, ◌++◌, take, map, find, length, Option, Some, None, is_some, refl, ap, sym, subst, ◌∙◌, true}
+use Rattle.host_pairs.specs.Commands.{Unconnected, Ending, Open, asked_on_link, asked_with_size, found_in, Found}
+use Rattle.host_pairs.specs.Entries.{changed_at, closed_by_partner, closed_when, entry_at, free_link, is_ending, is_open, is_receiving, must_close, receives_on, sends_on}
+use Rattle.host_keeps_streams.specs.Histories.{Hears, Takes, Says, Sends, OpensReceiver, Grants, AsksBack, Closes, received_at, Call}
+use Rattle.host_keeps_streams.specs.Moves.{answers_str, cls_received, closed_received, asked_received, data_received, received_by, received_out, str_received, asks_for, on_link}
+use Rattle.host_keeps_streams.proofs.lemmas.{accept_same, bits_there, find_passes, at_link, back_same, other_receives}
 use Rattle.ncp_control.specs.Allocation as counters
 use Rattle.ncp_control.specs.declared.command.Command.TheVariants as command
 use Rattle.stream_law.specs.Words as words
 use Rattle.stream_law.specs.Receivers as receivers
 use Rattle.stream_law.specs.Receivers.{Receiver}
-use Rattle.host_pairs.specs.Commands.{Found}
 use Rattle.host_pairs.specs.declared.entry.Closing.TheVariants as closing
-use Rattle.host_keeps_streams.specs.Histories.{Call}
-use Rattle.host_keeps_streams.specs.Moves.{asks_for, on_link}
 use Rattle.host_keeps_streams.specs.Names.{named}
-use Rattle.host_keeps_streams.proofs.lemmas.{at_link, back_same, other_receives}
 use Rattle.world_keeps_streams.proofs.Deeds.Effects as deeds
 use Rattle.world_keeps_streams.proofs.Deeds.Effects.{Deed, Receives, at_receiver}
 use Rattle.world_keeps_streams.proofs.Deeds.Kinds.{arrives, arrives_if, closings, deed_of, hears, matches, opens, opens_by, returns, says, sweeps}

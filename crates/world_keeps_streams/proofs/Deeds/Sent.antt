@@ -1,14 +1,15 @@
 -- What the law of a sender has of each call of a host's program: only bytes that go out count.
-use Rattle.world_keeps_streams.proofs.Common.{◌≡◌, ℕ, ◌*◌, ◌==◌, ◌&&◌, not, Bool, false, nat_le, if◌then◌else◌, List, [], ◌∷◌, ◌++◌, take, map, find, Option, Some, None, is_some, refl, ap, sym, ◌∙◌, eqb-true, list_any, Allocation, Command, DataHeader, data_bits, header_of, for, with_end, Unconnected, Ending, Open, asked_on_link, asked_with_size, found_in, data_of, is_acceptable, desk_of, listener_on, called_off, changed_at, closed_by_partner, closed_when, entry_at, is_ending, is_open, is_receiving, must_close, receives_on, sends_on, PairState, asked_at, freed, Entry, Listener, all_sent, Hears, Takes, Says, Sends, Answered, OpensSender, Grants, Closes, sent_at}
-use Rattle.std.proofs.Common.{true}
+use Rattle.world_keeps_streams.proofs.Common.{eqb-true, list_any, Allocation, Command, DataHeader, data_bits, header_of, for, with_end, data_of, is_acceptable, desk_of, listener_on, PairState, asked_at, freed, Entry, Listener}
+use Rattle.std.proofs.Common.{◌≡◌, ℕ, ◌*◌, ◌==◌, ◌&&◌, not, Bool, false, nat_le, if◌then◌else◌, List, [], ◌∷◌, ◌++◌, take, map, find, Option, Some, None, is_some, refl, ap, sym, ◌∙◌, true}
+use Rattle.host_pairs.specs.Commands.{Unconnected, Ending, Open, asked_on_link, asked_with_size, found_in, Found}
+use Rattle.host_pairs.specs.Entries.{called_off, changed_at, closed_by_partner, closed_when, entry_at, is_ending, is_open, is_receiving, must_close, receives_on, sends_on}
+use Rattle.host_keeps_streams.specs.Closings.{all_sent, sent_open}
+use Rattle.host_keeps_streams.specs.Histories.{Hears, Takes, Says, Sends, Answered, OpensSender, Grants, Closes, sent_at, Call}
 use Rattle.ncp_control.specs.Allocation as counters
 use Rattle.ncp_control.specs.declared.command.Command.TheVariants as command
 use Rattle.stream_law.specs.Words as words
 use Rattle.stream_law.specs.Senders as senders
 use Rattle.stream_law.specs.Senders.{Sender}
-use Rattle.host_pairs.specs.Commands.{Found}
-use Rattle.host_keeps_streams.specs.Closings.{sent_open}
-use Rattle.host_keeps_streams.specs.Histories.{Call}
 use Rattle.host_keeps_streams.specs.Moves.{asked_sent, bytes_sent, closes, cls_sent as cls_heard, hears_rts, of_end, rts_sent, sent_by, sent_out, told_on}
 use Rattle.host_keeps_streams.specs.Names.{named}
 use Rattle.world_keeps_streams.proofs.Deeds.Effects as deeds

@@ -1,12 +1,12 @@
 -- What a host's user is notified of by a call, as what the call does to the lives.
-use Rattle.world_keeps_streams.proofs.Common.{◌≡◌, ℕ, ◌*◌, ◌&&◌, Bool, true, false, nat_le, if◌then◌else◌, List, [], ◌∷◌, ◌++◌, take, map, filter, find, Option, Some, None, is_some, refl, ap, sym, subst, ◌∙◌, flat_map, list_any, Host, data_bits, header_of, Command, DataHeader, Unconnected, Ending, Open, asked_on_link, asked_with_size, at_end, found_in, interrupted, ret_taken, rts_heard, rts_taken_by, str_heard, str_linked, str_taken_by, desk_taken, arrived_if, data_found, data_of, data_taken, is_acceptable, DeskState, desk_of, listener_on, changed_at, closed_by_partner, closed_when, ending, entry_at, free_link, is_ending, must_close, opening_notices, opening_by, receives_on, sends_on, PairState, Bytes, asked_at, cls_sent, command_gone, parcel_gone, Entry, Listener, Notice, Hears, Takes, Says, Sends, Grants, changed_when, life_ended, lives_between, lives_told}
-use Rattle.std.proofs.Common.{append-nil}
+use Rattle.world_keeps_streams.proofs.Common.{flat_map, list_any, Host, data_bits, header_of, Command, DataHeader, arrived_if, data_found, data_of, data_taken, is_acceptable, DeskState, desk_of, listener_on, PairState, Bytes, asked_at, cls_sent, command_gone, parcel_gone, Entry, Listener, Notice, changed_when, life_ended, lives_between, lives_told}
+use Rattle.std.proofs.Common.{◌≡◌, ℕ, ◌*◌, ◌&&◌, Bool, true, false, nat_le, if◌then◌else◌, List, [], ◌∷◌, ◌++◌, take, map, filter, find, Option, Some, None, is_some, refl, ap, sym, subst, ◌∙◌, append-nil}
+use Rattle.host_pairs.specs.Commands.{Unconnected, Ending, Open, asked_on_link, asked_with_size, at_end, found_in, interrupted, ret_taken, rts_heard, rts_taken_by, str_heard, str_linked, str_taken_by, desk_taken, Found, matched}
+use Rattle.host_pairs.specs.Entries.{changed_at, closed_by_partner, closed_when, ending, entry_at, free_link, is_ending, must_close, opening_notices, opening_by, receives_on, sends_on, is_over}
+use Rattle.host_keeps_streams.specs.Histories.{Hears, Takes, Says, Sends, Grants, Call}
 use Rattle.ncp_control.specs.declared.command.Command.TheVariants as command
 use Rattle.host_pairs.specs.Commands as commands
-use Rattle.host_pairs.specs.Commands.{Found, matched}
-use Rattle.host_pairs.specs.Entries.{is_over}
 use Rattle.host_pairs.specs.declared.notice.Notice.TheVariants as notice
-use Rattle.host_keeps_streams.specs.Histories.{Call}
 use Rattle.promise.specs.declared.life.Life.{Life}
 use Rattle.world_keeps_streams.proofs.Deeds.Effects as deeds
 use Rattle.world_keeps_streams.proofs.Deeds.Effects.{Deed, all_lives, life_by, life_ends, new_by}

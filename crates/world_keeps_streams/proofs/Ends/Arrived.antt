@@ -1,22 +1,18 @@
 -- An open receiving life counts all that came in on its link. So data of which a host got RFNM are among its bits,
 -- where it matches the life that sent them.
-use Rattle.world_keeps_streams.proofs.Common.{◌≡◌, ◌⊎◌, inl, inr, ℕ, suc, ◌+◌, ◌<◌, ◌≤◌, ◌==◌, Bool, true, false, if◌then◌else◌, List, [], ◌∷◌, ◌++◌, length, map, Option, Some, None, refl, ap, sym, subst, ◌∙◌, eq-eqb, arith, Contains, option_map, append_assoc, length-append, Seen, Host, SinceLastOut, went_out, Flow, Crossing, HostMessage, is_send_socket, orders_of, End, Stream, waiting_in, Inv, came_inv, some_is, waiting_of, waits_of, HasClosed, name_now, numbered, receiver_now, closed_first, IsCounted, Course, Going, stage, IsBeside, CrossedAt, texts_for, texts_of, texts_on, Match, Name, control_flow, last_out, own_request, Called, Kept, IsLawful, Asked, Crossed, Moment, contacts_of, crossings_of, WorldState, kept_fated, Linked, LinkedBook, odd_send, send_odd, own_calls, IsClosedByPartner, WasClosedByPartner, Network, AreOurs}
-use Rattle.net_sim.specs.Among.{lives_among}
-use Rattle.net_sim.specs.Mixed.{mixed_kept}
-use Rattle.reset_law.specs.Network.{all_ours}
+use Rattle.world_keeps_streams.proofs.Common.{◌≡◌, ◌⊎◌, inl, inr, ℕ, suc, ◌+◌, ◌<◌, ◌≤◌, ◌==◌, Bool, true, false, if◌then◌else◌, List, [], ◌∷◌, ◌++◌, length, map, Option, Some, None, refl, ap, sym, subst, ◌∙◌, eq-eqb, arith, Contains, option_map, append_assoc, length-append, Seen, Host, SinceLastOut, went_out, Flow, Crossing, HostMessage, is_send_socket, orders_of, End, waiting_in, Inv, came_inv, some_is, waiting_of, waits_of, HasClosed, name_now, numbered, receiver_now, closed_first, IsBeside, Called, Kept, IsLawful, Asked, Crossed, Moment, contacts_of, crossings_of, WorldState, kept_fated, odd_send, send_odd, own_calls, IsClosedByPartner, WasClosedByPartner, Network, AreOurs, all_ours, lives_among, mixed_kept, IsSentIn, end_link}
+use Rattle.stream_law.specs.Streams.{Stream, Box, Empty, Taken, Waiting}
+use Rattle.promise.specs.Arrived.{IsCounted, ArrivedBook, HasArrived}
+use Rattle.promise.specs.Ends.{Course, Going, stage}
+use Rattle.promise.specs.Formed.{CrossedAt, texts_for, texts_of, texts_on, flow_of, link_of, named_in, own_named, partner_named}
+use Rattle.promise.specs.Safe.{Match, Name, control_flow, last_out, own_request, before, named, receives, sends}
+use Rattle.world_keeps_lives.proofs.lemmas.{Linked, LinkedBook, named_there, same_out}
 use Rattle.interface.specs.declared.crossing.Answer.TheVariants as answer
 use Rattle.interface.specs.declared.crossing.Crossing.TheVariants as crossing
 use Rattle.stream_law.specs.Receivers.{Receiver}
-use Rattle.stream_law.specs.Streams.{Box, Empty, Taken, Waiting}
-use Rattle.promise.specs.Arrived.{ArrivedBook, HasArrived}
-use Rattle.promise.specs.Formed.{flow_of, link_of, named_in, own_named, partner_named}
-use Rattle.promise.specs.Safe.{before, named, receives, sends}
 use Rattle.promise.specs.declared.life.Fate.TheVariants as fate
 use Rattle.promise.specs.declared.life.Life.{Life}
 use Rattle.net_sim.specs.Told.{kept_in}
-use Rattle.world_keeps_lives.specs.Firsts.{IsSentIn}
-use Rattle.world_keeps_lives.proofs.lemmas.Formed.{end_link}
-use Rattle.world_keeps_lives.proofs.lemmas.{named_there, same_out}
 use Rattle.world_keeps_streams.specs.Answered as moments
 use Rattle.world_keeps_streams.proofs.Books.All.{all_given}
 use Rattle.world_keeps_streams.proofs.Books.Answered.{answered}

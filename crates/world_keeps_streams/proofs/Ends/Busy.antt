@@ -1,24 +1,21 @@
 -- What is outstanding on a connection's link is of an end that opened and hasn't closed, or no end is opened before a
 -- reset.
-use Rattle.world_keeps_streams.proofs.Common.{◌≡◌, ◌⊎◌, inl, inr, ℕ, zero, suc, ◌==◌, ◌&&◌, not, Bool, true, false, if◌then◌else◌, List, [], ◌∷◌, ◌++◌, Option, Some, None, is_some, refl, ap, sym, subst, ◌∙◌, eqb-true, eq-eqb, Host, same_host, Flow, Answer, HostMessage, same_host-true, has_cls, is_busy, is_link, is_receiving, PairState, Parcel, may_send_on, Entry, both, has_opened, AreAllowed, IsHistory, Answered, ends_now, numbered, is_ready, Phase, Pair, pair, pair_moved, pair_with, turn_of, Request, Asked, Crossed, IsNext, Moment, events_of, event_in, places, program, Agrees, story_agrees, calls_by, message_calls, own_calls, request_calls, MaySend, next_calls, next_of, Message, message_on, when, Send, Take, Hear, Begin, Other, MayGo, what_goes, open_parts, next_is, next_in, is_ending, same_host-refl, link_for, answer_calls}
-use Rattle.reset_law.specs.Pairs.{Plain}
+use Rattle.world_keeps_streams.proofs.Common.{◌≡◌, ◌⊎◌, inl, inr, ℕ, zero, suc, ◌==◌, ◌&&◌, not, Bool, true, false, if◌then◌else◌, List, [], ◌∷◌, ◌++◌, Option, Some, None, is_some, refl, ap, sym, subst, ◌∙◌, eq-eqb, eqb-true, Host, same_host, Flow, Answer, HostMessage, same_host-true, same_host-refl, has_cls, is_busy, is_link, is_receiving, is_ending, PairState, Entry, both, what_goes, has_opened, AreAllowed, IsHistory, Answered, ends_now, numbered, Phase, pair_with, turn_of, Request, Asked, Crossed, IsNext, Moment, events_of, event_in, places, program, Agrees, message_on, story_agrees, freed_busy, MayGo, open_parts, next_is, next_in, keeps, ready_phase, AreOurs, Network}
+use Rattle.host_pairs.specs.Parcels.{Parcel, may_send_on, next_of, link_for, link_of}
+use Rattle.ncp_control.specs.Phases.{is_ready, failed_phase, reply_phase, taken_phase}
+use Rattle.reset_law.specs.Pairs.{Pair, pair, pair_moved, MaySend, Plain, Rrp, Rst, pair_answered, pair_sent}
+use Rattle.world_keeps_streams.specs.Calls.{calls_by, message_calls, own_calls, request_calls, next_calls, answer_calls, called}
+use Rattle.reset_law.specs.Events.{Message, when, Send, Take, Hear, Begin, Other, Reply, Reset}
 use Rattle.host_keeps_streams.specs.Histories as calls
-use Rattle.host_pairs.specs.Parcels.{link_of}
 use Rattle.ncp_control.specs.declared.phase.Phase.TheVariants as phase
 use Rattle.interface.specs.declared.crossing.Answer.TheVariants as answer
 use Rattle.interface.specs.declared.crossing.Crossing.TheVariants as crossing
 use Rattle.host_keeps_streams.proofs.lemmas.Senders as senders
 use Rattle.host_pairs.specs.Parcels as parcel
-use Rattle.net_sim.proofs.lemmas.{freed_busy}
-use Rattle.ncp_control.specs.Phases.{failed_phase, reply_phase, taken_phase}
 use Rattle.reset_law.specs.Events as signals
-use Rattle.reset_law.specs.Events.{Reply, Reset}
 use Rattle.reset_law.specs.Pairs as reset
-use Rattle.reset_law.specs.Pairs.{Rrp, Rst, pair_answered, pair_sent}
 use Rattle.reset_law.specs.Stays as stay
 use Rattle.sockets.specs.declared.request.Request.TheVariants as request
-use Rattle.world_keeps_pairing.specs.Steps.{keeps}
-use Rattle.world_keeps_streams.specs.Calls.{called}
 use Rattle.world_keeps_streams.proofs.Calls.Chain.{Chained, chain, idle, takes_by}
 use Rattle.world_keeps_streams.proofs.Calls.Leads.{is_reset}
 use Rattle.world_keeps_streams.proofs.Deeds.Effects.{Among, found_among}
@@ -28,8 +25,6 @@ use Rattle.world_keeps_streams.proofs.Requests.Sides.{Lawful, below, coupled_in}
 use Rattle.world_keeps_streams.proofs.Steps.Streams.{all_allowed}
 use Rattle.world_keeps_streams.proofs.Ends.Holds.{AllOn, Has, has_calls, holds, on_if, on_message, on_next, on_request}
 use Rattle.world_keeps_streams.proofs.Facts.{no_zero}
-use Rattle.reset_law.proofs.lemmas.{ready_phase}
-use Rattle.reset_law.specs.Network.{AreOurs, Network}
 
 -- ---- one moment, by the law of resets
 

@@ -1,14 +1,17 @@
 -- What a message that a host takes of its peer is for a life.
-use Rattle.world_keeps_streams.proofs.Common.{◌≡◌, inl, inr, ℕ, ◌==◌, ◌&&◌, Bool, true, false, if◌then◌else◌, List, [], ◌∷◌, refl, ap, sym, subst, ◌∙◌, Host, same_host, HostMessage, same_host-refl, Legal, Order, orders_of, data_taken, is_sent, if_ready, message_taken, orders_taken, reply_notices, Entry, Notice, is_ready, Phase, End, HasEnd, at, AreJoint, with_openings, AllFit, marks_in, eqb-sym, plain, Message, after_turn, turn_of, pair_with, AllPlain, IsApart, Crossed, Moment, places, program, crossings_of, new_life, notices_by, Coupled, program_own, Course, each, heard, TakesFreeAt, origin_in, AText, AllBare, AllTied, AnRrp, AnRst, AreOrigins, Sort, all_bare, all_tied, are_origins, plain_joint, programs_ranged, sort_of, takes}
+use Rattle.world_keeps_streams.proofs.Common.{◌≡◌, inl, inr, ℕ, ◌==◌, ◌&&◌, Bool, true, false, if◌then◌else◌, List, [], ◌∷◌, refl, ap, sym, subst, ◌∙◌, Host, same_host, HostMessage, same_host-refl, Legal, Order, orders_of, data_taken, if_ready, message_taken, orders_taken, reply_notices, Entry, Notice, is_ready, Phase, HasEnd, at, AreJoint, with_openings, Message, pair_with, Crossed, Moment, places, program, crossings_of, new_life, notices_by, Coupled, program_own, TakesFreeAt, origin_in, AreOurs, Network}
+use Rattle.host_pairs.specs.Entries.{is_sent, is_over}
+use Rattle.pairing_law.specs.Ends.{End, nothing}
+use Rattle.host_keeps_pairing.specs.Words.{AllFit, marks_in, all_taken}
+use Rattle.host_keeps_pairing.proofs.lemmas.{eqb-sym, plain, data_told, idle_other, rst_other, message_data, message_hears, message_idle, message_replies, message_resets, message_tells}
+use Rattle.sockets.specs.Accepting.{after_turn, turn_of, accepted}
+use Rattle.net_sim.specs.Projection.{AllPlain, IsApart}
+use Rattle.promise.specs.Ends.{Course, each, heard}
+use Rattle.world_keeps_pairing.proofs.lemmas.{AText, AllBare, AllTied, AnRrp, AnRst, AreOrigins, Sort, all_bare, all_tied, are_origins, plain_joint, programs_ranged, sort_of, takes}
 use Rattle.interface.specs.declared.crossing.Crossing.TheVariants as crossing
 use Rattle.interface.specs.declared.crossing.Inbound.TheVariants as inbound
-use Rattle.host_pairs.specs.Entries.{is_over}
 use Rattle.ncp_control.specs.declared.command.Command.TheVariants as command
 use Rattle.ncp_control.specs.declared.phase.Phase.TheVariants as phase
-use Rattle.pairing_law.specs.Ends.{nothing}
-use Rattle.host_keeps_pairing.specs.Words.{all_taken}
-use Rattle.host_keeps_pairing.proofs.lemmas.{data_told, idle_other, rst_other, message_data, message_hears, message_idle, message_replies, message_resets, message_tells}
-use Rattle.sockets.specs.Accepting.{accepted}
 use Rattle.promise.specs.declared.life.Life.{Life}
 use Rattle.world_keeps_streams.proofs.Calls.MayHear.{fits_all}
 use Rattle.world_keeps_streams.proofs.Calls.MayTurns.{Fits}
@@ -23,7 +26,6 @@ use Rattle.world_keeps_streams.proofs.Lives.LeavesEnds.{quiet_tells, reply_quiet
 use Rattle.world_keeps_streams.proofs.Requests.Sides.{Lawful, below, coupled_in}
 use Rattle.world_keeps_pairing.proofs.lemmas as served
 use Rattle.world_keeps_streams.proofs.Ends.Kinds.{Kind, ItDrops, ItHears, ItIdles, ItStays, among_none, kept_ends, kept_resets, off_any, off_over, off_sent, off_taken, openings_some, pace, spare_any, spare_sent, spare_taken}
-use Rattle.reset_law.specs.Network.{AreOurs, Network}
 
 module _ (hosts : Network) (m : HostMessage) (ms : List Moment) (l : Lawful hosts (Crossed (crossing.In m) ∷ ms))
     (ours : AreOurs hosts m.flow.destination m.flow.source) (socket foreign own partner : ℕ) where

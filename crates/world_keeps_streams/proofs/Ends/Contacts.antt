@@ -1,25 +1,21 @@
 -- What goes out next to a host with which a contact was asked for is an RST.
-use Rattle.world_keeps_streams.proofs.Common.{◌≡◌, ℕ, suc, ◌<◌, ◌≤◌, ◌==◌, ◌&&◌, ◌||◌, not, Bool, true, false, if◌then◌else◌, List, [], ◌∷◌, ◌++◌, length, Some, refl, ap, sym, subst, ◌∙◌, arith, list_any, Seen, Host, same_host, Answer, Crossing, HostMessage, same_host-true, Legal, orders_of, PairState, Parcel, what_goes, both, not_is, MayGo, Phase, Message, Begin, Hear, Send, Take, Other, when, Pair, pair, pair_moved, pair_with, Asked, Crossed, IsNext, Moment, events_of, places, program, contacts_of, crossings_of, message_on, story_agrees, Called, is_contact, IsLawful, WorldState}
-use Rattle.reset_law.specs.Network.{AreOurs, Network, all_ours}
+use Rattle.world_keeps_streams.proofs.Common.{◌≡◌, ℕ, suc, ◌<◌, ◌≤◌, ◌==◌, ◌&&◌, ◌||◌, not, Bool, true, false, if◌then◌else◌, List, [], ◌∷◌, ◌++◌, length, Some, refl, ap, sym, subst, ◌∙◌, arith, list_any, Seen, Host, same_host, Answer, Crossing, HostMessage, same_host-true, or_nothing, Legal, orders_of, PairState, Parcel, what_goes, both, not_is, MayGo, Phase, Pair, pair, pair_moved, pair_with, Asked, Crossed, IsNext, Moment, events_of, places, program, contacts_of, crossings_of, message_on, story_agrees, places_same, Called, IsLawful, WorldState, AreOurs, Network, all_ours, filter-append}
+use Rattle.reset_law.specs.Events.{Message, Begin, Hear, Send, Take, Other, when, Reply, Reset, is_up}
+use Rattle.promise.specs.Ends.{is_contact, AreContacts, contacts_now, still_contacts}
 use Rattle.std.proofs.lemmas.List.{append-nil}
-use Rattle.std.proofs.lemmas.List.Elements.{filter-append}
 use Rattle.interface.specs.declared.crossing.Answer.TheVariants as answer
 use Rattle.interface.specs.declared.crossing.Crossing.TheVariants as crossing
 use Rattle.ncp_control.specs.Phases.{failed_phase, is_want, reply_phase, reset_phase, taken_phase}
 use Rattle.ncp_control.specs.declared.command.Command.TheVariants as command
 use Rattle.ncp_control.specs.declared.phase.Phase.TheVariants as phase
 use Rattle.host_pairs.specs.Parcels as parcel
-use Rattle.net_sim.proofs.lemmas.{places_same}
 use Rattle.net_sim.specs.Among.{contacts_among}
-use Rattle.promise.specs.Ends.{AreContacts, contacts_now, still_contacts}
 use Rattle.reset_law.specs.Events as signals
-use Rattle.reset_law.specs.Events.{Reply, Reset, is_up}
 use Rattle.sockets.specs.declared.request.Request.TheVariants as request
 use Rattle.world_keeps_streams.proofs.Ends.Courses.{any_with, contacts_below, is_there, none_there, not_there}
 use Rattle.world_keeps_streams.proofs.Ends.Marks.{never}
 use Rattle.world_keeps_streams.proofs.Ends.Owes.{AData, AReply, AReset, Outs, Several, next_out, outs, pair_is}
 use Rattle.world_keeps_streams.proofs.Requests.Sides.{Lawful, below, coupled_in, book_lawful}
-use Rattle.interface.proofs.lemmas.{or_nothing}
 
 -- ---- whether a contact was the last thing, moment by moment
 

@@ -1,16 +1,14 @@
 -- The course of a life, moment by moment: each crossing and each contact of its host changes it once.
-use Rattle.world_keeps_streams.proofs.Common.{◌≡◌, ℕ, suc, ◌+◌, ◌<◌, ◌≤◌, ◌==◌, ◌&&◌, ◌||◌, Bool, true, false, if◌then◌else◌, List, [], ◌∷◌, ◌++◌, length, refl, ap, sym, ◌∙◌, eq-eqb, arith, eqb-true, list_any, Host, same_host, Crossing, Legal, Order, Wrong, orders_of, Command, Request, Asking, Course, Dropped, Going, Over, Stage, crosses, cut, each, ended_by, heard, is_contact, said, Called, new_life, Asked, Crossed, Moment, places, contacts_of, crossings_of}
+use Rattle.world_keeps_streams.proofs.Common.{◌≡◌, ℕ, suc, ◌+◌, ◌<◌, ◌≤◌, ◌==◌, ◌&&◌, ◌||◌, Bool, true, false, if◌then◌else◌, List, [], ◌∷◌, ◌++◌, length, refl, ap, sym, ◌∙◌, eq-eqb, arith, eqb-true, list_any, Host, same_host, Crossing, Legal, Order, Wrong, orders_of, Command, Request, Called, Asked, Crossed, Moment, places, contacts_of, crossings_of, places_same, or_nothing}
+use Rattle.promise.specs.Ends.{Asking, Course, Dropped, Going, Over, Stage, crosses, cut, each, ended_by, heard, is_contact, said, called, course, is_half}
+use Rattle.net_sim.specs.Book.{new_life, contacts_asked}
 use Rattle.std.proofs.lemmas.List.{append-nil}
 use Rattle.std.proofs.lemmas.List.Folds.{list_any-append}
 use Rattle.interface.specs.declared.crossing.Crossing.TheVariants as crossing
 use Rattle.ncp_control.specs.declared.command.Command.TheVariants as command
 use Rattle.sockets.specs.declared.request.Request.TheVariants as request
-use Rattle.promise.specs.Ends.{called, course, is_half}
 use Rattle.promise.specs.declared.life.Life.{Life}
-use Rattle.net_sim.specs.Book.{contacts_asked}
-use Rattle.net_sim.proofs.lemmas.{places_same}
 use Rattle.world_keeps_streams.proofs.Lives.Lists.{Named}
-use Rattle.interface.proofs.lemmas.{or_nothing}
 
 -- ---- a life by its names only
 

@@ -1,8 +1,9 @@
 -- What each moment is for a life.
-use Rattle.world_keeps_streams.proofs.Common.{◌≡◌, ◌==◌, ◌&&◌, Bool, true, false, if◌then◌else◌, List, ◌∷◌, refl, ap, sym, subst, ◌∙◌, Host, same_host, Flow, Answer, HostMessage, same_host-true, orders_of, PairState, at, accepted, pair_with, offered, answer_leaves, message_about, message_leaves, offer_about, offer_leaves, new_life, Asked, Crossed, IsNext, Moment, places, program, Dropped, cut, each, ended_by, fails, heard, said}
+use Rattle.world_keeps_streams.proofs.Common.{◌≡◌, ◌==◌, ◌&&◌, Bool, true, false, if◌then◌else◌, List, ◌∷◌, refl, ap, sym, subst, ◌∙◌, Host, same_host, Flow, Answer, HostMessage, same_host-true, orders_of, PairState, at, accepted, pair_with, offered, new_life, Asked, Crossed, IsNext, Moment, places, program, AreOurs, Network}
+use Rattle.sockets.proofs.lemmas.{answer_leaves, message_about, message_leaves, offer_about, offer_leaves, answer_about}
+use Rattle.promise.specs.Ends.{Dropped, cut, each, ended_by, fails, heard, said}
 use Rattle.interface.specs.declared.crossing.Crossing.TheVariants as crossing
 use Rattle.interface.specs.declared.crossing.Inbound.TheVariants as inbound
-use Rattle.sockets.proofs.lemmas.{answer_about}
 use Rattle.promise.specs.declared.life.Life.{Life}
 use Rattle.world_keeps_streams.proofs.Ends.Comes.{in_here}
 use Rattle.world_keeps_streams.proofs.Ends.Courses.{course_in, key_of}
@@ -11,7 +12,6 @@ use Rattle.world_keeps_streams.proofs.Ends.Kinds.{Kind, away, beside, out_here, 
 use Rattle.world_keeps_streams.proofs.Ends.Ties.{end_in}
 use Rattle.world_keeps_streams.proofs.Requests.Sides.{Lawful, coupled_in}
 use Rattle.world_keeps_streams.proofs.Facts.{middle_off}
-use Rattle.reset_law.specs.Network.{AreOurs, Network}
 
 first_off : (a b c : Bool) → a ≡ false → (a && b && c) ≡ false
 first_off a b c e = ap (λ (v : Bool). v && b && c) e

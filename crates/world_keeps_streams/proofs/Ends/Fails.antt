@@ -1,17 +1,19 @@
 -- What an answer, a stop, a start or a request of its user is for a life.
-use Rattle.world_keeps_streams.proofs.Common.{◌≡◌, inl, inr, ℕ, ◌==◌, ◌&&◌, ◌||◌, not, Bool, true, false, if◌then◌else◌, List, [], ◌∷◌, ◌++◌, Some, None, refl, ap, sym, subst, ◌∙◌, Host, same_host, Flow, Answer, same_host-refl, same_host-true, is_busy, TurnState, answered_turn, failed_by, freed, is_gone, settled_turn, Notice, failed_phase, is_ready, rfnm_phase, Phase, End, HasEnd, at, Hear, when, pair, pair_moved, after_turn, turn_of, NcpState, opening_state, pair_with, refusal, served, Request, Agrees, Asked, Crossed, Moment, events_of, places, program, new_life, notices_by, story_agrees, Course, Dropped, Stopped, cut, ended_by, fails}
+use Rattle.world_keeps_streams.proofs.Common.{◌≡◌, inl, inr, ℕ, ◌==◌, ◌&&◌, ◌||◌, not, Bool, true, false, if◌then◌else◌, List, [], ◌∷◌, ◌++◌, Some, None, refl, ap, sym, subst, ◌∙◌, Host, same_host, Flow, Answer, same_host-refl, same_host-true, is_busy, TurnState, answered_turn, failed_by, freed, is_gone, settled_turn, Notice, Phase, pair, pair_moved, NcpState, opening_state, pair_with, Request, Agrees, Asked, Crossed, Moment, events_of, places, program, new_life, notices_by, story_agrees, ready_phase, AreOurs, Network}
+use Rattle.ncp_control.specs.Phases.{failed_phase, is_ready, rfnm_phase, taken_phase}
+use Rattle.pairing_law.specs.Ends.{End, nothing}
+use Rattle.host_keeps_pairing.specs.Ends.{HasEnd, at, kept_in}
+use Rattle.reset_law.specs.Events.{Hear, when}
+use Rattle.sockets.specs.Accepting.{after_turn, turn_of, accepted}
+use Rattle.sockets.specs.Requests.{refusal, served, served_notices}
+use Rattle.promise.specs.Ends.{Course, Dropped, Stopped, cut, ended_by, fails}
 use Rattle.interface.specs.declared.crossing.Answer.TheVariants as answer
 use Rattle.interface.specs.declared.crossing.Crossing.TheVariants as crossing
 use Rattle.interface.specs.declared.crossing.Inbound.TheVariants as inbound
 use Rattle.host_pairs.specs.declared.notice.Notice.TheVariants as notice
-use Rattle.ncp_control.specs.Phases.{taken_phase}
 use Rattle.ncp_control.specs.declared.phase.Phase.TheVariants as phase
-use Rattle.pairing_law.specs.Ends.{nothing}
-use Rattle.host_keeps_pairing.specs.Ends.{kept_in}
 use Rattle.host_keeps_pairing.specs.Hearing.{after_request}
 use Rattle.host_keeps_pairing.proofs.lemmas.{answer_keeps, answer_other, request_keeps}
-use Rattle.sockets.specs.Accepting.{accepted}
-use Rattle.sockets.specs.Requests.{served_notices}
 use Rattle.sockets.specs.declared.request.Request.TheVariants as request
 use Rattle.promise.specs.declared.life.Life.{Life}
 use Rattle.world_keeps_streams.proofs.Ends.Courses.{contacted_if, course_in}
@@ -21,8 +23,6 @@ use Rattle.world_keeps_streams.proofs.Lives.Fates.{TellsEnd, TellsOpening, Tells
 use Rattle.world_keeps_streams.proofs.Lives.LeavesEnds.{answer_quiet, quiet_tells, request_quiet}
 use Rattle.world_keeps_streams.proofs.Requests.Sides.{Lawful, below, coupled_in}
 use Rattle.world_keeps_streams.proofs.Ends.Kinds.{Kind, ItDrops, ItIdles, ItStays, ItStops, away, end_of, openings_some, pace}
-use Rattle.reset_law.proofs.lemmas.{ready_phase}
-use Rattle.reset_law.specs.Network.{AreOurs, Network}
 
 if_ready_end : (v : Bool) (e : End) → v ≡ true → (if v then e else nothing) ≡ e
 if_ready_end true e t = refl

@@ -1,17 +1,19 @@
 -- At all moments each life of the book has a fate that its stage leaves. One that continues is as far as its end is by the law of pairing.
-use Rattle.world_keeps_streams.proofs.Common.{◌≡◌, ◌⊎◌, inl, inr, ℕ, ◌==◌, ◌&&◌, not, Bool, true, false, if◌then◌else◌, List, [], ◌∷◌, Option, Some, None, is_some, refl, ap, sym, subst, ◌∙◌, arith, eqb-true, Contains, Seen, Host, Crossing, both, has_cls, is_called_off, is_due, is_ending, is_mine_on, is_sent, Closing, Entry, Notice, End, Ask, Close, Mark, came_from, standing, all_lives_gone, all_lives_taken, with_openings, all_gone, plain, pair_with, Asking, Cause, Course, Dropped, Going, Over, Stage, Stopped, cut, own_asked, own_closed, partner_asked, partner_closed, IsBeside, Called, Fate, Kept, IsLawful, Crossed, Moment, places, program, contacts_of, crossings_of, WorldState, host_in, notices_by, kept_fated, HasOpenEnd, unopened, or_from, AreOurs}
-use Rattle.std.proofs.lemmas.Bool.{or_left, or_right}
-use Rattle.promise.specs.Ends.{Leaves}
+use Rattle.world_keeps_streams.proofs.Common.{◌≡◌, ◌⊎◌, inl, inr, ℕ, ◌==◌, ◌&&◌, not, Bool, true, false, if◌then◌else◌, List, [], ◌∷◌, Option, Some, None, is_some, refl, ap, sym, subst, ◌∙◌, arith, Contains, Seen, Host, Crossing, has_cls, is_called_off, is_due, is_ending, is_mine_on, is_sent, Closing, Entry, Notice, Ask, Close, Mark, came_from, standing, all_lives_gone, all_lives_taken, with_openings, pair_with, Called, Fate, Kept, IsLawful, Crossed, Moment, places, program, contacts_of, crossings_of, WorldState, kept_fated, HasOpenEnd, AreOurs, Network, all_ours}
+use Rattle.std.proofs.lemmas.Bool.{eqb-true, or_from, or_left, or_right}
+use Rattle.host_pairs.proofs.lemmas.{both}
+use Rattle.pairing_law.specs.Ends.{End, nothing}
+use Rattle.host_keeps_pairing.specs.Words.{all_gone, all_taken}
+use Rattle.host_keeps_pairing.proofs.lemmas.{plain}
+use Rattle.promise.specs.Ends.{Asking, Cause, Course, Dropped, Going, Over, Stage, Stopped, cut, own_asked, own_closed, partner_asked, partner_closed, Leaves, AreLeft, Closed, course}
+use Rattle.promise.specs.Fates.{IsBeside, is_over}
+use Rattle.net_sim.specs.Told.{host_in, notices_by, kept_in}
+use Rattle.world_keeps_lives.proofs.lemmas.{unopened, none_some}
 use Rattle.interface.specs.declared.crossing.Crossing.TheVariants as crossing
 use Rattle.host_pairs.specs.declared.entry.Closing.TheVariants as closing
 use Rattle.ncp_control.specs.declared.phase.Phase.TheVariants as phase
-use Rattle.pairing_law.specs.Ends.{nothing}
-use Rattle.host_keeps_pairing.specs.Words.{all_taken}
-use Rattle.promise.specs.Ends.{AreLeft, Closed, course}
-use Rattle.promise.specs.Fates.{is_over}
 use Rattle.promise.specs.declared.life.Fate.TheVariants as fate
 use Rattle.promise.specs.declared.life.Life.{Life}
-use Rattle.net_sim.specs.Told.{kept_in}
 use Rattle.world_keeps_streams.proofs.Books.Arrives.{end_at}
 use Rattle.world_keeps_streams.proofs.Books.Ending.{no_close_opening}
 use Rattle.world_keeps_streams.proofs.Deeds.Effects.{Among}
@@ -29,8 +31,6 @@ use Rattle.world_keeps_streams.proofs.Lives.Lists.{Named, contains}
 use Rattle.world_keeps_streams.proofs.Lives.Opened.{contains_among, no_openings}
 use Rattle.world_keeps_streams.proofs.Requests.Sides.{Lawful, coupled_in, below, book_lawful}
 use Rattle.world_keeps_streams.proofs.Books.Began.{sent_cls}
-use Rattle.world_keeps_lives.proofs.lemmas.{none_some}
-use Rattle.reset_law.specs.Network.{Network, all_ours}
 use Rattle.net_sim.specs.Among.{beside_among, lives_among}
 use Rattle.world_keeps_streams.proofs.Ours.{live, ours_of}
 use Rattle.world_keeps_lives.proofs.lemmas.AllOurs.{among_all, beside_all}

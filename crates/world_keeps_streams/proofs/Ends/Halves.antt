@@ -1,21 +1,20 @@
 -- Before a life begins: while only one of its requests is there, its stage is that of this one, and no CLS, reset or
 -- stop has come since. And one that has begun, or is over, stays so.
-use Rattle.world_keeps_streams.proofs.Common.{◌≡◌, inl, inr, ℕ, ◌+◌, ◌<◌, ◌≤◌, ◌==◌, ◌&&◌, ◌||◌, not, Bool, true, false, if◌then◌else◌, List, [], ◌∷◌, Some, refl, ap, sym, subst, ◌∙◌, arith, eqb-true, same_host, Legal, Order, Wrong, orders_of, Command, both, End, Mark, Asked, Crossed, Moment, places, Asking, Cause, Course, Dropped, Going, Over, Stage, Stopped, all_gone, cut, each, ended_by, fails, heard, own_asked, own_closed, own_step, partner_asked, partner_closed, partner_step, said, control_flow, or_from}
+use Rattle.world_keeps_streams.proofs.Common.{◌≡◌, inl, inr, ℕ, ◌+◌, ◌<◌, ◌≤◌, ◌==◌, ◌&&◌, ◌||◌, not, Bool, true, false, if◌then◌else◌, List, [], ◌∷◌, Some, refl, ap, sym, subst, ◌∙◌, arith, same_host, Legal, Order, Wrong, orders_of, Command, both, Mark, Asked, Crossed, Moment, places, control_flow, none_some, Network}
+use Rattle.std.proofs.lemmas.Bool.{eqb-true, or_from}
+use Rattle.pairing_law.specs.Ends.{End, nothing}
+use Rattle.promise.specs.Ends.{Asking, Cause, Course, Dropped, Going, Over, Stage, Stopped, cut, each, ended_by, fails, heard, own_asked, own_closed, own_step, partner_asked, partner_closed, partner_step, said, asks_for, closes, is_half}
+use Rattle.host_keeps_pairing.specs.Words.{all_gone, all_taken}
 use Rattle.interface.specs.Mailboxes.{same_flow}
 use Rattle.interface.specs.declared.crossing.Crossing.TheVariants as crossing
 use Rattle.ncp_control.specs.declared.command.Command.TheVariants as command
 use Rattle.sockets.specs.declared.request.Request.TheVariants as request
-use Rattle.host_keeps_pairing.specs.Words.{all_taken}
-use Rattle.pairing_law.specs.Ends.{nothing}
-use Rattle.promise.specs.Ends.{asks_for, closes, is_half}
 use Rattle.promise.specs.declared.life.Life.{Life}
 use Rattle.world_keeps_streams.proofs.Ends.Courses.{contacted_if, course_in, moved}
 use Rattle.world_keeps_streams.proofs.Ends.Kinds.{ItDrops, ItHears, ItIdles, ItSays, ItStays, ItStops, Kind, Pace, end_of, pace, stage_of}
 use Rattle.world_keeps_streams.proofs.Ends.MarkedEnds.{asked_heard, heard_from, heard_gone, heard_open, heard_still, heard_taken, own_first, own_stays, own_unclosed, partner_first, partner_said, partner_stays, partner_unclosed, said_from, said_gone, said_none, said_open, said_taken}
 use Rattle.world_keeps_streams.proofs.Ends.Marks.{NoClose, begun_own, begun_own_closed, begun_partner, begun_partner_closed, is_asking, not_half, own_early, own_marks, partner_early, partner_marks}
 use Rattle.world_keeps_streams.proofs.Requests.Sides.{Lawful, below}
-use Rattle.world_keeps_lives.proofs.lemmas.{none_some}
-use Rattle.reset_law.specs.Network.{Network}
 
 -- ---- what each step keeps
 

@@ -1,19 +1,18 @@
 -- Ends on a link that opened and haven't closed, and what the calls of one moment do to them.
-use Rattle.world_keeps_streams.proofs.Common.{◌≡◌, ◌⊎◌, inl, inr, ℕ, ◌==◌, ◌&&◌, ◌||◌, not, Bool, true, false, if◌then◌else◌, List, [], ◌∷◌, ◌++◌, map, filter, find, length, take, Option, Some, None, is_some, refl, ap, sym, subst, ◌∙◌, eqb-true, list_any, Host, same_host, data_bits, header_of, Command, DataHeader, Ending, Open, Unconnected, receiver_requested, with_end, with_more_bits, asked_on_link, asked_with_size, at_end, changed, cls_taken_by, desk_taken, matched_once, receiver_on, ret_taken, rts_heard, rts_taken_by, sender_on, str_heard, str_linked, str_taken_by, ERRONEOUS, Legal, Order, Wrong, orders_of, arrived, arrived_if, data_found, is_acceptable, spent, text_faulted, DeskState, command_queued, desk_of, listener_on, settled, swept, called_off, changed_first, close_due, closed_by_partner, closed_when, entry_at, free_link, has_cls, is_answered, is_at, is_busy, is_due, is_link, is_mine_on, is_receiving, is_sent, must_close, receives_on, receiving_end, refused_end, sending_end, sends_on, PairState, Parcel, asked_at, bits_gone, cls_sent, command_gone, freed, may_send_on, TurnState, if_ready, order_taken, Closing, Entry, Listener, both, not_is, has_opened, listens_on, IsAllowed, AreAllowed, IsHistory, Answered, AsksBack, Closes, Gives, Grants, Hears, OpensReceiver, OpensSender, Says, Sends, Takes, ends_by, ends_now, numbered, sender_now, is_ready, owner_of, pair_with, Request, commands_said, message_calls, orders_heard, owner_calls, parcel_calls, request_calls, ◌*◌, with_connections, Peer, with_desk, error, NcpState, next_calls}
+use Rattle.world_keeps_streams.proofs.Common.{◌≡◌, ◌⊎◌, inl, inr, ℕ, ◌==◌, ◌&&◌, ◌||◌, not, Bool, true, false, if◌then◌else◌, List, [], ◌∷◌, ◌++◌, map, filter, find, length, take, Option, Some, None, is_some, refl, ap, sym, subst, ◌∙◌, ◌*◌, eqb-true, list_any, Host, same_host, data_bits, header_of, Command, DataHeader, receiver_requested, with_end, with_more_bits, ERRONEOUS, Legal, Order, Wrong, orders_of, error, arrived, arrived_if, data_found, is_acceptable, spent, text_faulted, DeskState, command_queued, desk_of, listener_on, settled, swept, listens_on, PairState, freed, TurnState, if_ready, order_taken, with_desk, Closing, Entry, Listener, both, not_is, has_opened, is_ready, owner_of, pair_with, NcpState, Request, Peer, HasSaid}
+use Rattle.host_pairs.specs.Commands.{Ending, Open, Unconnected, asked_on_link, asked_with_size, at_end, changed, cls_taken_by, desk_taken, matched_once, receiver_on, ret_taken, rts_heard, rts_taken_by, sender_on, str_heard, str_linked, str_taken_by, Found, all_taken}
+use Rattle.host_pairs.specs.Entries.{called_off, changed_first, close_due, closed_by_partner, closed_when, entry_at, free_link, has_cls, is_answered, is_at, is_busy, is_due, is_link, is_mine_on, is_receiving, is_sent, must_close, receives_on, receiving_end, refused_end, sending_end, sends_on, is_over}
+use Rattle.host_pairs.specs.Parcels.{Parcel, asked_at, bits_gone, cls_sent, command_gone, may_send_on, with_connections, link_of}
+use Rattle.host_keeps_streams.specs.Histories.{IsAllowed, AreAllowed, IsHistory, Answered, AsksBack, Closes, Gives, Grants, Hears, OpensReceiver, OpensSender, Says, Sends, Takes, ends_by, ends_now, numbered, sender_now, Call}
+use Rattle.world_keeps_streams.specs.Calls.{commands_said, message_calls, orders_heard, owner_calls, parcel_calls, request_calls, next_calls, called}
 use Rattle.host_keeps_streams.proofs.lemmas.{due_cls}
-use Rattle.host_keeps_streams.specs.Formed.{HasSaid}
 use Rattle.host_keeps_streams.specs.Histories as calls
-use Rattle.host_keeps_streams.specs.Histories.{Call}
 use Rattle.host_pairs.specs.Commands as commands
-use Rattle.host_pairs.specs.Commands.{Found, all_taken}
-use Rattle.host_pairs.specs.Entries.{is_over}
-use Rattle.host_pairs.specs.Parcels.{link_of}
 use Rattle.host_pairs.specs.declared.entry.Closing.TheVariants as closing
 use Rattle.ncp_control.specs.declared.command.Command.TheVariants as command
 use Rattle.stream_law.specs.Senders.{Sender}
 use Rattle.host_pairs.specs.Parcels as parcel
 use Rattle.sockets.specs.declared.request.Request.TheVariants as request
-use Rattle.world_keeps_streams.specs.Calls.{called}
 use Rattle.world_keeps_streams.proofs.Deeds.Effects.{Among, among_kept, among_mapped}
 use Rattle.world_keeps_streams.proofs.Ends.Marks.{never}
 use Rattle.world_keeps_streams.proofs.Facts.{clash, no_zero}

@@ -1,11 +1,10 @@
 -- By what no end of two sockets goes, and no pair is reset: what comes in and goes out where none of these ends passes a test that all pass that go.
-use Rattle.world_keeps_streams.proofs.Common.{◌≡◌, ◌⊎◌, inl, inr, ℕ, ◌&&◌, not, Bool, true, false, if◌then◌else◌, List, [], ◌∷◌, ◌++◌, filter, Option, Some, None, is_some, refl, ap, sym, subst, ◌∙◌, flat_map, list_any, Host, data_bits, header_of, is_ready, Command, DataHeader, Ending, Open, Unconnected, asked_on_link, asked_with_size, at_end, changed, cls_taken_by, desk_taken, gvb_taken, interrupted, receiver_on, ret_taken, rts_heard, rts_taken_by, sender_on, str_heard, str_linked, str_taken_by, ERRONEOUS, Legal, Order, Wrong, error, arrived, arrived_if, data_found, data_of, data_taken, is_acceptable, spent, text_faulted, DeskState, command_queued, desk_of, listener_on, settled, swept, changed_at, closed_by_partner, closed_when, ending, entry_at, free_link, is_at, is_called_off, is_due, is_ending, is_sent, must_close, opening_by, opening_notices, receives_on, receiving_end, refused_end, sending_end, sends_on, asked_at, cls_sent, command_gone, commands_gone, TurnState, command_taken, if_ready, orders_taken, with_desk, Closing, Entry, Listener, Notice, both, AreJoint, IsJoint}
-use Rattle.host_pairs.specs.Desk.{desk_told}
-use Rattle.host_pairs.specs.Commands.{entry_joined}
+use Rattle.world_keeps_streams.proofs.Common.{◌≡◌, ◌⊎◌, inl, inr, ℕ, ◌&&◌, not, Bool, true, false, if◌then◌else◌, List, [], ◌∷◌, ◌++◌, filter, Option, Some, None, is_some, refl, ap, sym, subst, ◌∙◌, flat_map, list_any, Host, data_bits, header_of, is_ready, Command, DataHeader, ERRONEOUS, Legal, Order, Wrong, error, arrived, arrived_if, data_found, data_of, data_taken, is_acceptable, spent, text_faulted, asked_at, cls_sent, command_gone, commands_gone, TurnState, command_taken, if_ready, orders_taken, with_desk, Closing, Entry, Listener, Notice, both, AreJoint, IsJoint}
+use Rattle.host_pairs.specs.Commands.{Ending, Open, Unconnected, asked_on_link, asked_with_size, at_end, changed, cls_taken_by, desk_taken, gvb_taken, interrupted, receiver_on, ret_taken, rts_heard, rts_taken_by, sender_on, str_heard, str_linked, str_taken_by, entry_joined, Found, all_taken}
+use Rattle.host_pairs.specs.Desk.{DeskState, command_queued, desk_of, listener_on, settled, swept, desk_told}
+use Rattle.host_pairs.specs.Entries.{changed_at, closed_by_partner, closed_when, ending, entry_at, free_link, is_at, is_called_off, is_due, is_ending, is_sent, must_close, opening_by, opening_notices, receives_on, receiving_end, refused_end, sending_end, sends_on, is_drained, is_over}
 use Rattle.ncp_control.specs.declared.command.Command.TheVariants as command
 use Rattle.host_pairs.specs.Commands as commands
-use Rattle.host_pairs.specs.Commands.{Found, all_taken}
-use Rattle.host_pairs.specs.Entries.{is_drained, is_over}
 use Rattle.host_pairs.specs.declared.entry.Closing.TheVariants as closing
 use Rattle.host_pairs.specs.declared.notice.Notice.TheVariants as notice
 use Rattle.world_keeps_streams.proofs.Deeds.Effects.{Among, Changed, among_changed, among_either, among_filter, among_map, found_among}

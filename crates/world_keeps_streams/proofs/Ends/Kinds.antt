@@ -1,20 +1,22 @@
 -- What a moment is for a life: what is said or heard of its sockets, or its connections are dropped, or its host stops, or nothing of it changes.
-use Rattle.world_keeps_streams.proofs.Common.{◌≡◌, ◌⊎◌, inl, inr, ℕ, ◌+◌, ◌≤◌, ◌==◌, ◌&&◌, ◌||◌, Bool, true, false, if◌then◌else◌, List, [], ◌∷◌, ◌++◌, map, take, Option, Some, refl, ap, sym, subst, ◌∙◌, eq-eqb, eqb-true, Host, same_host, HostMessage, same_host-true, AreAbout, IsAbout, Legal, Order, orders_of, desk_of, close_due, is_at, is_sent, PairState, Parcel, parcel_gone, Closing, Entry, Notice, both, is_ready, Command, End, Close, Mark, HasEnd, at, all_lives_gone, all_lives_taken, with_openings, AllFit, MayAllGo, all_gone, mark_in, mark_of, marks_in, eqb-sym, pair_with, offered_by, Peer, Crossed, IsNext, Moment, places, program, host_in, notices_by, plain_take, what_goes, Course, Dropped, Stage, Stopped, cut, each, ended_by, said}
+use Rattle.world_keeps_streams.proofs.Common.{◌≡◌, ◌⊎◌, inl, inr, ℕ, ◌+◌, ◌≤◌, ◌==◌, ◌&&◌, ◌||◌, Bool, true, false, if◌then◌else◌, List, [], ◌∷◌, ◌++◌, map, take, Option, Some, refl, ap, sym, subst, ◌∙◌, eq-eqb, eqb-true, Host, same_host, HostMessage, same_host-true, AreAbout, IsAbout, Legal, Order, orders_of, desk_of, PairState, Parcel, parcel_gone, Closing, Entry, Notice, both, what_goes, is_ready, Command, Close, Mark, HasEnd, at, pair_with, Peer, Crossed, IsNext, Moment, places, program, host_in, notices_by, AreOurs, Network}
+use Rattle.host_pairs.specs.Entries.{close_due, is_at, is_sent, is_over}
+use Rattle.pairing_law.specs.Ends.{End, nothing}
+use Rattle.host_keeps_pairing.specs.Openings.{all_lives_gone, all_lives_taken, with_openings, AreAmong}
+use Rattle.host_keeps_pairing.specs.Words.{AllFit, MayAllGo, all_gone, mark_in, mark_of, marks_in, all_taken, marks}
+use Rattle.host_keeps_pairing.proofs.lemmas.{eqb-sym, offer_may, offer_says, offer_tells}
+use Rattle.sockets.specs.Sending.{offered_by, offered}
+use Rattle.net_sim.proofs.lemmas.{plain_take}
+use Rattle.promise.specs.Ends.{Course, Dropped, Stage, Stopped, cut, each, ended_by, said}
 use Rattle.interface.specs.declared.crossing.Crossing.TheVariants as crossing
 use Rattle.host_pairs.specs.Allowed.{MaySpeak, commands_of}
-use Rattle.host_pairs.specs.Entries.{is_over}
 use Rattle.host_pairs.specs.Parcels as parcel
 use Rattle.host_pairs.specs.declared.entry.Closing.TheVariants as closing
 use Rattle.host_pairs.specs.declared.notice.Notice.TheVariants as notice
 use Rattle.ncp_control.specs.declared.command.Command.TheVariants as command
 use Rattle.ncp_control.specs.declared.phase.Phase.TheVariants as phase
-use Rattle.pairing_law.specs.Ends.{nothing}
 use Rattle.pairing_law.specs.Sides as law
-use Rattle.host_keeps_pairing.specs.Openings.{AreAmong}
 use Rattle.host_keeps_pairing.specs.Words as words
-use Rattle.host_keeps_pairing.specs.Words.{all_taken, marks}
-use Rattle.host_keeps_pairing.proofs.lemmas.{offer_may, offer_says, offer_tells}
-use Rattle.sockets.specs.Sending.{offered}
 use Rattle.promise.specs.declared.life.Life.{Life}
 use Rattle.world_keeps_streams.proofs.Deeds.Effects.{Among}
 use Rattle.world_keeps_streams.proofs.Ends.Courses.{course_in}
@@ -24,7 +26,6 @@ use Rattle.world_keeps_streams.proofs.Ends.Owes.{AData, AReply, AReset, Outs, Se
 use Rattle.world_keeps_streams.proofs.Ends.Ties.{end_in, entry_is, has_now, itself, law_end, once}
 use Rattle.world_keeps_streams.proofs.Lives.Fates.{IsDown, IsEnd, IsOpening, IsResetting, TellsEnd, TellsOpening, TellsReset}
 use Rattle.world_keeps_streams.proofs.Requests.Sides.{Lawful, below, coupled_in}
-use Rattle.reset_law.specs.Network.{AreOurs, Network}
 
 -- ---- what notices say of a life
 

@@ -1,14 +1,13 @@
 -- An end that the law of pairing has, beside its life's stage: what is said and heard of its two sockets moves both
 -- alike.
-use Rattle.world_keeps_streams.proofs.Common.{◌≡◌, ◌⊎◌, inl, inr, ℕ, ◌+◌, ◌<◌, ◌≤◌, ◌==◌, not, Bool, true, false, if◌then◌else◌, List, [], ◌∷◌, Option, Some, None, is_some, refl, ap, sym, subst, ◌∙◌, eq-eqb, arith, eqb-true, both, not_is, End, fits, is_begun, mark_taken, Ask, Close, Mark, all_lives_gone, all_lives_taken, AllFit, MayAllGo, all_gone, Asking, Going, Over, Stage, own_asked, partner_asked}
-use Rattle.pairing_law.specs.Ends.{gone, nothing}
+use Rattle.world_keeps_streams.proofs.Common.{◌≡◌, ◌⊎◌, inl, inr, ℕ, ◌+◌, ◌<◌, ◌≤◌, ◌==◌, not, Bool, true, false, if◌then◌else◌, List, [], ◌∷◌, Option, Some, None, is_some, refl, ap, sym, subst, ◌∙◌, eq-eqb, arith, eqb-true, both, not_is, Ask, Close, Mark, all_lives_gone, all_lives_taken, none_some}
+use Rattle.pairing_law.specs.Ends.{End, fits, is_begun, mark_taken, gone, nothing}
+use Rattle.host_keeps_pairing.specs.Words.{AllFit, MayAllGo, all_gone, all_taken}
+use Rattle.promise.specs.Ends.{Asking, Going, Over, Stage, own_asked, partner_asked, Closed}
 use Rattle.pairing_law.specs.Sides as law
 use Rattle.pairing_law.specs.Sides.{lives_opened}
-use Rattle.host_keeps_pairing.specs.Words.{all_taken}
-use Rattle.promise.specs.Ends.{Closed}
 use Rattle.promise.specs.declared.life.Life.{Life}
 use Rattle.world_keeps_streams.proofs.Ends.Marks.{AllHere, AskOnce, NoAsk, NoClose, is_asking, never, over_heard, over_said, own_early, own_early_begun, own_mark, own_marks, partner_early, partner_early_begun, partner_mark, partner_marks}
-use Rattle.world_keeps_lives.proofs.lemmas.{none_some}
 
 module _ (x : Life) (place : ℕ) where
   -- ---- an end that is there by its own request, and what is said of it

@@ -1,9 +1,10 @@
 -- A life's stage by what is said and heard of its two sockets, beside the end that the law of pairing has there.
-use Rattle.world_keeps_streams.proofs.Common.{◌≡◌, ℕ, ◌==◌, ◌&&◌, ◌||◌, Bool, true, false, if◌then◌else◌, List, [], ◌∷◌, ◌++◌, map, refl, ap, sym, ◌∙◌, Legal, Order, Wrong, Command, Ask, Close, Mark, mark_in, mark_of, marks, marks_in, AllPlain, ArePlain, is_rrp, is_rst, Asking, Course, Going, Over, Stage, each, ended_by, heard, own_asked, own_closed, own_step, partner_asked, partner_closed, partner_step, said}
+use Rattle.world_keeps_streams.proofs.Common.{◌≡◌, ℕ, ◌==◌, ◌&&◌, ◌||◌, Bool, true, false, if◌then◌else◌, List, [], ◌∷◌, ◌++◌, map, refl, ap, sym, ◌∙◌, Legal, Order, Wrong, Command, Ask, Close, Mark, or_nothing}
+use Rattle.host_keeps_pairing.specs.Words.{mark_in, mark_of, marks, marks_in}
+use Rattle.net_sim.specs.Projection.{AllPlain, ArePlain, is_rrp, is_rst}
+use Rattle.promise.specs.Ends.{Asking, Course, Going, Over, Stage, each, ended_by, heard, own_asked, own_closed, own_step, partner_asked, partner_closed, partner_step, said, Closed, is_half}
 use Rattle.ncp_control.specs.declared.command.Command.TheVariants as command
-use Rattle.promise.specs.Ends.{Closed, is_half}
 use Rattle.promise.specs.declared.life.Life.{Life}
-use Rattle.interface.proofs.lemmas.{or_nothing}
 
 pub never : {A : Type 0} → true ≡ false → A
 never e = absurd (let no : true ≡ false = e in cc)

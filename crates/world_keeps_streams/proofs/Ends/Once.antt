@@ -1,5 +1,7 @@
 -- A text of a host's program asks once for a connection of two sockets, where it goes out and where it comes in.
-use Rattle.world_keeps_streams.proofs.Common.{◌≡◌, ℕ, ◌+◌, ◌<◌, ◌≤◌, ◌==◌, Bool, true, false, if◌then◌else◌, List, [], ◌∷◌, ◌++◌, map, take, length, refl, ap, sym, subst, ◌∙◌, arith, Host, same_host, Flow, Crossing, HostMessage, same_flow-true, waits_with, Legal, Order, orders_of, Parcel, Command, End, HasEnd, Ask, Close, Mark, MayAllGo, mark_of, marks_in, pair_with, Asked, Crossed, IsNext, Moment, places, program, crossings_of}
+use Rattle.world_keeps_streams.proofs.Common.{◌≡◌, ℕ, ◌+◌, ◌<◌, ◌≤◌, ◌==◌, Bool, true, false, if◌then◌else◌, List, [], ◌∷◌, ◌++◌, map, take, length, refl, ap, sym, subst, ◌∙◌, arith, Host, same_host, Flow, Crossing, HostMessage, same_flow-true, waits_with, Legal, Order, orders_of, Parcel, Command, HasEnd, Ask, Close, Mark, pair_with, Asked, Crossed, IsNext, Moment, places, program, crossings_of, AreOurs, Network}
+use Rattle.pairing_law.specs.Ends.{End, gone}
+use Rattle.host_keeps_pairing.specs.Words.{MayAllGo, mark_of, marks_in}
 use Rattle.interface.specs.Mailboxes as mail
 use Rattle.interface.specs.Mailboxes.{same_flow}
 use Rattle.interface.specs.declared.crossing.Crossing.TheVariants as crossing
@@ -7,13 +9,11 @@ use Rattle.host_pairs.specs.Allowed.{commands_of}
 use Rattle.host_pairs.specs.Parcels as parcel
 use Rattle.host_keeps_pairing.specs.Words as words
 use Rattle.host_keeps_pairing.proofs.lemmas.{offer_may}
-use Rattle.pairing_law.specs.Ends.{gone}
 use Rattle.net_sim.proofs.lemmas.{cleared_waits, fetched_waits}
 use Rattle.world_keeps_streams.proofs.Ends.Marks.{AllHere, AskOnce, NoAsk, marks_here}
 use Rattle.world_keeps_streams.proofs.Ends.Owes.{AData, AReply, AReset, Outs, Several, outs}
 use Rattle.world_keeps_streams.proofs.Ends.Ties.{LikeMarks, has_now, itself, law_end, like_marks}
 use Rattle.world_keeps_streams.proofs.Requests.Sides.{Lawful, below, coupled_in}
-use Rattle.reset_law.specs.Network.{AreOurs, Network}
 
 -- ---- marks
 

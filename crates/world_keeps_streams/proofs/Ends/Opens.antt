@@ -1,13 +1,12 @@
 -- A life that begins: no user of its host has closed its end before.
-use Rattle.world_keeps_streams.proofs.Common.{◌≡◌, ◌⊎◌, inl, inr, ℕ, ◌==◌, ◌&&◌, ◌||◌, not, Bool, true, false, List, [], ◌∷◌, filter, length, Option, Some, None, is_some, refl, ap, sym, subst, ◌∙◌, eq-eqb, list_any, Host, same_host, or_false, same_host-true, has_cls, is_answered, is_at, is_busy, is_called_off, is_due, is_ending, is_link, is_mine_on, is_receiving, sends_on, Closing, Entry, has_opened, name_now, numbered, sender_now, marks, pair_with, Moment, program, mine_on, own_calls, story_agrees, Network, AreOurs}
-use Rattle.host_keeps_streams.specs.Ends.{AreSender}
+use Rattle.world_keeps_streams.proofs.Common.{◌≡◌, ◌⊎◌, inl, inr, ℕ, ◌==◌, ◌&&◌, ◌||◌, not, Bool, true, false, List, [], ◌∷◌, filter, length, Option, Some, None, is_some, refl, ap, sym, subst, ◌∙◌, eq-eqb, list_any, Host, same_host, or_false, same_host-true, has_cls, is_answered, is_at, is_busy, is_called_off, is_due, is_ending, is_link, is_mine_on, is_receiving, sends_on, Closing, Entry, has_opened, AreSender, name_now, numbered, sender_now, marks, pair_with, Moment, program, own_calls, story_agrees, Network, AreOurs}
+use Rattle.world_keeps_lives.specs.Lives.{mine_on, AreRefusing, IsOwned}
 use Rattle.host_pairs.specs.declared.entry.Closing.TheVariants as closing
 use Rattle.ncp_control.specs.declared.phase.Phase.TheVariants as phase
 use Rattle.promise.specs.declared.life.Life.{Life}
 use Rattle.stream_law.specs.Senders.{Sender}
 use Rattle.net_sim.specs.Projection.{on_control}
 use Rattle.net_sim.specs.Told.{kept_in}
-use Rattle.world_keeps_lives.specs.Lives.{AreRefusing, IsOwned}
 use Rattle.world_keeps_streams.proofs.Deeds.Effects.{Among, among_kept}
 use Rattle.world_keeps_streams.proofs.Ends.Busy.{busy_open}
 use Rattle.world_keeps_streams.proofs.Ends.Holds.{Has, Holds, holds, holds_parts}

@@ -1,21 +1,21 @@
 -- Whether a life's host owes its peer an RRP, by what crosses and by its program.
-use Rattle.world_keeps_streams.proofs.Common.{◌≡◌, ℕ, ◌==◌, ◌&&◌, not, Bool, true, false, if◌then◌else◌, List, [], ◌∷◌, map, take, Some, refl, ap, sym, subst, ◌∙◌, eq-eqb, Host, same_host, Answer, HostMessage, same_host-true, MayGo, Legal, Order, Wrong, orders_of, PairState, Parcel, link_for, next_of, text_for, Entry, IsReadBack, what_goes, Command, offer_read, eqb-sym, Begin, Hear, Message, Other, Send, Take, are, when, Pair, pair, pair_moved, pair_with, next_is, next_pair, Agrees, AllPlain, ArePlain, IsApart, control_message, is_rrp, is_rst, message_on, Asked, Crossed, IsNext, Moment, events_of, places, program, data_away, plain_take, story_agrees, Course, Dropped, Stopped, cut, each, ended_by, fails, heard, own_asked, own_closed, partner_asked, partner_closed, said, AText, AnRrp, AnRst, Sort, programs_ranged, sort_of}
+use Rattle.world_keeps_streams.proofs.Common.{◌≡◌, ℕ, ◌==◌, ◌&&◌, not, Bool, true, false, if◌then◌else◌, List, [], ◌∷◌, map, take, Some, refl, ap, sym, subst, ◌∙◌, eq-eqb, Host, same_host, Answer, HostMessage, same_host-true, MayGo, Legal, Order, Wrong, orders_of, PairState, Parcel, link_for, next_of, text_for, Entry, IsReadBack, what_goes, Command, offer_read, eqb-sym, pair_with, next_is, next_pair, Asked, Crossed, IsNext, Moment, events_of, places, program, AText, AnRrp, AnRst, Sort, programs_ranged, sort_of, AreOurs, Network}
+use Rattle.reset_law.specs.Events.{Begin, Hear, Message, Other, Send, Take, are, when, Call, Reply, Reset}
+use Rattle.reset_law.specs.Pairs.{Pair, pair, pair_moved, pair_sent, took}
+use Rattle.net_sim.specs.Projection.{Agrees, AllPlain, ArePlain, IsApart, control_message, is_rrp, is_rst, message_on, has_control, is_alone}
+use Rattle.net_sim.proofs.lemmas.{data_away, plain_take, story_agrees}
+use Rattle.promise.specs.Ends.{Course, Dropped, Stopped, cut, each, ended_by, fails, heard, own_asked, own_closed, partner_asked, partner_closed, said, asks_for, closes}
 use Rattle.interface.specs.declared.crossing.Answer.TheVariants as answer
 use Rattle.interface.specs.declared.crossing.Crossing.TheVariants as crossing
 use Rattle.host_pairs.specs.Parcels as parcel
 use Rattle.ncp_control.specs.declared.phase.Phase.TheVariants as phase
 use Rattle.ncp_control.specs.declared.command.Command.TheVariants as command
-use Rattle.reset_law.specs.Events.{Call, Reply, Reset}
-use Rattle.reset_law.specs.Pairs.{pair_sent, took}
 use Rattle.sockets.specs.declared.request.Request.TheVariants as request
-use Rattle.net_sim.specs.Projection.{has_control, is_alone}
-use Rattle.promise.specs.Ends.{asks_for, closes}
 use Rattle.promise.specs.declared.life.Life.{Life}
 use Rattle.world_keeps_streams.proofs.Ends.Courses.{course_in}
 use Rattle.world_keeps_streams.proofs.Ends.Marks.{heard_plain, said_plain}
 use Rattle.world_keeps_streams.proofs.Requests.Sides.{Lawful, below, coupled_in}
 use Rattle.world_keeps_pairing.proofs.lemmas as served
-use Rattle.reset_law.specs.Network.{AreOurs, Network}
 
 -- ---- what a program sends
 

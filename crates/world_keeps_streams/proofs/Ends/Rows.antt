@@ -1,9 +1,7 @@
 -- Books of one life.
-use Rattle.world_keeps_streams.proofs.Common.{◌≡◌, inl, inr, List, [], ◌∷◌, sym, subst, Crossing}
-use Rattle.world_keeps_streams.proofs.Common.{Over, Stage, stage, Called, Fate}
-use Rattle.promise.specs.Ends.{AreLeft, IsLeft}
+use Rattle.world_keeps_streams.proofs.Common.{◌≡◌, inl, inr, List, [], ◌∷◌, sym, subst, Crossing, Called, Fate, CountNothingLater, CountsBefore}
+use Rattle.promise.specs.Ends.{Over, Stage, stage, AreLeft, IsLeft}
 use Rattle.promise.specs.declared.life.Life.{Life}
-use Rattle.world_keeps_streams.specs.Within.{CountNothingLater, CountsBefore}
 use Rattle.world_keeps_streams.proofs.Lives.Lists.{IsOf, is_of}
 
 pub one_left : (contacts : List Called) (log : List Crossing) (x : Life) (f : Fate) → IsLeft contacts log x f

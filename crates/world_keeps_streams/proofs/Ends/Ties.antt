@@ -1,7 +1,9 @@
 -- The end of two sockets in a host's program as the law of pairing has it, where a partner's request is named by the place at which it was taken.
-use Rattle.world_keeps_streams.proofs.Common.{◌≡◌, ℕ, ◌==◌, Bool, true, false, not, ◌&&◌, ◌||◌, if◌then◌else◌, List, [], ◌∷◌, ◌++◌, filter, Option, Some, None, is_some, refl, ap, sym, subst, ◌∙◌, eq-eqb, eqb-true, Host, Legal, Order, Wrong, is_at, is_mine_on, is_sent, PairState, Entry, both, Command, End, mark_taken, Ask, Close, Mark, HasEnd, Stand, Standing, at, came_from, end_of, is_past, standing, AllFit, mark_of, marks, marks_in, live_end, plain, pair_with, Moment, program, crossings_of, Coupled, HasOpenEnd, origin_in, AllBare, AllTied, all_bare, all_tied, are_origins, served_in}
+use Rattle.world_keeps_streams.proofs.Common.{◌≡◌, ℕ, ◌==◌, Bool, true, false, not, ◌&&◌, ◌||◌, if◌then◌else◌, List, [], ◌∷◌, ◌++◌, filter, Option, Some, None, is_some, refl, ap, sym, subst, ◌∙◌, eq-eqb, eqb-true, Host, Legal, Order, Wrong, is_at, is_mine_on, is_sent, PairState, Entry, both, Command, Ask, Close, Mark, HasEnd, Stand, Standing, at, came_from, end_of, is_past, standing, AllFit, mark_of, marks, marks_in, pair_with, Moment, program, crossings_of, Coupled, HasOpenEnd, origin_in, AreOurs, Network}
+use Rattle.pairing_law.specs.Ends.{End, mark_taken, nothing}
+use Rattle.host_keeps_pairing.proofs.lemmas.{live_end, plain}
+use Rattle.world_keeps_pairing.proofs.lemmas.{AllBare, AllTied, all_bare, all_tied, are_origins, served_in}
 use Rattle.ncp_control.specs.declared.command.Command.TheVariants as command
-use Rattle.pairing_law.specs.Ends.{nothing}
 use Rattle.promise.specs.declared.life.Life.{Life}
 use Rattle.world_keeps_streams.proofs.Books.Arrives.{end_at}
 use Rattle.world_keeps_streams.proofs.Calls.MayHear.{has_end}
@@ -9,7 +11,6 @@ use Rattle.world_keeps_streams.proofs.Deeds.Effects.{Among, among_kept, among_ma
 use Rattle.world_keeps_streams.proofs.Lives.Left.{stands_as}
 use Rattle.world_keeps_streams.proofs.Requests.Sides.{Lawful, coupled_in}
 use Rattle.world_keeps_pairing.proofs.lemmas as served
-use Rattle.reset_law.specs.Network.{AreOurs, Network}
 
 abbrev pub itself : ℕ → ℕ
 itself n = n

@@ -1,19 +1,18 @@
 -- Ends that their own user hasn't closed: a call by which no user closes one leaves it so, or its partner's CLS was
 -- taken.
-use Rattle.world_keeps_streams.proofs.Common.{◌≡◌, ◌⊎◌, inl, inr, ℕ, zero, suc, ◌==◌, ◌&&◌, not, Bool, true, false, if◌then◌else◌, List, [], ◌∷◌, ◌++◌, filter, Option, Some, None, refl, ap, sym, subst, ◌∙◌, eq-eqb, eqb-true, Host, same_host, same_host-refl, same_host-true, with_end, with_more_bits, receiver_requested, Command, changed, Legal, DeskState, desk_of, receiver_on, called_off, changed_first, close_due, free_link, has_cls, is_at, is_called_off, is_due, is_mine_on, receiving_end, sending_end, PairState, bits_gone, cls_sent, freed, may_send_on, Closing, Entry, Listener, both, listens_on, AreAllowed, IsAllowed, IsHistory, Answered, AsksBack, Closes, Gives, Grants, Hears, OpensReceiver, OpensSender, Says, Sends, Takes, ends_by, ends_now, numbered, sender_now, owner_of, pair_with, Request, lives_at, Asked, Crossed, Moment, events_of, event_in, program, calls_by, own_calls, owner_calls, request_calls, NcpState, ◌*◌}
+use Rattle.world_keeps_streams.proofs.Common.{◌≡◌, ◌⊎◌, inl, inr, ℕ, zero, suc, ◌==◌, ◌&&◌, not, Bool, true, false, if◌then◌else◌, List, [], ◌∷◌, ◌++◌, filter, Option, Some, None, refl, ap, sym, subst, ◌∙◌, eq-eqb, ◌*◌, eqb-true, Host, same_host, same_host-refl, same_host-true, with_end, with_more_bits, receiver_requested, Command, Legal, DeskState, desk_of, listens_on, PairState, freed, Closing, Entry, Listener, both, owner_of, pair_with, NcpState, Request, lives_at, Asked, Crossed, Moment, events_of, event_in, program, HasSaid, keeps, AreOurs, Network}
+use Rattle.host_pairs.specs.Commands.{changed, receiver_on}
+use Rattle.host_pairs.specs.Entries.{called_off, changed_first, close_due, free_link, has_cls, is_at, is_called_off, is_due, is_mine_on, receiving_end, sending_end, is_over}
+use Rattle.host_pairs.specs.Parcels.{bits_gone, cls_sent, may_send_on, link_of}
+use Rattle.host_keeps_streams.specs.Histories.{AreAllowed, IsAllowed, IsHistory, Answered, AsksBack, Closes, Gives, Grants, Hears, OpensReceiver, OpensSender, Says, Sends, Takes, ends_by, ends_now, numbered, sender_now, Call}
+use Rattle.world_keeps_streams.specs.Calls.{calls_by, own_calls, owner_calls, request_calls, called}
 use Rattle.ncp_control.specs.declared.command.Command.TheVariants as command
 use Rattle.host_pairs.specs.Commands as commands
-use Rattle.host_pairs.specs.Entries.{is_over}
-use Rattle.host_pairs.specs.Parcels.{link_of}
 use Rattle.host_pairs.specs.declared.entry.Closing.TheVariants as closing
-use Rattle.host_keeps_streams.specs.Formed.{HasSaid}
 use Rattle.host_keeps_streams.specs.Histories as calls
-use Rattle.host_keeps_streams.specs.Histories.{Call}
 use Rattle.stream_law.specs.Senders.{Sender}
 use Rattle.sockets.specs.declared.request.Request.TheVariants as request
 use Rattle.promise.specs.declared.life.Life.{Life}
-use Rattle.world_keeps_pairing.specs.Steps.{keeps}
-use Rattle.world_keeps_streams.specs.Calls.{called}
 use Rattle.world_keeps_streams.proofs.Calls.Chain.{Chained, chain}
 use Rattle.world_keeps_streams.proofs.Deeds.Effects.{Among, Changed, among_changed, among_filter}
 use Rattle.world_keeps_streams.proofs.Ends.Kept.{IsTest, Keeps, Spares, keeps_changed, keeps_found, keeps_gone, keeps_joined, keeps_quiet, keeps_settled, keeps_taken}
@@ -23,7 +22,6 @@ use Rattle.world_keeps_streams.proofs.Requests.Sides.{Lawful, below}
 use Rattle.world_keeps_streams.proofs.Steps.Kinds.{NoClose, NoneClose, none_crossed, none_if, none_owner}
 use Rattle.world_keeps_streams.proofs.Steps.Streams.{all_allowed}
 use Rattle.world_keeps_streams.proofs.Facts.{middle_off, no_zero}
-use Rattle.reset_law.specs.Network.{AreOurs, Network}
 
 -- ---- an end that its user has closed, and its partner hasn't
 

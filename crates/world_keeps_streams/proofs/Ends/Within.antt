@@ -1,19 +1,14 @@
 -- What a life counts had crossed before it was over.
-use Rattle.world_keeps_streams.proofs.Common.{◌≡◌, inl, inr, ℕ, zero, suc, ◌<◌, ◌≤◌, ◌==◌, Bool, true, false, if◌then◌else◌, List, [], ◌∷◌, length, Option, Some, None, refl, ap, sym, subst, ◌∙◌, arith, same_flow-true, Seen, Host, Flow, Crossing, orders_of, Cause, Going, Over, Stage, each, heard, said, IsBeside, text_of, texts_on, control_flow, Called, Fate, Kept, IsLawful, Asked, Crossed, Moment, places, program, contacts_of, crossings_of, WorldState, kept_fated, HasOpenEnd, Course, Network, AreOurs, Contains}
-use Rattle.reset_law.specs.Network.{all_ours}
-use Rattle.net_sim.specs.Among.{lives_among}
-use Rattle.world_keeps_pairing.proofs.lemmas.{in_book}
+use Rattle.world_keeps_streams.proofs.Common.{◌≡◌, inl, inr, ℕ, zero, suc, ◌<◌, ◌≤◌, ◌==◌, Bool, true, false, if◌then◌else◌, List, [], ◌∷◌, length, Option, Some, None, refl, ap, sym, subst, ◌∙◌, arith, same_flow-true, Seen, Host, Flow, Crossing, orders_of, Called, Fate, Kept, IsLawful, Asked, Crossed, Moment, places, program, contacts_of, crossings_of, WorldState, kept_fated, places_same, HasOpenEnd, Network, AreOurs, all_ours, Contains, lives_among, in_book, end_link, CountNothingLater, CountsBefore, among_all, linked_end}
+use Rattle.promise.specs.Ends.{Cause, Going, Over, Stage, each, heard, said, Course}
+use Rattle.promise.specs.Fates.{IsBeside, AreFated, is_over}
+use Rattle.promise.specs.Formed.{text_of, texts_on, data_in, first_data, flow_of, joined, link_of}
+use Rattle.promise.specs.Safe.{control_flow, before, receives}
 use Rattle.interface.specs.Mailboxes.{same_flow}
 use Rattle.interface.specs.declared.crossing.Crossing.TheVariants as crossing
 use Rattle.net_sim.specs.Told.{kept_in}
-use Rattle.net_sim.proofs.lemmas.{places_same}
-use Rattle.promise.specs.Fates.{AreFated, is_over}
-use Rattle.promise.specs.Formed.{data_in, first_data, flow_of, joined, link_of}
-use Rattle.promise.specs.Safe.{before, receives}
 use Rattle.promise.specs.declared.life.Life.{Life}
-use Rattle.world_keeps_lives.proofs.lemmas.Formed.{end_link}
 use Rattle.world_keeps_lives.proofs.lemmas.{texts_same}
-use Rattle.world_keeps_streams.specs.Within.{CountNothingLater, CountsBefore}
 use Rattle.world_keeps_streams.proofs.Books.Firsts.{formed, together}
 use Rattle.world_keeps_streams.proofs.Books.Placed.{before_end, before_later, link_later}
 use Rattle.world_keeps_streams.proofs.Books.Unasked.{own_below, partner_below}
@@ -26,8 +21,6 @@ use Rattle.world_keeps_streams.proofs.Lives.Lists.{IsOf, contains, is_of}
 use Rattle.world_keeps_streams.proofs.Requests.Sides.{Lawful, below, book_lawful}
 use Rattle.world_keeps_streams.proofs.Ours.{live, ours_of}
 use Rattle.world_keeps_streams.proofs.Lives.Among.{among_now}
-use Rattle.world_keeps_lives.proofs.lemmas.AllOurs.{among_all}
-use Rattle.world_keeps_lives.proofs.lemmas.Books.{linked_end}
 
 -- ---- what ends a life is no message of data
 

@@ -1,21 +1,18 @@
 -- What a host heard by its calls is what the law of pairing has it hear.
-use Rattle.world_keeps_streams.proofs.Common.{◌≡◌, ℕ, ◌==◌, ◌&&◌, Bool, true, false, if◌then◌else◌, List, [], ◌∷◌, ◌++◌, take, Option, Some, None, refl, ap, sym, subst, ◌∙◌, append_assoc, Host, same_host, HostMessage, same_host-true, Command, Order, Legal, Wrong, orders_of, desk_of, listens_on, is_busy, PairState, Parcel, command_gone, with_connections, is_ready, TurnState, order_taken, Entry, Listener, eqb-sym, mark_of, marks_in, Answered, AsksBack, Closes, Gives, Grants, Hears, OpensReceiver, OpensSender, Says, Takes, Sockets, Who, Mark, Ask, Close, placed_event, tagged, with_box, with_place, Side, hears, Fresh, begins_fresh, stays_same, boxes, Event, In, Message, Other, stays_ready, turn_of, NcpState, owner_of, pair_with, next_in, Peer, Request, HaveAddresses, message_on, Asked, Crossed, Moment, event_in, events_of, places, program, crossings_of, Coupled, by_request, IsAsking, law_events, keeps, AText, AnRrp, AnRst, AreOrigins, Sort, all_hears, all_says, at_texts, foreign_of, half, heard_is, hears_if, left_if, mail_below, met_if, other, own_of, sort_of, waiting, answer_calls, calls_by, commands_said, message_calls, next_calls, orders_heard, own_calls, owner_calls, parcel_calls, request_calls}
-use Rattle.net_sim.proofs.lemmas.{coupled}
-use Rattle.reset_law.specs.Network.{AreOurs, Network}
-use Rattle.net_sim.specs.Mixed.{Happened}
+use Rattle.world_keeps_streams.proofs.Common.{◌≡◌, ℕ, ◌==◌, ◌&&◌, Bool, true, false, if◌then◌else◌, List, [], ◌∷◌, ◌++◌, take, Option, Some, None, refl, ap, sym, subst, ◌∙◌, append_assoc, Host, same_host, HostMessage, same_host-true, Command, Order, Legal, Wrong, orders_of, desk_of, listens_on, is_busy, PairState, Parcel, command_gone, with_connections, is_ready, TurnState, order_taken, Entry, Listener, eqb-sym, mark_of, marks_in, Sockets, Who, Mark, Ask, Close, placed_event, tagged, with_box, with_place, Side, hears, Fresh, begins_fresh, stays_same, stays_ready, turn_of, NcpState, owner_of, pair_with, next_in, Peer, Request, HaveAddresses, message_on, Asked, Crossed, Moment, event_in, events_of, places, program, crossings_of, Coupled, by_request, coupled, IsAsking, law_events, keeps, AreOurs, Network, Happened}
+use Rattle.host_keeps_streams.specs.Histories.{Answered, AsksBack, Closes, Gives, Grants, Hears, OpensReceiver, OpensSender, Says, Takes, Call}
+use Rattle.reset_law.specs.Boxes.{boxes, Box, Waiting}
+use Rattle.reset_law.specs.Events.{Event, In, Message, Other, Reply, Reset}
+use Rattle.world_keeps_pairing.proofs.lemmas.{AText, AnRrp, AnRst, AreOrigins, Sort, all_hears, all_says, at_texts, foreign_of, half, heard_is, hears_if, left_if, mail_below, met_if, other, own_of, sort_of, waiting, IsOrigin, IsPair, before}
+use Rattle.world_keeps_streams.specs.Calls.{answer_calls, calls_by, commands_said, message_calls, next_calls, orders_heard, own_calls, owner_calls, parcel_calls, request_calls, called}
 use Rattle.interface.specs.Mailboxes as mail
 use Rattle.interface.specs.declared.crossing.Crossing.TheVariants as crossing
 use Rattle.ncp_control.specs.declared.command.Command.TheVariants as command
 use Rattle.host_pairs.specs.Parcels as parcel
 use Rattle.host_keeps_pairing.specs.Spoken.{upon}
 use Rattle.host_keeps_streams.specs.Histories as calls
-use Rattle.host_keeps_streams.specs.Histories.{Call}
-use Rattle.reset_law.specs.Boxes.{Box, Waiting}
-use Rattle.reset_law.specs.Events.{Reply, Reset}
 use Rattle.reset_law.specs.Stays as stay
 use Rattle.sockets.specs.declared.request.Request.TheVariants as request
-use Rattle.world_keeps_pairing.proofs.lemmas.{IsOrigin, IsPair, before}
-use Rattle.world_keeps_streams.specs.Calls.{called}
 use Rattle.world_keeps_streams.proofs.Calls.Chain.{ready_both}
 use Rattle.world_keeps_streams.proofs.Requests.Sides.{begins_same}
 use Rattle.world_keeps_streams.proofs.Heard.Lists.{heard_list, mark_heard}

@@ -1,13 +1,11 @@
 -- How many CLS of a peer a host has heard since it dropped its ends: one in each connection that is gone, and that of the end which is there.
-use Rattle.world_keeps_streams.proofs.Common.{◌≡◌, ℕ, suc, ◌==◌, ◌&&◌, Bool, true, false, if◌then◌else◌, List, [], ◌∷◌, ◌++◌, refl, ap, sym, subst, ◌∙◌, Host, Command, PairState, Entry, AreAllowed, Hears, IsHistory, IsTelling, ends_now, gone_now, receiver_now, sender_now, holds_now, pair_with, HaveAddresses, Moment, event_in, events_of, program, crossings_of, heard_from, keeps, mail_below, calls_by, own_calls}
-use Rattle.reset_law.specs.Network.{AreOurs, Network}
-use Rattle.net_sim.specs.Mixed.{Happened}
+use Rattle.world_keeps_streams.proofs.Common.{◌≡◌, ℕ, suc, ◌==◌, ◌&&◌, Bool, true, false, if◌then◌else◌, List, [], ◌∷◌, ◌++◌, refl, ap, sym, subst, ◌∙◌, Host, Command, PairState, Entry, pair_with, HaveAddresses, Moment, event_in, events_of, program, crossings_of, keeps, mail_below, calls_by, own_calls, AreOurs, Network, Happened}
+use Rattle.host_keeps_streams.specs.Histories.{AreAllowed, Hears, IsHistory, IsTelling, ends_now, gone_now, receiver_now, sender_now, Call}
+use Rattle.host_keeps_streams.proofs.lemmas.{holds_now, Holds}
+use Rattle.pair_keeps_streams.specs.Words.{heard_from, with_closing}
 use Rattle.interface.specs.Mailboxes as mail
 use Rattle.ncp_control.specs.declared.command.Command.TheVariants as command
 use Rattle.host_keeps_streams.specs.Histories as calls
-use Rattle.host_keeps_streams.specs.Histories.{Call}
-use Rattle.host_keeps_streams.proofs.lemmas.{Holds}
-use Rattle.pair_keeps_streams.specs.Words.{with_closing}
 use Rattle.pair_keeps_streams.proofs.lemmas.{IsFirstCall, heard_more, heard_step}
 use Rattle.world_keeps_streams.proofs.Calls.Allowed.{may_calls}
 use Rattle.world_keeps_streams.proofs.Calls.Chain.{Chained, chain}

@@ -1,10 +1,11 @@
 -- The request of the peer that an end has is one that was heard, and it is that of the connection to which the end belongs.
-use Rattle.world_keeps_streams.proofs.Common.{◌≡◌, ℕ, suc, ◌+◌, ◌==◌, ◌&&◌, not, Bool, true, false, if◌then◌else◌, List, [], ◌∷◌, ◌++◌, Option, Some, None, is_some, refl, ap, sym, subst, ◌∙◌, inl, inr, eq-eqb, arith, Host, Command, eqb-sym, mark_of, entry_at, PairState, Entry, AreAllowed, Hears, IsHistory, IsTelling, ends_by, ends_now, gone_by, gone_now, receiver_now, sender_now, holds_now, counted, has_heard, heard_from, IsFirst, Ask, Asks, Close, Mark}
+use Rattle.world_keeps_streams.proofs.Common.{◌≡◌, ℕ, suc, ◌+◌, ◌==◌, ◌&&◌, not, Bool, true, false, if◌then◌else◌, List, [], ◌∷◌, ◌++◌, Option, Some, None, is_some, refl, ap, sym, subst, ◌∙◌, inl, inr, eq-eqb, arith, Host, Command, eqb-sym, mark_of, entry_at, PairState, Entry, counted, has_heard, heard_from}
+use Rattle.host_keeps_streams.specs.Histories.{AreAllowed, Hears, IsHistory, IsTelling, ends_by, ends_now, gone_by, gone_now, receiver_now, sender_now, Call}
+use Rattle.host_keeps_streams.proofs.lemmas.{holds_now, Holds}
+use Rattle.pair_keeps_streams.proofs.lemmas.{IsFirst}
+use Rattle.pairing_law.specs.Marks.{Ask, Asks, Close, Mark, closes}
 use Rattle.ncp_control.specs.declared.command.Command.TheVariants as command
 use Rattle.host_keeps_streams.specs.Histories as calls
-use Rattle.host_keeps_streams.specs.Histories.{Call}
-use Rattle.host_keeps_streams.proofs.lemmas.{Holds}
-use Rattle.pairing_law.specs.Marks.{closes}
 use Rattle.world_keeps_streams.proofs.Heard.Calls.{closes_by, closes_in, history_heard}
 use Rattle.world_keeps_streams.proofs.Heard.Lists.{heard_list, mark_heard}
 use Rattle.world_keeps_streams.proofs.Heard.Partners.{Brings, BringsBy, partner_at, partner_step}

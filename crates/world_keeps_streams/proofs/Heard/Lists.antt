@@ -1,7 +1,7 @@
 -- What a host heard of two sockets by its calls, as marks of the law of pairing: the newest first.
-use Rattle.world_keeps_streams.proofs.Common.{ℕ, List, [], ◌∷◌, ◌++◌, mark_of, Hears, Mark}
+use Rattle.world_keeps_streams.proofs.Common.{ℕ, List, [], ◌∷◌, ◌++◌, mark_of, Mark}
+use Rattle.host_keeps_streams.specs.Histories.{Hears, Call}
 use Rattle.host_keeps_streams.specs.Histories as calls
-use Rattle.host_keeps_streams.specs.Histories.{Call}
 
 -- what a command of the peer says of them, the peer's own socket first. A request is named by the place where its message went out
 abbrev pub mark_heard : (ℕ → ℕ) → ℕ → ℕ → Call → List Mark

@@ -1,12 +1,13 @@
 -- The CLS that a host has heard of its peer since both met: as many by the law of pairing as by its calls.
-use Rattle.world_keeps_streams.proofs.Common.{◌≡◌, ℕ, suc, ◌+◌, ◌==◌, ◌&&◌, Bool, true, false, if◌then◌else◌, List, [], ◌∷◌, ◌++◌, take, Option, Some, None, refl, ap, sym, ◌∙◌, arith, Host, same_host, Command, Order, Legal, Wrong, desk_of, listens_on, is_busy, PairState, Parcel, command_gone, with_connections, TurnState, order_taken, Entry, Listener, eqb-sym, mark_of, marks_in, Answered, AsksBack, Closes, Gives, Grants, Hears, OpensReceiver, OpensSender, Says, Mark, Ask, Close, Side, hears, says, NcpState, owner_of, pair_with, Peer, Request, all_hears, all_says, answer_calls, commands_said, next_calls, orders_heard, owner_calls, parcel_calls, request_calls}
+use Rattle.world_keeps_streams.proofs.Common.{◌≡◌, ℕ, suc, ◌+◌, ◌==◌, ◌&&◌, Bool, true, false, if◌then◌else◌, List, [], ◌∷◌, ◌++◌, take, Option, Some, None, refl, ap, sym, ◌∙◌, arith, Host, same_host, Command, Order, Legal, Wrong, desk_of, listens_on, is_busy, PairState, Parcel, command_gone, with_connections, TurnState, order_taken, Entry, Listener, eqb-sym, mark_of, marks_in, Side, hears, says, NcpState, owner_of, pair_with, Peer, Request}
+use Rattle.host_keeps_streams.specs.Histories.{Answered, AsksBack, Closes, Gives, Grants, Hears, OpensReceiver, OpensSender, Says, Call}
+use Rattle.pairing_law.specs.Marks.{Mark, Ask, Close, closes}
+use Rattle.world_keeps_pairing.proofs.lemmas.{all_hears, all_says}
+use Rattle.world_keeps_streams.specs.Calls.{answer_calls, commands_said, next_calls, orders_heard, owner_calls, parcel_calls, request_calls, called}
 use Rattle.ncp_control.specs.declared.command.Command.TheVariants as command
 use Rattle.host_pairs.specs.Parcels as parcels
 use Rattle.host_keeps_streams.specs.Histories as calls
-use Rattle.host_keeps_streams.specs.Histories.{Call}
-use Rattle.pairing_law.specs.Marks.{closes}
 use Rattle.sockets.specs.declared.request.Request.TheVariants as request
-use Rattle.world_keeps_streams.specs.Calls.{called}
 use Rattle.world_keeps_streams.proofs.Heard.Calls.{closes_by, closes_in}
 
 -- ---- marks

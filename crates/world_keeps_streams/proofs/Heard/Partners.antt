@@ -1,14 +1,16 @@
 -- Which request of the peer an end has, where ends change, come and go.
-use Rattle.world_keeps_streams.proofs.Common.{◌≡◌, ℕ, ◌*◌, ◌==◌, ◌&&◌, nat_le, Bool, List, [], ◌∷◌, ◌++◌, map, filter, Option, Some, None, is_some, refl, ap, sym, subst, ◌∙◌, ◌⊎◌, inl, inr, eqb-true, list_any, Host, header_of, data_bits, Command, DataHeader, receiver_requested, with_more_bits, Unconnected, Ending, Open, asked_on_link, asked_with_size, at_end, cls_taken_by, given_back, gvb_taken, interrupted, ret_taken, receiver_on, rts_heard, rts_taken, rts_taken_by, sender_on, str_heard, str_linked, str_taken_by, desk_taken, arrived_if, data_found, is_acceptable, spent, DeskState, desk_of, listener_on, called_off, changed_first, closed_by_partner, entry_at, free_link, is_at, is_mine_on, receiving_end, receives_on, refused_end, sending_end, sends_on, PairState, asked_at, bits_gone, cls_sent, command_gone, may_send_on, freed, Entry, Listener, both, Hears, Takes, Says, Sends, Answered, OpensReceiver, OpensSender, Grants, AsksBack, Gives, Closes, IsTelling, ends_by, numbers, AreApart, name_of, numbers_mapped, AreSeparate, separate}
-use Rattle.std.proofs.Common.{true, false}
+use Rattle.world_keeps_streams.proofs.Common.{eqb-true, list_any, Host, header_of, data_bits, Command, DataHeader, receiver_requested, with_more_bits, arrived_if, data_found, is_acceptable, spent, DeskState, desk_of, listener_on, PairState, freed, Entry, Listener, both}
+use Rattle.std.proofs.Common.{◌≡◌, ℕ, ◌*◌, ◌==◌, ◌&&◌, nat_le, Bool, List, [], ◌∷◌, ◌++◌, map, filter, Option, Some, None, is_some, refl, ap, sym, subst, ◌∙◌, ◌⊎◌, inl, inr, true, false}
+use Rattle.host_pairs.specs.Commands.{Unconnected, Ending, Open, asked_on_link, asked_with_size, at_end, cls_taken_by, given_back, gvb_taken, interrupted, ret_taken, receiver_on, rts_heard, rts_taken, rts_taken_by, sender_on, str_heard, str_linked, str_taken_by, desk_taken, Found, all_taken, granted, returned}
+use Rattle.host_pairs.specs.Entries.{called_off, changed_first, closed_by_partner, entry_at, free_link, is_at, is_mine_on, receiving_end, receives_on, refused_end, sending_end, sends_on}
+use Rattle.host_pairs.specs.Parcels.{asked_at, bits_gone, cls_sent, command_gone, may_send_on, link_of}
+use Rattle.host_keeps_streams.specs.Histories.{Hears, Takes, Says, Sends, Answered, OpensReceiver, OpensSender, Grants, AsksBack, Gives, Closes, IsTelling, ends_by, Call}
+use Rattle.host_keeps_streams.specs.Names.{numbers, AreApart}
+use Rattle.host_keeps_streams.proofs.lemmas.{name_of, numbers_mapped, Holds, apart_changed, shut_one, stays}
+use Rattle.pair_keeps_streams.proofs.lemmas.{AreSeparate, separate, Stays, at_changed, kept_if, sweep_found}
 use Rattle.ncp_control.specs.declared.command.Command.TheVariants as command
 use Rattle.stream_law.specs.Receivers.{Receiver}
 use Rattle.stream_law.specs.Senders.{Sender}
-use Rattle.host_pairs.specs.Commands.{Found, all_taken, granted, returned}
-use Rattle.host_pairs.specs.Parcels.{link_of}
-use Rattle.host_keeps_streams.specs.Histories.{Call}
-use Rattle.host_keeps_streams.proofs.lemmas.{Holds, apart_changed, shut_one, stays}
-use Rattle.pair_keeps_streams.proofs.lemmas.{Stays, at_changed, kept_if, sweep_found}
 
 abbrev pub partner_at : Option Entry → Option ℕ
 partner_at None = None

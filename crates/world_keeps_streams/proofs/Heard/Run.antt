@@ -1,17 +1,16 @@
 -- The CLS that a host has heard of its peer since both met, over all moments: as many by the law of pairing as by its calls.
-use Rattle.world_keeps_streams.proofs.Common.{◌≡◌, ℕ, ◌==◌, ◌&&◌, ◌||◌, not, Bool, true, false, if◌then◌else◌, List, [], ◌∷◌, ◌++◌, refl, ap, sym, subst, ◌∙◌, Host, same_host, HostMessage, same_host-true, Command, Order, orders_of, PairState, eqb-sym, marks_in, Hears, IsAsking, Sockets, Who, Mark, placed_event, tagged, with_box, with_place, Side, Fresh, begins_fresh, stays_same, boxes, Event, Message, Other, In, stays_ready, turn_of, pair_with, next_in, message_on, Moment, Crossed, Asked, event_in, events_of, places, program, Coupled, by_request, law_events, keeps, AText, AnRrp, AnRst, Sort, all_says, at_texts, foreign_of, half, heard_is, hears_if, left_if, met_if, other, own_of, sort_of, waiting, answer_calls, calls_by, message_calls, next_calls, own_calls, request_calls}
-use Rattle.reset_law.specs.Network.{AreOurs, Network}
+use Rattle.world_keeps_streams.proofs.Common.{◌≡◌, ℕ, ◌==◌, ◌&&◌, ◌||◌, not, Bool, true, false, if◌then◌else◌, List, [], ◌∷◌, ◌++◌, refl, ap, sym, subst, ◌∙◌, Host, same_host, HostMessage, same_host-true, Command, Order, orders_of, PairState, eqb-sym, marks_in, IsAsking, Sockets, Who, placed_event, tagged, with_box, with_place, Side, Fresh, begins_fresh, stays_same, stays_ready, turn_of, pair_with, next_in, Moment, Crossed, Asked, event_in, events_of, places, program, Coupled, by_request, law_events, keeps, answer_calls, calls_by, message_calls, next_calls, own_calls, request_calls, AreOurs, Network}
+use Rattle.host_keeps_streams.specs.Histories.{Hears, Call}
+use Rattle.pairing_law.specs.Marks.{Mark, closes}
+use Rattle.reset_law.specs.Boxes.{boxes, Box, Waiting}
+use Rattle.reset_law.specs.Events.{Event, Message, Other, In, Reply}
+use Rattle.net_sim.specs.Projection.{message_on, event_of}
+use Rattle.world_keeps_pairing.proofs.lemmas.{AText, AnRrp, AnRst, Sort, all_says, at_texts, foreign_of, half, heard_is, hears_if, left_if, met_if, other, own_of, sort_of, waiting, IsPair, are_same, before, heard_off_in}
 use Rattle.interface.specs.declared.crossing.Crossing.TheVariants as crossing
 use Rattle.ncp_control.specs.Phases as program_phases
 use Rattle.host_keeps_streams.specs.Histories as calls
-use Rattle.host_keeps_streams.specs.Histories.{Call}
-use Rattle.pairing_law.specs.Marks.{closes}
-use Rattle.reset_law.specs.Boxes.{Box, Waiting}
-use Rattle.reset_law.specs.Events.{Reply}
 use Rattle.reset_law.specs.Runs.{IsRun}
 use Rattle.reset_law.specs.Stays as stay
-use Rattle.net_sim.specs.Projection.{event_of}
-use Rattle.world_keeps_pairing.proofs.lemmas.{IsPair, are_same, before, heard_off_in}
 use Rattle.world_keeps_streams.proofs.Calls.Chain.{ready_both}
 use Rattle.world_keeps_streams.proofs.Requests.Sides.{Lawful, below, begins_same, coupled_in}
 use Rattle.world_keeps_streams.proofs.Heard.Calls.{closes_by, closes_in}

@@ -1,22 +1,19 @@
 -- Lives between hosts with programs: they are the same in the book of a network, where strangers report nothing, and in what is kept where
 -- each program reports. So what the law of pairing has of the one holds of the other.
-use Rattle.world_keeps_streams.proofs.Common.{◌≡◌, inl, inr, ℕ, ◌&&◌, not, Bool, true, false, if◌then◌else◌, List, [], ◌∷◌, ◌++◌, Some, refl, ap, sym, subst, ◌∙◌, Contains, Host, same_host, same_host-true, Notice, Kept, all_told, carried, changed_when, life_ended, lives_at, lives_between, lives_on, lives_told, lives_with, new_life, where_it, Asked, Crossed, Moment, crossings_of, events_of, host_in, kept_by, notices_by, IsStory, IsIn, Match, SafePartners, own_request, partner_request, life_of, openings, AreOurs, Network, IsBeside}
-use Rattle.std.proofs.Common.{IsSome, append-nil}
-use Rattle.std.proofs.lemmas.List.Elements.{filter-append}
+use Rattle.world_keeps_streams.proofs.Common.{Contains, Host, same_host, same_host-true, Notice, Asked, Crossed, Moment, events_of, IsStory, crossings_of, IsIn, life_of, openings, ArePaired, AreOurs, Network, IsBeside, filter-append, origin_or}
+use Rattle.std.proofs.Common.{◌≡◌, inl, inr, ℕ, ◌&&◌, not, Bool, true, false, if◌then◌else◌, List, [], ◌∷◌, ◌++◌, Some, refl, ap, sym, subst, ◌∙◌, IsSome, append-nil}
+use Rattle.net_sim.specs.Book.{Kept, all_told, carried, changed_when, life_ended, lives_at, lives_between, lives_on, lives_told, lives_with, new_life, where_it, granted, returned}
+use Rattle.net_sim.specs.Told.{host_in, kept_by, notices_by, kept_in}
+use Rattle.promise.specs.Safe.{Match, SafePartners, own_request, partner_request, AreTwo, receives}
 use Rattle.interface.specs.Mailboxes as mail
 use Rattle.interface.specs.declared.crossing.Crossing.TheVariants as crossing
 use Rattle.host_pairs.specs.declared.notice.Notice.TheVariants as notice
 use Rattle.sockets.specs.declared.request.Request.TheVariants as request
 use Rattle.reset_law.specs.Runs.{IsRun}
-use Rattle.promise.specs.Safe.{AreTwo, receives}
 use Rattle.promise.specs.declared.life.Life.{Life}
 use Rattle.net_sim.specs.Among.{beside_among, is_among, lives_among}
-use Rattle.net_sim.specs.Book.{granted, returned}
 use Rattle.net_sim.specs.Mixed.{crossed_only, mixed_kept}
-use Rattle.net_sim.specs.Told.{kept_in}
 use Rattle.world_keeps_lives.proofs.lemmas.Among.{Leaves, among_where}
-use Rattle.world_keeps_pairing.specs.Free.{origin_or}
-use Rattle.world_keeps_pairing.specs.Lives.{ArePaired}
 use Rattle.world_keeps_pairing.proofs.lemmas as pairing
 use Rattle.world_keeps_pairing.proofs.lemmas.{AreServed, in_book, two_in_book}
 use Rattle.world_keeps_streams.proofs.Deeds.Effects.{all_lives}

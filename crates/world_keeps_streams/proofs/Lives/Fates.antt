@@ -1,15 +1,15 @@
 -- How far lives are, and how a moment changes it: an open life ends by CLS only where its host's user is notified of that, and one begins where the user is
 -- notified of an opening.
-use Rattle.world_keeps_streams.proofs.Common.{◌≡◌, ◌⊎◌, inl, inr, ℕ, ◌==◌, ◌&&◌, Bool, true, false, not, if◌then◌else◌, List, [], ◌∷◌, ◌++◌, refl, ap, sym, subst, ◌∙◌, eqb-true, Host, same_host, Crossing, Notice, both, Request, same_host-true, IsBeside, Fate, Kept, all_told, book_told, carried, changed_when, life_ended, lives_asked, lives_at, lives_between, lives_crossed, lives_on, lives_told, lives_with, new_life, where_it, Moment, Crossed, Asked, host_in, kept_by, notices_by, kept_fated}
+use Rattle.world_keeps_streams.proofs.Common.{◌≡◌, ◌⊎◌, inl, inr, ℕ, ◌==◌, ◌&&◌, Bool, true, false, not, if◌then◌else◌, List, [], ◌∷◌, ◌++◌, refl, ap, sym, subst, ◌∙◌, eqb-true, Host, same_host, Crossing, Notice, both, Request, same_host-true, Fate, Moment, Crossed, Asked}
+use Rattle.promise.specs.Fates.{IsBeside, AreFated, is_over}
+use Rattle.net_sim.specs.Book.{Kept, all_told, book_told, carried, changed_when, life_ended, lives_asked, lives_at, lives_between, lives_crossed, lives_on, lives_told, lives_with, new_life, where_it, closing, fates_asked, fates_crossed, fates_told, fates_where, granted, nothing, over_by_cls, returned}
+use Rattle.net_sim.specs.Told.{host_in, kept_by, notices_by, kept_in}
+use Rattle.net_sim.proofs.lemmas.{kept_fated, by_fated, told_fated}
 use Rattle.interface.specs.declared.crossing.Crossing.TheVariants as crossing
 use Rattle.host_pairs.specs.declared.notice.Notice.TheVariants as notice
 use Rattle.sockets.specs.declared.request.Request.TheVariants as request
-use Rattle.promise.specs.Fates.{AreFated, is_over}
 use Rattle.promise.specs.declared.life.Fate.TheVariants as fate
 use Rattle.promise.specs.declared.life.Life.{Life}
-use Rattle.net_sim.specs.Book.{closing, fates_asked, fates_crossed, fates_told, fates_where, granted, nothing, over_by_cls, returned}
-use Rattle.net_sim.specs.Told.{kept_in}
-use Rattle.net_sim.proofs.lemmas.{by_fated, told_fated}
 use Rattle.world_keeps_streams.proofs.Lives.Lists.{IsOf, Named, named_itself}
 use Rattle.world_keeps_lives.proofs.lemmas.{goes_at, goes_with, goes_on}
 

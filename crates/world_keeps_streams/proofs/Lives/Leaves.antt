@@ -1,8 +1,9 @@
 -- The lives of a host that leaves its peer, or has left, end and do nothing else.
-use Rattle.world_keeps_streams.proofs.Common.{◌≡◌, ◌⊎◌, inl, inr, ℕ, ◌==◌, ◌&&◌, Bool, true, false, List, [], ◌∷◌, filter, Option, Some, None, refl, ap, sym, subst, ◌∙◌, eq-eqb, Host, same_host, HostMessage, same_host-true, is_receive_socket, is_send_socket, is_at, is_ready, Entry, both, HasEnd, at, end_of, is_past, standing, marks, End, takes_in_stay, Event, Idle, In, Message, Other, Out, Send, Take, are, when, MaySend, pair_moved, pair, ready_phase, stays_ready, pair_with, Request, life_ended, IsApart, message_on, Moment, Crossed, Asked, event_in, events_of, places, program, crossings_of, host_in, notices_by, Coupled, clash, origin_in, keeps, AText, AnRrp, AnRst, IsUnpaired, Sort, all_bare, are_origins, served_in, sort_of, Network, AreOurs}
+use Rattle.world_keeps_streams.proofs.Common.{◌≡◌, ◌⊎◌, inl, inr, ℕ, ◌==◌, ◌&&◌, Bool, true, false, List, [], ◌∷◌, filter, Option, Some, None, refl, ap, sym, subst, ◌∙◌, eq-eqb, Host, same_host, HostMessage, same_host-true, is_receive_socket, is_send_socket, is_at, is_ready, Entry, both, HasEnd, at, end_of, is_past, standing, marks, takes_in_stay, MaySend, pair_moved, pair, ready_phase, stays_ready, pair_with, Request, life_ended, IsApart, message_on, Moment, Crossed, Asked, event_in, events_of, places, program, crossings_of, host_in, notices_by, Coupled, clash, origin_in, keeps, Network, AreOurs}
+use Rattle.pairing_law.specs.Ends.{End, nothing}
+use Rattle.reset_law.specs.Events.{Event, Idle, In, Message, Other, Out, Send, Take, are, when, Reply, Reset}
+use Rattle.world_keeps_pairing.proofs.lemmas.{AText, AnRrp, AnRst, IsUnpaired, Sort, all_bare, are_origins, served_in, sort_of}
 use Rattle.interface.specs.declared.crossing.Crossing.TheVariants as crossing
-use Rattle.pairing_law.specs.Ends.{nothing}
-use Rattle.reset_law.specs.Events.{Reply, Reset}
 use Rattle.ncp_control.specs.declared.phase.Phase.TheVariants as phase
 use Rattle.reset_law.specs.Runs.{IsRun}
 use Rattle.reset_law.specs.Stays as stay

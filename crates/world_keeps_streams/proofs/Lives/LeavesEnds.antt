@@ -1,5 +1,6 @@
 -- What a program reports by a moment with which its host leaves a peer: of no end with that peer that it is over.
-use Rattle.world_keeps_streams.proofs.Common.{◌≡◌, inl, inr, ℕ, ◌==◌, ◌||◌, not, Bool, true, false, if◌then◌else◌, List, [], ◌∷◌, ◌++◌, refl, sym, subst, Host, same_host, Flow, Answer, HostMessage, Legal, orders_of, is_busy, is_ready, Phase, TurnState, answered_turn, failed_by, freed, is_gone, message_taken, reply_notices, reset_notices, settled_turn, Notice, In, Message, Other, stays_ready, after_turn, turn_of, NcpState, pair_with, Request, message_on, Asked, Crossed, Moment, event_in, events_of, places, program, host_in, notices_by, Coupled, clash, keeps, AText, AnRrp, AnRst, Sort, sort_of, Network, AreOurs}
+use Rattle.world_keeps_streams.proofs.Common.{◌≡◌, inl, inr, ℕ, ◌==◌, ◌||◌, not, Bool, true, false, if◌then◌else◌, List, [], ◌∷◌, ◌++◌, refl, sym, subst, Host, same_host, Flow, Answer, HostMessage, Legal, orders_of, is_busy, is_ready, Phase, TurnState, answered_turn, failed_by, freed, is_gone, message_taken, reply_notices, reset_notices, settled_turn, Notice, In, Message, Other, stays_ready, NcpState, pair_with, Request, message_on, Asked, Crossed, Moment, event_in, events_of, places, program, host_in, notices_by, Coupled, clash, keeps, AText, AnRrp, AnRst, Sort, sort_of, Network, AreOurs}
+use Rattle.sockets.specs.Accepting.{after_turn, turn_of, accepted}
 use Rattle.interface.specs.declared.crossing.Answer.TheVariants as answer
 use Rattle.interface.specs.declared.crossing.Crossing.TheVariants as crossing
 use Rattle.interface.specs.declared.crossing.Inbound.TheVariants as inbound
@@ -7,7 +8,6 @@ use Rattle.ncp_control.specs.declared.command.Command.TheVariants as command
 use Rattle.ncp_control.specs.declared.phase.Phase.TheVariants as phase
 use Rattle.host_pairs.specs.declared.notice.Notice.TheVariants as notice
 use Rattle.reset_law.specs.Stays as stay
-use Rattle.sockets.specs.Accepting.{accepted}
 use Rattle.sockets.specs.Requests.{served_notices}
 use Rattle.sockets.specs.declared.request.Request.TheVariants as request
 use Rattle.promise.specs.declared.life.Life.{Life}

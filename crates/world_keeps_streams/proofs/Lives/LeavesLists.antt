@@ -1,14 +1,13 @@
 -- Lives of one host with one peer, where a moment lets them be or ends them, and begins none.
-use Rattle.world_keeps_streams.proofs.Common.{◌≡◌, ◌⊎◌, inl, inr, ℕ, Bool, true, false, List, [], ◌∷◌, ◌++◌, map, refl, ap, sym, subst, ◌∙◌, append_assoc, map-append, Host, same_host, same_host-refl, Notice, Request, Kept, all_told, carried, changed_when, life_ended, lives_asked, lives_at, lives_between, lives_on, lives_told, lives_with, new_life, book_told, where_it, Moment, Crossed, Asked, host_in, kept_by, notices_by, clash}
-use Rattle.std.proofs.Common.{append-nil}
+use Rattle.world_keeps_streams.proofs.Common.{append_assoc, map-append, Host, same_host, same_host-refl, Notice, Request, Moment, Crossed, Asked, clash, map_two}
+use Rattle.std.proofs.Common.{◌≡◌, ◌⊎◌, inl, inr, ℕ, Bool, true, false, List, [], ◌∷◌, ◌++◌, map, refl, ap, sym, subst, ◌∙◌, append-nil}
+use Rattle.net_sim.specs.Book.{Kept, all_told, carried, changed_when, life_ended, lives_asked, lives_at, lives_between, lives_on, lives_told, lives_with, new_life, book_told, where_it, granted, returned}
+use Rattle.net_sim.specs.Told.{host_in, kept_by, notices_by, kept_in}
 use Rattle.interface.specs.declared.crossing.Crossing.TheVariants as crossing
 use Rattle.host_pairs.specs.declared.notice.Notice.TheVariants as notice
 use Rattle.sockets.specs.declared.request.Request.TheVariants as request
 use Rattle.promise.specs.declared.life.Life.{Life}
-use Rattle.net_sim.specs.Book.{granted, returned}
-use Rattle.net_sim.specs.Told.{kept_in}
 use Rattle.world_keeps_streams.proofs.Lives.Lists.{IsOf, grown, of_either, of_mapped, map_itself}
-use Rattle.world_keeps_lives.proofs.lemmas.{map_two}
 
 -- ---- notices
 

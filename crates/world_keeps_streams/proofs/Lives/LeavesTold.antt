@@ -1,17 +1,19 @@
 -- What a program reports of a peer with which its host does not stay, or which it leaves: none of it opens an end with that peer.
-use Rattle.world_keeps_streams.proofs.Common.{◌≡◌, ◌⊎◌, inl, inr, ℕ, ◌*◌, ◌==◌, ◌||◌, not, Bool, true, false, if◌then◌else◌, List, [], ◌∷◌, ◌++◌, filter, take, Option, Some, None, refl, ap, sym, subst, ◌∙◌, flat_map, Host, same_host, Flow, Answer, HostMessage, same_host-refl, same_host-true, Command, AreAbout, IsAbout, changed, Order, Legal, Wrong, orders_of, DeskState, desk_of, swept, changed_at, changed_first, ending, entry_at, is_at, is_busy, opening_notices, opening_by, Parcel, asked_at, cls_sent, command_gone, commands_gone, parcel_gone, is_ready, TurnState, answered_turn, failed_by, freed, is_gone, message_taken, order_taken, orders_taken, reply_notices, reset_notices, settled_turn, Entry, Notice, Phase, turn_of, after_turn, NcpState, pair_with, AreInOrder, next_in, offered_by, Peer, Request, message_about, next_pair, offer_about, AllPlain, clash}
+use Rattle.world_keeps_streams.proofs.Common.{◌≡◌, ◌⊎◌, inl, inr, ℕ, ◌*◌, ◌==◌, ◌||◌, not, Bool, true, false, if◌then◌else◌, List, [], ◌∷◌, ◌++◌, filter, take, Option, Some, None, refl, ap, sym, subst, ◌∙◌, flat_map, Host, same_host, Flow, Answer, HostMessage, same_host-refl, same_host-true, Command, AreAbout, IsAbout, Order, Legal, Wrong, orders_of, DeskState, desk_of, swept, Parcel, asked_at, cls_sent, command_gone, commands_gone, parcel_gone, is_ready, TurnState, answered_turn, failed_by, freed, is_gone, message_taken, order_taken, orders_taken, reply_notices, reset_notices, settled_turn, Entry, Notice, Phase, NcpState, pair_with, AreInOrder, Peer, Request, clash}
+use Rattle.host_pairs.specs.Commands.{changed}
+use Rattle.host_pairs.specs.Entries.{changed_at, changed_first, ending, entry_at, is_at, is_busy, opening_notices, opening_by, is_over}
+use Rattle.sockets.specs.Accepting.{turn_of, after_turn, accepted}
+use Rattle.sockets.specs.Sending.{next_in, offered_by, offered}
+use Rattle.sockets.proofs.lemmas.{message_about, next_pair, offer_about}
+use Rattle.net_sim.specs.Projection.{AllPlain, IsPlain}
 use Rattle.interface.specs.declared.crossing.Answer.TheVariants as answer
 use Rattle.interface.specs.declared.crossing.Inbound.TheVariants as inbound
 use Rattle.ncp_control.specs.declared.command.Command.TheVariants as command
-use Rattle.host_pairs.specs.Entries.{is_over}
 use Rattle.host_pairs.specs.Parcels as parcel
 use Rattle.host_pairs.specs.declared.notice.Notice.TheVariants as notice
 use Rattle.ncp_control.specs.declared.phase.Phase.TheVariants as phase
-use Rattle.sockets.specs.Accepting.{accepted}
 use Rattle.sockets.specs.Requests.{served_notices}
-use Rattle.sockets.specs.Sending.{offered}
 use Rattle.sockets.specs.declared.request.Request.TheVariants as request
-use Rattle.net_sim.specs.Projection.{IsPlain}
 use Rattle.world_keeps_streams.proofs.Deeds.Effects.{Among, Changed, among_changed, among_filter, found_among}
 use Rattle.world_keeps_streams.proofs.Lives.LeavesLists.{AllFine, Fine, fine_both}
 

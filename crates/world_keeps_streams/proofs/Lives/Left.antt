@@ -1,10 +1,10 @@
 -- The lives of a host that doesn't stay with a peer have all ended: it has taken no request of the peer since it left.
-use Rattle.world_keeps_streams.proofs.Common.{◌≡◌, ◌⊎◌, inl, inr, ℕ, ◌==◌, Bool, false, List, [], ◌∷◌, filter, find, map, Option, Some, None, refl, ap, sym, subst, ◌∙◌, eq-eqb, Contains, eqb-true, Host, is_receive_socket, is_send_socket, entry_at, is_at, is_mine_on, Entry, both, Stand, Standing, at, end_of, is_past, standing, marks, End, Sockets, Who, Mark, stays_same, pair_with, Moment, events_of, program, crossings_of, Coupled, HasOpenEnd, mine_on, law_events, origin_in, Side_of, Tie, all_tied, are_origins, at_texts, foreign_of, other, own_of, served_in, Network, AreOurs}
-use Rattle.std.proofs.Common.{true}
-use Rattle.pairing_law.specs.Links.{Receiver, Sender}
+use Rattle.world_keeps_streams.proofs.Common.{Contains, eqb-true, Host, is_receive_socket, is_send_socket, entry_at, is_at, is_mine_on, Entry, both, Stand, Standing, at, end_of, is_past, standing, marks, End, Mark, stays_same, pair_with, Moment, events_of, program, crossings_of, Coupled, HasOpenEnd, mine_on, law_events, origin_in, Network, AreOurs}
+use Rattle.std.proofs.Common.{◌≡◌, ◌⊎◌, inl, inr, ℕ, ◌==◌, Bool, false, List, [], ◌∷◌, filter, find, map, Option, Some, None, refl, ap, sym, subst, ◌∙◌, eq-eqb, true}
+use Rattle.pairing_law.specs.Links.{Sockets, Who, Receiver, Sender}
+use Rattle.world_keeps_pairing.proofs.lemmas.{Side_of, Tie, all_tied, are_origins, at_texts, foreign_of, other, own_of, served_in, IsPair, Unheard, unheard}
 use Rattle.reset_law.specs.Stays as stay
 use Rattle.promise.specs.declared.life.Life.{Life}
-use Rattle.world_keeps_pairing.proofs.lemmas.{IsPair, Unheard, unheard}
 use Rattle.world_keeps_streams.proofs.Deeds.Effects.{Among, among_filter, among_kept, among_mapped, found_among}
 use Rattle.world_keeps_streams.proofs.Lives.Lists.{IsOf, contains}
 use Rattle.world_keeps_streams.proofs.Requests.Sides.{Lawful, coupled_in, lives_in}

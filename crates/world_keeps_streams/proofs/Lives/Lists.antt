@@ -1,14 +1,13 @@
 -- Lists of lives: what is in them, and how they grow by a moment.
-use Rattle.world_keeps_streams.proofs.Common.{◌≡◌, ◌⊎◌, inl, inr, ℕ, zero, suc, ◌<◌, ◌≤◌, ◌==◌, ◌&&◌, Bool, true, false, not, List, [], ◌∷◌, ◌++◌, length, map, take, drop, slice_index_or, refl, ap, sym, ◌∙◌, arith, Contains, append_assoc, map-append, Host, same_host, Crossing, Notice, Request, Kept, all_told, carried, changed_when, life_ended, lives_asked, lives_at, lives_between, lives_crossed, lives_on, lives_told, lives_with, new_life, book_told, where_it, Moment, Crossed, Asked, host_in, kept_by, notices_by}
-use Rattle.std.proofs.Common.{append-nil}
+use Rattle.world_keeps_streams.proofs.Common.{Contains, append_assoc, map-append, Host, same_host, Crossing, Notice, Request, Moment, Crossed, Asked, map_two}
+use Rattle.std.proofs.Common.{◌≡◌, ◌⊎◌, inl, inr, ℕ, zero, suc, ◌<◌, ◌≤◌, ◌==◌, ◌&&◌, Bool, true, false, not, List, [], ◌∷◌, ◌++◌, length, map, take, drop, slice_index_or, refl, ap, sym, ◌∙◌, arith, append-nil}
+use Rattle.net_sim.specs.Book.{Kept, all_told, carried, changed_when, life_ended, lives_asked, lives_at, lives_between, lives_crossed, lives_on, lives_told, lives_with, new_life, book_told, where_it, granted, returned}
+use Rattle.net_sim.specs.Told.{host_in, kept_by, notices_by, kept_in}
 use Rattle.interface.specs.declared.crossing.Crossing.TheVariants as crossing
 use Rattle.host_pairs.specs.declared.notice.Notice.TheVariants as notice
 use Rattle.sockets.specs.declared.request.Request.TheVariants as request
 use Rattle.promise.specs.declared.life.Life.{Life}
-use Rattle.net_sim.specs.Book.{granted, returned}
 use Rattle.promise.specs.Safe.{AreTwo}
-use Rattle.net_sim.specs.Told.{kept_in}
-use Rattle.world_keeps_lives.proofs.lemmas.{map_two}
 
 -- ---- a life of a list
 

@@ -1,12 +1,13 @@
 -- A life that begins by a moment: before it no CLS of its end was queued or taken. So it isn't over by the moment.
-use Rattle.world_keeps_streams.proofs.Common.{AreCommands, ◌≡◌, inl, inr, ℕ, zero, suc, ◌<◌, ◌==◌, Bool, true, false, List, [], ◌∷◌, length, slice_index_or, Option, Some, None, refl, ap, subst, ◌∙◌, arith, Contains, Host, or_false, is_send_socket, entry_at, has_cls, is_at, is_ending, is_sent, Closing, Entry, Notice, both, eqb-true, pair_with, Asked, Crossed, IsStory, Moment, places, program, crossings_of, host_in, notices_by, Coupled, origin_in, all_tied, are_origins, served_in, unopened, Each, Network, AreOurs, programs_ranged, pair_range, sym}
+use Rattle.world_keeps_streams.proofs.Common.{AreCommands, ◌≡◌, inl, inr, ℕ, zero, suc, ◌<◌, ◌==◌, Bool, true, false, List, [], ◌∷◌, length, slice_index_or, Option, Some, None, refl, ap, subst, ◌∙◌, arith, sym, Contains, Host, or_false, is_send_socket, entry_at, has_cls, is_at, is_ending, is_sent, Closing, Entry, Notice, both, eqb-true, pair_with, Asked, Crossed, IsStory, Moment, places, program, crossings_of, host_in, notices_by, Coupled, origin_in, Network, AreOurs, pair_range}
+use Rattle.world_keeps_pairing.proofs.lemmas.{all_tied, are_origins, served_in, programs_ranged}
+use Rattle.world_keeps_lives.proofs.lemmas.{unopened, Each, IsNoOpening}
 use Rattle.interface.specs.declared.crossing.Crossing.TheVariants as crossing
 use Rattle.host_pairs.specs.declared.entry.Closing.TheVariants as closing
 use Rattle.host_pairs.specs.declared.notice.Notice.TheVariants as notice
 use Rattle.pairing_law.specs.Links.{Receiver}
 use Rattle.promise.specs.declared.life.Life.{Life}
 use Rattle.promise.specs.Safe.{receives}
-use Rattle.world_keeps_lives.proofs.lemmas.{IsNoOpening}
 use Rattle.world_keeps_streams.proofs.Deeds.Effects.{Among, found_among}
 use Rattle.world_keeps_streams.proofs.Lives.Fates.{IsEnd, IsOpening, TellsEnd, TellsOpening}
 use Rattle.world_keeps_streams.proofs.Lives.LeavesEnds.{answer_quiet, quiet_tells, request_quiet}

@@ -1,11 +1,10 @@
 -- The lives of two hosts that stay, as a safe book asks for them.
-use Rattle.world_keeps_streams.proofs.Common.{◌≡◌, inl, inr, ℕ, zero, suc, ◌≤◌, ◌==◌, true, false, List, [], ◌∷◌, drop, refl, sym, subst, arith, Host, is_receive_socket, AreAllowed, gone_now, numbered, receiver_now, sender_now, Sockets, Who, Asks, Mark, Side, pair_with, Moment, events_of, program, crossings_of, Coupled, law_events, origin_in, are_origins, at_texts, even_odd, foreign_of, half, other, own_of, receiver_half, sender_half, served_in, own_calls, numbered_by_peer, Network, AreOurs}
-use Rattle.world_keeps_pairing.specs.Lives.{ArePaired}
-use Rattle.pairing_law.specs.Links.{Receiver, Sender}
+use Rattle.world_keeps_streams.proofs.Common.{◌≡◌, inl, inr, ℕ, zero, suc, ◌≤◌, ◌==◌, true, false, List, [], ◌∷◌, drop, refl, sym, subst, arith, Host, is_receive_socket, AreAllowed, gone_now, numbered, receiver_now, sender_now, Asks, Mark, Side, pair_with, Moment, events_of, program, crossings_of, Coupled, law_events, origin_in, own_calls, numbered_by_peer, Network, AreOurs, ArePaired}
+use Rattle.pairing_law.specs.Links.{Sockets, Who, Receiver, Sender}
+use Rattle.world_keeps_pairing.proofs.lemmas.{are_origins, at_texts, even_odd, foreign_of, half, other, own_of, receiver_half, sender_half, served_in, IsPair, other_sends}
 use Rattle.reset_law.specs.Stays as stay
 use Rattle.promise.specs.Safe.{receives, sends}
 use Rattle.promise.specs.declared.life.Life.{Life}
-use Rattle.world_keeps_pairing.proofs.lemmas.{IsPair, other_sends}
 use Rattle.world_keeps_streams.proofs.Carried.Streams.{IsSent, IsTaken}
 use Rattle.world_keeps_streams.proofs.Carried.Calls as carried
 use Rattle.world_keeps_streams.proofs.Carried.Calls.{Carries, Named}

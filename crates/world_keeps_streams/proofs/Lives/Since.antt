@@ -1,10 +1,10 @@
 -- The lives of a host that stays: those since it dropped its ends last are those since both met.
-use Rattle.world_keeps_streams.proofs.Common.{◌≡◌, inl, inr, ℕ, zero, suc, ◌≤◌, ◌&&◌, ◌||◌, not, Bool, if◌then◌else◌, List, [], ◌∷◌, ◌++◌, length, map, drop, refl, ap, sym, subst, ◌∙◌, arith, Host, both, Fresh, begins_fresh, Contact, Event, In, Other, pair, begins_either, contradicts, ready_phase, Moment, event_in, events_of, keeps, Network, AreOurs}
-use Rattle.std.proofs.Common.{true, false}
-use Rattle.reset_law.specs.Events.{Reply, Reset}
+use Rattle.world_keeps_streams.proofs.Common.{Host, both, Fresh, begins_fresh, pair, Moment, event_in, events_of, keeps, Network, AreOurs}
+use Rattle.std.proofs.Common.{◌≡◌, inl, inr, ℕ, zero, suc, ◌≤◌, ◌&&◌, ◌||◌, not, Bool, if◌then◌else◌, List, [], ◌∷◌, ◌++◌, length, map, drop, refl, ap, sym, subst, ◌∙◌, arith, true, false}
+use Rattle.reset_law.specs.Events.{Contact, Event, In, Other, Reply, Reset}
+use Rattle.reset_law.proofs.lemmas.{begins_either, contradicts, ready_phase, reset_unready}
 use Rattle.reset_law.specs.Runs.{IsRun}
 use Rattle.reset_law.specs.Stays as stay
-use Rattle.reset_law.proofs.lemmas.{reset_unready}
 use Rattle.promise.specs.declared.life.Life.{Life}
 use Rattle.world_keeps_streams.proofs.Carried.Calls as carried
 use Rattle.world_keeps_streams.proofs.Books.Goes.{since_bound, since_on}

@@ -1,11 +1,11 @@
 -- An end whose own CLS hasn't gone out doesn't go by what comes in, and one whose partner's CLS wasn't taken doesn't go by what goes out: by the one walk over
 -- what a host does with a peer.
-use Rattle.world_keeps_streams.proofs.Common.{◌≡◌, inl, inr, ℕ, Bool, true, false, List, [], ◌∷◌, Some, refl, ap, sym, subst, ◌∙◌, Host, HostMessage, Command, Order, PairState, Parcel, Entry, Notice, both, NcpState, pair_with, AreInOrder, next_in, Peer, is_sent, AreCommands, accepted, offered, Each}
+use Rattle.world_keeps_streams.proofs.Common.{◌≡◌, inl, inr, ℕ, Bool, true, false, List, [], ◌∷◌, Some, refl, ap, sym, subst, ◌∙◌, Host, HostMessage, Command, Order, PairState, Parcel, Entry, Notice, both, NcpState, pair_with, AreInOrder, next_in, offered, Peer, AreCommands, accepted}
+use Rattle.host_pairs.specs.Entries.{is_sent, is_over}
+use Rattle.world_keeps_lives.proofs.lemmas.{Each, GoesAll, HearsAll, IsOther, IsUnended, Leaves, MaySay, Plain, message_passes, off_unsent, offer_passes}
 use Rattle.interface.specs.declared.crossing.Inbound.TheVariants as inbound
-use Rattle.host_pairs.specs.Entries.{is_over}
 use Rattle.host_pairs.specs.Parcels as parcel
 use Rattle.host_pairs.specs.declared.notice.Notice.TheVariants as notice
-use Rattle.world_keeps_lives.proofs.lemmas.{GoesAll, HearsAll, IsOther, IsUnended, Leaves, MaySay, Plain, message_passes, off_unsent, offer_passes}
 use Rattle.world_keeps_streams.proofs.Deeds.Effects.{Among}
 
 each_among : (Q : Entry → Type 0) (es : List Entry) → ((e : Entry) → Among e es → Q e) → Each Q es

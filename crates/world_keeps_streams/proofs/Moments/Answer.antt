@@ -1,5 +1,7 @@
 -- The lives of a host with one peer are carried by its calls at a moment at which an answer comes back.
-use Rattle.world_keeps_streams.proofs.Common.{◌≡◌, ℕ, ◌==◌, Bool, true, false, not, ◌&&◌, ◌||◌, if◌then◌else◌, List, [], ◌∷◌, ◌++◌, is_some, refl, ap, sym, subst, ◌∙◌, Host, same_host, Flow, Answer, same_host-true, is_busy, PairState, TurnState, answered_turn, failed, failed_by, freed, is_gone, settled_turn, Notice, Phase, put, Answered, AreAllowed, IsTelling, ends_after, ends_now, pair, turn_of, NcpState, pair_with, all_told, crossed, HaveAddresses, Agrees, Crossed, IsStory, Moment, event_in, events_of, places, program, crossings_of, coupled, program_own, story_agrees, keeps, mail_below, calls_by, own_calls, both, Happened, Network, AreOurs}
+use Rattle.world_keeps_streams.proofs.Common.{◌≡◌, ℕ, ◌==◌, Bool, true, false, not, ◌&&◌, ◌||◌, if◌then◌else◌, List, [], ◌∷◌, ◌++◌, is_some, refl, ap, sym, subst, ◌∙◌, Host, same_host, Flow, Answer, same_host-true, is_busy, PairState, TurnState, answered_turn, failed, failed_by, freed, is_gone, settled_turn, Notice, Phase, put, Answered, AreAllowed, IsTelling, ends_after, ends_now, pair, NcpState, pair_with, all_told, crossed, HaveAddresses, Agrees, Crossed, IsStory, Moment, event_in, events_of, places, program, crossings_of, coupled, program_own, story_agrees, keeps, mail_below, both, Happened, Network, AreOurs}
+use Rattle.sockets.specs.Accepting.{turn_of, accepted}
+use Rattle.world_keeps_streams.specs.Calls.{calls_by, own_calls, called}
 use Rattle.interface.specs.Mailboxes as mail
 use Rattle.interface.specs.declared.crossing.Answer.TheVariants as answer
 use Rattle.interface.specs.declared.crossing.Crossing.TheVariants as crossing
@@ -8,9 +10,7 @@ use Rattle.ncp_control.specs.Phases as program_phases
 use Rattle.ncp_control.specs.declared.phase.Phase.TheVariants as phase
 use Rattle.host_keeps_streams.specs.Histories as calls
 use Rattle.reset_law.specs.Stays as stay
-use Rattle.sockets.specs.Accepting.{accepted}
 use Rattle.net_sim.specs.Told.{kept_in}
-use Rattle.world_keeps_streams.specs.Calls.{called}
 use Rattle.world_keeps_streams.proofs.Calls.Chain.{Chained, chain, plain_at, ready_both}
 use Rattle.world_keeps_streams.proofs.Deeds.Effects.{all_lives}
 use Rattle.world_keeps_streams.proofs.Deeds.Told.{call_told}

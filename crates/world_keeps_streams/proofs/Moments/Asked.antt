@@ -1,17 +1,17 @@
 -- The lives of a host with one peer are carried by its calls at a moment at which its user asks for something.
-use Rattle.world_keeps_streams.proofs.Common.{◌≡◌, ℕ, ◌==◌, ◌&&◌, not, Bool, true, false, if◌then◌else◌, List, [], ◌∷◌, map, filter, find, Option, Some, None, refl, ap, sym, subst, ◌∙◌, eqb-true, Host, same_host, same_host-refl, same_host-true, is_receive_socket, contact_notices, listens_on, is_mine_on, PairState, is_ready, Entry, Notice, both, AreAllowed, AsksBack, Closes, Gives, Grants, IsTelling, OpensReceiver, OpensSender, IsAsking, NcpState, owner_of, pair_with, grant_fault, on_open, Request, not_first, changed_when, life_ended, lives_asked, lives_at, lives_with, where_it, HaveAddresses, Asked, Moment, event_in, events_of, program, crossings_of, coupled, same_host-sym, HasOpenEnd, mine_on, owner_found, keeps, send_odd, calls_by, owner_calls, own_calls, request_calls, Happened, Network, AreOurs}
-use Rattle.std.proofs.Common.{append-nil}
+use Rattle.world_keeps_streams.proofs.Common.{eqb-true, Host, same_host, same_host-refl, same_host-true, is_receive_socket, contact_notices, listens_on, is_mine_on, PairState, is_ready, Entry, Notice, both, IsAsking, NcpState, owner_of, pair_with, Request, not_first, HaveAddresses, Asked, Moment, event_in, events_of, program, crossings_of, coupled, same_host-sym, HasOpenEnd, mine_on, owner_found, keeps, send_odd, Happened, Network, AreOurs}
+use Rattle.std.proofs.Common.{◌≡◌, ℕ, ◌==◌, ◌&&◌, not, Bool, true, false, if◌then◌else◌, List, [], ◌∷◌, map, filter, find, Option, Some, None, refl, ap, sym, subst, ◌∙◌, append-nil}
+use Rattle.host_keeps_streams.specs.Histories.{AreAllowed, AsksBack, Closes, Gives, Grants, IsTelling, OpensReceiver, OpensSender, Call}
+use Rattle.sockets.specs.Requests.{grant_fault, on_open, refusal, served_notices}
+use Rattle.net_sim.specs.Book.{changed_when, life_ended, lives_asked, lives_at, lives_with, where_it, asked}
+use Rattle.world_keeps_streams.specs.Calls.{calls_by, owner_calls, own_calls, request_calls, called}
 use Rattle.interface.specs.Mailboxes as mail
 use Rattle.host_pairs.specs.declared.notice.Notice.TheVariants as notice
 use Rattle.host_keeps_streams.specs.Histories as calls
-use Rattle.host_keeps_streams.specs.Histories.{Call}
-use Rattle.sockets.specs.Requests.{refusal, served_notices}
 use Rattle.sockets.specs.declared.request.Request.TheVariants as request
 use Rattle.promise.specs.declared.life.Life.{Life}
 use Rattle.net_sim.specs.Book as book
-use Rattle.net_sim.specs.Book.{asked}
 use Rattle.net_sim.specs.Told.{kept_in}
-use Rattle.world_keeps_streams.specs.Calls.{called}
 use Rattle.world_keeps_streams.proofs.Steps.ActsAsked.{no_contact}
 use Rattle.world_keeps_streams.proofs.Calls.Allowed.{may_calls}
 use Rattle.world_keeps_streams.proofs.Calls.May.{AllMay, MayCall}

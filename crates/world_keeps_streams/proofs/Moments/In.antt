@@ -1,5 +1,9 @@
 -- The lives of a host with one peer are carried by its calls at a moment at which a message of the peer comes in.
-use Rattle.world_keeps_streams.proofs.Common.{◌≡◌, ℕ, ◌==◌, ◌&&◌, not, Bool, true, false, List, [], ◌∷◌, ◌++◌, drop, refl, ap, sym, subst, ◌∙◌, Host, same_host, HostMessage, same_host-true, Legal, Order, Wrong, orders_of, data_taken, desk_of, PairState, TurnState, message_taken, orders_taken, reply_notices, with_desk, Entry, Notice, Phase, AreJoint, IsJoint, orders_idle, AreAllowed, Hears, IsHistory, IsTelling, Takes, In, Message, Other, are, turn_of, NcpState, pair_with, all_told, crossed, HaveAddresses, IsApart, message_on, Crossed, Moment, event_in, events_of, places, program, crossings_of, coupled, program_own, keeps, AText, AnRrp, AnRst, Sort, mail_below, message_pair, plain_joint, sort_of, calls_by, message_calls, orders_heard, own_calls, both, Happened, Network, AreOurs}
+use Rattle.world_keeps_streams.proofs.Common.{◌≡◌, ℕ, ◌==◌, ◌&&◌, not, Bool, true, false, List, [], ◌∷◌, ◌++◌, drop, refl, ap, sym, subst, ◌∙◌, Host, same_host, HostMessage, same_host-true, Legal, Order, Wrong, orders_of, data_taken, desk_of, PairState, TurnState, message_taken, orders_taken, reply_notices, with_desk, Entry, Notice, Phase, AreJoint, IsJoint, AreAllowed, Hears, IsHistory, IsTelling, Takes, NcpState, pair_with, all_told, crossed, HaveAddresses, IsApart, message_on, Crossed, Moment, event_in, events_of, places, program, crossings_of, coupled, program_own, keeps, AText, AnRrp, AnRst, Sort, mail_below, message_pair, plain_joint, sort_of, both, Happened, Network, AreOurs}
+use Rattle.host_keeps_pairing.proofs.lemmas.{orders_idle}
+use Rattle.reset_law.specs.Events.{In, Message, Other, are, Reset}
+use Rattle.sockets.specs.Accepting.{turn_of, accepted}
+use Rattle.world_keeps_streams.specs.Calls.{calls_by, message_calls, orders_heard, own_calls, called}
 use Rattle.interface.specs.Mailboxes as mail
 use Rattle.interface.specs.declared.crossing.Crossing.TheVariants as crossing
 use Rattle.interface.specs.declared.crossing.Inbound.TheVariants as inbound
@@ -7,12 +11,9 @@ use Rattle.ncp_control.specs.declared.command.Command.TheVariants as command
 use Rattle.ncp_control.specs.Phases as phases
 use Rattle.ncp_control.specs.declared.phase.Phase.TheVariants as phase
 use Rattle.host_keeps_streams.specs.Histories as calls
-use Rattle.reset_law.specs.Events.{Reset}
 use Rattle.reset_law.specs.Stays as stay
-use Rattle.sockets.specs.Accepting.{accepted}
 use Rattle.promise.specs.declared.life.Life.{Life}
 use Rattle.net_sim.specs.Told.{kept_in}
-use Rattle.world_keeps_streams.specs.Calls.{called}
 use Rattle.world_keeps_streams.proofs.Deeds.Effects.{Among, all_lives}
 use Rattle.world_keeps_streams.proofs.Deeds.Kinds.{deed_of}
 use Rattle.world_keeps_streams.proofs.Deeds.Told.{After, call_told}

@@ -1,5 +1,6 @@
 -- Two lists of lives that have the same lives of a host with one peer, and notices that leave them so.
-use Rattle.world_keeps_streams.proofs.Common.{◌≡◌, inl, inr, ℕ, zero, suc, ◌==◌, ◌&&◌, Bool, true, false, not, if◌then◌else◌, List, [], ◌∷◌, ◌++◌, map, drop, refl, sym, subst, ◌∙◌, Host, same_host, same_host-refl, Entry, Notice, both, changed_when, lives_at, lives_between, lives_on, lives_told, lives_with, new_life, where_it, clash}
+use Rattle.world_keeps_streams.proofs.Common.{◌≡◌, inl, inr, ℕ, zero, suc, ◌==◌, ◌&&◌, Bool, true, false, not, if◌then◌else◌, List, [], ◌∷◌, ◌++◌, map, drop, refl, sym, subst, ◌∙◌, Host, same_host, same_host-refl, Entry, Notice, both, clash}
+use Rattle.net_sim.specs.Book.{changed_when, lives_at, lives_between, lives_on, lives_told, lives_with, new_life, where_it}
 use Rattle.host_pairs.specs.declared.notice.Notice.TheVariants as notice
 use Rattle.promise.specs.declared.life.Life.{Life}
 use Rattle.net_sim.specs.Book as book

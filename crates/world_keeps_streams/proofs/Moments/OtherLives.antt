@@ -1,24 +1,24 @@
 -- A moment at which a host does nothing with a peer leaves its lives with that peer as they were.
-use Rattle.world_keeps_streams.proofs.Common.{◌≡◌, ℕ, ◌*◌, ◌==◌, ◌&&◌, not, Bool, true, if◌then◌else◌, List, [], ◌∷◌, drop, filter, take, Option, Some, None, refl, ap, sym, subst, eqb-true, flat_map, Host, same_host, Flow, Answer, HostMessage, same_host-true, is_receive_socket, Command, MayGo, contact_notices, DeskState, desk_of, changed_at, ending, entry_at, is_busy, is_ending, is_mine_on, opening_notices, opening_by, PairState, Parcel, asked_at, cls_sent, command_gone, commands_gone, may_send_on, next_of, parcel_gone, is_ready, answered_turn, message_taken, Entry, Notice, Phase, both, what_goes, turn_of, after_turn, NcpState, owner_of, pair_with, AreInOrder, grant_fault, on_open, message_of, next_in, offered_by, Peer, Request, next_is, next_pair, Kept, lives_asked, lives_at, lives_on, where_it, HaveAddresses, Asked, Crossed, Moment, places, program, crossings_of, host_in, kept_by, notices_by, coupled, AreRefusing, owner_found, same_turned, Happened, Network, AreOurs}
-use Rattle.std.proofs.Common.{false}
+use Rattle.world_keeps_streams.proofs.Common.{eqb-true, flat_map, Host, same_host, Flow, Answer, HostMessage, same_host-true, is_receive_socket, Command, MayGo, contact_notices, DeskState, desk_of, PairState, is_ready, answered_turn, message_taken, Entry, Notice, Phase, both, what_goes, NcpState, owner_of, pair_with, AreInOrder, Peer, Request, next_is, next_pair, Kept, lives_asked, lives_at, lives_on, where_it, HaveAddresses, Asked, Crossed, Moment, places, program, crossings_of, coupled, AreRefusing, Happened, Network, AreOurs}
+use Rattle.std.proofs.Common.{◌≡◌, ℕ, ◌*◌, ◌==◌, ◌&&◌, not, Bool, true, if◌then◌else◌, List, [], ◌∷◌, drop, filter, take, Option, Some, None, refl, ap, sym, subst, false}
+use Rattle.host_pairs.specs.Entries.{changed_at, ending, entry_at, is_busy, is_ending, is_mine_on, opening_notices, opening_by, is_over}
+use Rattle.host_pairs.specs.Parcels.{Parcel, asked_at, cls_sent, command_gone, commands_gone, may_send_on, next_of, parcel_gone, link_of}
+use Rattle.sockets.specs.Accepting.{turn_of, after_turn, accepted}
+use Rattle.sockets.specs.Requests.{grant_fault, on_open, first_if, refusal, served_notices}
+use Rattle.sockets.specs.Sending.{message_of, next_in, offered_by, next_out, offered}
+use Rattle.net_sim.specs.Told.{host_in, kept_by, notices_by, kept_in}
+use Rattle.world_keeps_lives.proofs.lemmas.{owner_found, same_turned, Holds}
 use Rattle.interface.specs.Mailboxes as mail
 use Rattle.interface.specs.declared.crossing.Crossing.TheVariants as crossing
 use Rattle.interface.specs.declared.crossing.Inbound.TheVariants as inbound
 use Rattle.ncp_control.specs.declared.command.Command.TheVariants as command
-use Rattle.host_pairs.specs.Entries.{is_over}
 use Rattle.host_pairs.specs.Parcels as parcel
-use Rattle.host_pairs.specs.Parcels.{link_of}
 use Rattle.host_pairs.specs.declared.notice.Notice.TheVariants as notice
 use Rattle.host_keeps_streams.proofs.lemmas.Senders as senders
-use Rattle.sockets.specs.Accepting.{accepted}
-use Rattle.sockets.specs.Requests.{first_if, refusal, served_notices}
-use Rattle.sockets.specs.Sending.{next_out, offered}
 use Rattle.sockets.specs.declared.fault.NcpFault.TheVariants as fault
 use Rattle.sockets.specs.declared.request.Request.TheVariants as request
 use Rattle.promise.specs.declared.life.Life.{Life}
 use Rattle.net_sim.specs.Book as book
-use Rattle.net_sim.specs.Told.{kept_in}
-use Rattle.world_keeps_lives.proofs.lemmas.{Holds}
 use Rattle.world_keeps_streams.proofs.Deeds.Effects.{Among, all_lives, found_among}
 use Rattle.world_keeps_streams.proofs.Deeds.Ends.{IsAt}
 use Rattle.world_keeps_streams.proofs.Calls.Chain.{plain_at}

@@ -1,13 +1,17 @@
 -- What a host does with one peer leaves its lives with another as they were.
-use Rattle.world_keeps_streams.proofs.Common.{◌≡◌, ℕ, ◌==◌, ◌&&◌, ◌||◌, Bool, true, false, not, nat_le, if◌then◌else◌, List, [], ◌∷◌, ◌++◌, find, Option, Some, None, is_some, refl, ap, sym, subst, ◌∙◌, eq-eqb, list_any, Host, same_host, Answer, same_host-refl, data_bits, header_of, Command, DataHeader, asked_on_link, asked_with_size, found_in, desk_taken, Legal, Order, Wrong, error, orders_of, data_of, data_taken, is_acceptable, DeskState, desk_of, listens_on, command_queued, changed_at, entry_at, is_ending, is_mine_on, is_open, receives_on, sends_on, PairState, is_ready, TurnState, answered_turn, command_taken, failed, failed_by, freed, if_ready, is_gone, message_taken, order_taken, orders_taken, reply_notices, reset_notices, settled_turn, with_desk, Entry, Notice, Phase, reply_idle, Hears, Takes, Kept, all_told, both, not_is, AreRefusing, IsLifeOf, at_socket, mine_on, At, Elsewhere, GoodTurn, Near, Place, all_told_append, clash, good_queued, good_ready, good_taken, open_mine, refusing_found}
+use Rattle.world_keeps_streams.proofs.Common.{◌≡◌, ℕ, ◌==◌, ◌&&◌, ◌||◌, Bool, true, false, not, nat_le, if◌then◌else◌, List, [], ◌∷◌, ◌++◌, find, Option, Some, None, is_some, refl, ap, sym, subst, ◌∙◌, eq-eqb, list_any, Host, same_host, Answer, same_host-refl, data_bits, header_of, Command, DataHeader, Legal, Order, Wrong, error, orders_of, data_of, data_taken, is_acceptable, DeskState, desk_of, listens_on, command_queued, PairState, is_ready, Entry, Notice, Phase, Kept, all_told, both, not_is}
+use Rattle.host_pairs.specs.Commands.{asked_on_link, asked_with_size, found_in, desk_taken}
+use Rattle.host_pairs.specs.Entries.{changed_at, entry_at, is_ending, is_mine_on, is_open, receives_on, sends_on}
+use Rattle.host_pairs.specs.Turn.{TurnState, answered_turn, command_taken, failed, failed_by, freed, if_ready, is_gone, message_taken, order_taken, orders_taken, reply_notices, reset_notices, settled_turn, with_desk, reply_taken, reset_taken}
+use Rattle.host_keeps_pairing.proofs.lemmas.{reply_idle}
+use Rattle.host_keeps_streams.specs.Histories.{Hears, Takes, Call}
+use Rattle.world_keeps_lives.specs.Lives.{AreRefusing, IsLifeOf, at_socket, mine_on}
+use Rattle.world_keeps_lives.proofs.lemmas.{At, Elsewhere, GoodTurn, Near, Place, all_told_append, clash, good_queued, good_ready, good_taken, open_mine, refusing_found, AreAside, at_aside, good_data, good_reset}
 use Rattle.interface.specs.declared.crossing.Answer.TheVariants as answer
 use Rattle.ncp_control.specs.declared.command.Command.TheVariants as command
-use Rattle.host_pairs.specs.Turn.{reply_taken, reset_taken}
 use Rattle.host_pairs.specs.declared.notice.Notice.TheVariants as notice
 use Rattle.ncp_control.specs.declared.phase.Phase.TheVariants as phase
-use Rattle.host_keeps_streams.specs.Histories.{Call}
 use Rattle.promise.specs.declared.life.Life.{Life}
-use Rattle.world_keeps_lives.proofs.lemmas.{AreAside, at_aside, good_data, good_reset}
 use Rattle.world_keeps_streams.proofs.Deeds.Effects as deeds
 use Rattle.world_keeps_streams.proofs.Deeds.Effects.{Among, Deed, all_lives, among_kept, found_among}
 use Rattle.world_keeps_streams.proofs.Deeds.Kinds.{arrives, arrives_if, closings, deed_of, hears, matches, opens, opens_by, returns}

@@ -1,15 +1,16 @@
 -- The lives of a host with one peer are carried by its calls at a moment at which a message goes out to the peer.
-use Rattle.world_keeps_streams.proofs.Common.{◌≡◌, ℕ, ◌==◌, true, false, ◌&&◌, List, [], ◌∷◌, ◌++◌, take, drop, Some, refl, ap, sym, subst, ◌∙◌, Host, same_host, HostMessage, same_host-true, Command, DeskState, desk_of, PairState, Parcel, next_of, parcel_gone, with_connections, Entry, Listener, Notice, pair_range, AreAllowed, IsHistory, IsTelling, Says, Sends, turn_of, NcpState, pair_with, next_in, Peer, next_is, next_pair, all_told, crossed, HaveAddresses, Crossed, IsNext, IsStory, Moment, event_in, events_of, places, program, crossings_of, coupled, GoodTurn, Place, origin_in, keeps, mail_below, offered_pair, programs_ranged, served_in, calls_by, commands_said, own_calls, parcel_calls, both, Happened, Network, AreOurs}
+use Rattle.world_keeps_streams.proofs.Common.{◌≡◌, ℕ, ◌==◌, true, false, ◌&&◌, List, [], ◌∷◌, ◌++◌, take, drop, Some, refl, ap, sym, subst, ◌∙◌, Host, same_host, HostMessage, same_host-true, Command, DeskState, desk_of, PairState, Parcel, next_of, parcel_gone, with_connections, Entry, Listener, Notice, pair_range, turn_of, NcpState, pair_with, Peer, next_is, next_pair, all_told, crossed, HaveAddresses, Crossed, IsNext, IsStory, Moment, event_in, events_of, places, program, crossings_of, coupled, origin_in, keeps, both, Happened, Network, AreOurs}
+use Rattle.host_keeps_streams.specs.Histories.{AreAllowed, IsHistory, IsTelling, Says, Sends}
+use Rattle.sockets.specs.Sending.{next_in, offered}
+use Rattle.world_keeps_lives.proofs.lemmas.{GoodTurn, Place, waits}
+use Rattle.world_keeps_pairing.proofs.lemmas.{mail_below, offered_pair, programs_ranged, served_in, some_commands}
+use Rattle.world_keeps_streams.specs.Calls.{calls_by, commands_said, own_calls, parcel_calls, called}
 use Rattle.interface.specs.Mailboxes as mail
 use Rattle.interface.specs.declared.crossing.Crossing.TheVariants as crossing
 use Rattle.host_pairs.specs.Parcels as parcel
 use Rattle.host_keeps_streams.specs.Histories as calls
-use Rattle.sockets.specs.Sending.{offered}
 use Rattle.promise.specs.declared.life.Life.{Life}
 use Rattle.net_sim.specs.Told.{kept_in}
-use Rattle.world_keeps_lives.proofs.lemmas.{waits}
-use Rattle.world_keeps_pairing.proofs.lemmas.{some_commands}
-use Rattle.world_keeps_streams.specs.Calls.{called}
 use Rattle.world_keeps_streams.proofs.Calls.Chain.{chain, plain_at}
 use Rattle.world_keeps_streams.proofs.Deeds.Effects.{Among, all_lives}
 use Rattle.world_keeps_streams.proofs.Deeds.Told.{call_told}

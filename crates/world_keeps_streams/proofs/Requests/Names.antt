@@ -1,16 +1,14 @@
 -- A life's partner's request stays the same while more crosses; and two lives of one connection match.
-use Rattle.world_keeps_streams.proofs.Common.{◌≡◌, ℕ, suc, true, false, List, [], ◌++◌, Option, Some, None, refl, ap, sym, subst, ◌∙◌, Contains, Host, Crossing, events_at, IsIn, run_at, Match, SafePartners, control_flow, last_out, own_request, partner_request, Moment, crossings_of, Coupled, law_events, origin_in, place_or, life_of, openings, steps, all_tied, are_origins, served_in, Network, AreOurs}
-use Rattle.std.proofs.Common.{IsSome}
-use Rattle.pairing_law.specs.Partners.{OwnOnce}
+use Rattle.world_keeps_streams.proofs.Common.{Contains, Host, Crossing, Moment, crossings_of, Coupled, law_events, origin_in, place_or, origin_or, steps, Network, AreOurs, lives_among, mixed_kept}
+use Rattle.std.proofs.Common.{◌≡◌, ℕ, suc, true, false, List, [], ◌++◌, Option, Some, None, refl, ap, sym, subst, ◌∙◌, IsSome}
+use Rattle.pairing_law.specs.Links.{events_at}
+use Rattle.pairing_law.specs.Partners.{IsIn, OwnOnce}
+use Rattle.pairing_law.proofs.lemmas.{run_at, safe_run}
+use Rattle.promise.specs.Safe.{Match, SafePartners, control_flow, last_out, own_request, partner_request, before, named, receives}
+use Rattle.world_keeps_pairing.specs.Lives.{life_of, openings, with_lives}
+use Rattle.world_keeps_pairing.proofs.lemmas.{all_tied, are_origins, served_in, between_itself, by_sockets, in_among, lives_among as pairing_lives, one_own, place_there, told_in}
 use Rattle.pairing_law.specs.Sides.{Life}
-use Rattle.pairing_law.proofs.lemmas.{safe_run}
 use Rattle.promise.specs.declared.life.Life as book
-use Rattle.net_sim.specs.Among.{lives_among}
-use Rattle.net_sim.specs.Mixed.{mixed_kept}
-use Rattle.promise.specs.Safe.{before, named, receives}
-use Rattle.world_keeps_pairing.specs.Free.{origin_or}
-use Rattle.world_keeps_pairing.specs.Lives.{with_lives}
-use Rattle.world_keeps_pairing.proofs.lemmas.{between_itself, by_sockets, in_among, lives_among as pairing_lives, one_own, place_there, told_in}
 use Rattle.world_keeps_streams.proofs.Requests.Sides.{Lawful, Own, Heard, coupled_in, lives_in, same_request}
 use Rattle.world_keeps_streams.proofs.Lives.Among.{safe_partners, among_there, kept_there, life_matches, partner_named}
 use Rattle.world_keeps_streams.proofs.Ours.{ours_of}

@@ -1,12 +1,10 @@
 -- The requests of an end that is there, in a host that stays: those of the connection that its sockets' gone ones count.
-use Rattle.world_keeps_streams.proofs.Common.{◌≡◌, ℕ, ◌+◌, ◌==◌, ◌&&◌, ◌||◌, Bool, true, false, List, [], ◌∷◌, Option, Some, None, refl, ap, sym, subst, ◌∙◌, arith, eqb-true, Host, entry_at, is_at, Entry, both, end_of, is_past, standing, gone_now, counted, has_heard, heard_from, End, Sockets, Who, receiver, Mark, Asks, Side, hears, says, Half, Joined, count, stays_same, Event, pair_with, Moment, events_of, program, crossings_of, Coupled, law_events, origin_in, keeps, steps, Tie, all_hears, all_says, all_tied, are_origins, at_texts, foreign_of, half, hears_if, left_if, met_if, other, own_of, receiver_half, sender_half, own_calls}
-use Rattle.world_keeps_pairing.proofs.lemmas.{served_in}
-use Rattle.reset_law.specs.Network.{AreOurs, Network}
-use Rattle.pairing_law.specs.Links.{Receiver, Sender}
-use Rattle.pairing_law.specs.Marks.{closes}
-use Rattle.pairing_law.proofs.lemmas.{Balanced}
+use Rattle.world_keeps_streams.proofs.Common.{◌≡◌, ℕ, ◌+◌, ◌==◌, ◌&&◌, ◌||◌, Bool, true, false, List, [], ◌∷◌, Option, Some, None, refl, ap, sym, subst, ◌∙◌, arith, eqb-true, Host, entry_at, is_at, Entry, both, end_of, is_past, standing, gone_now, counted, has_heard, heard_from, End, Side, hears, says, Event, pair_with, Moment, events_of, program, crossings_of, Coupled, law_events, origin_in, keeps, steps, own_calls, AreOurs, Network}
+use Rattle.pairing_law.specs.Links.{Sockets, Who, receiver, Receiver, Sender}
+use Rattle.pairing_law.specs.Marks.{Mark, Asks, closes}
+use Rattle.pairing_law.proofs.lemmas.{Half, Joined, count, stays_same, Balanced}
+use Rattle.world_keeps_pairing.proofs.lemmas.{Tie, all_hears, all_says, all_tied, are_origins, at_texts, foreign_of, half, hears_if, left_if, met_if, other, own_of, receiver_half, sender_half, served_in, IsPair, before}
 use Rattle.reset_law.specs.Stays as stay
-use Rattle.world_keeps_pairing.proofs.lemmas.{IsPair, before}
 use Rattle.world_keeps_streams.proofs.Deeds.Effects.{Among, found_among}
 use Rattle.world_keeps_streams.proofs.Lives.Left.{entry_end}
 use Rattle.world_keeps_streams.proofs.Requests.Sides.{Heard, Lawful, coupled_in, law_joined}

@@ -1,11 +1,10 @@
 -- The own request of a receiving life: it is that of the connection whose partner's request its host took.
-use Rattle.world_keeps_streams.proofs.Common.{◌≡◌, inl, inr, ℕ, ◌<◌, ◌≤◌, ◌&&◌, Bool, true, if◌then◌else◌, List, [], ap, sym, subst, ◌∙◌, arith, Contains, Host, is_receive_socket, is_send_socket, receiver, sender, Asks, IsIn, Side, Joined, Stands, Stood, asks_once, asks_said, every_in, from_asks, Moment, crossings_of, Coupled, law_events, origin_in, life_of, openings, steps, served_in, Network, AreOurs}
+use Rattle.world_keeps_streams.proofs.Common.{◌≡◌, inl, inr, ℕ, ◌<◌, ◌≤◌, ◌&&◌, Bool, true, if◌then◌else◌, List, [], ap, sym, subst, ◌∙◌, arith, Contains, Host, is_receive_socket, is_send_socket, receiver, sender, Asks, IsIn, Side, Joined, Stands, Stood, asks_once, asks_said, every_in, from_asks, Moment, crossings_of, Coupled, law_events, origin_in, life_of, openings, steps, served_in, other_sends, Network, AreOurs}
 use Rattle.pairing_law.specs.Sides as law
 use Rattle.promise.specs.declared.life.Life.{Life}
 use Rattle.promise.specs.Safe.{receives}
 use Rattle.world_keeps_streams.proofs.Lives.Lists.{IsOf, contains}
 use Rattle.world_keeps_streams.proofs.Requests.Sides.{Lawful, Own, coupled_in, law_joined, lives_in}
-use Rattle.world_keeps_pairing.proofs.lemmas.{other_sends}
 use Rattle.world_keeps_streams.proofs.Lives.Among.{life_in, life_paired}
 use Rattle.world_keeps_streams.proofs.Ours.{ours_of}
 

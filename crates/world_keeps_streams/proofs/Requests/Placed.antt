@@ -1,7 +1,7 @@
 -- Requests by the places where they went out, connection by connection: what the clauses of a safe book ask of them.
-use Rattle.world_keeps_streams.proofs.Common.{◌≡◌, ℕ, true, false, List, [], ◌∷◌, refl, subst, Host, Match, Moment, Crossed, Asked, event_in, events_of, crossings_of, origin_in, Network, AreOurs}
+use Rattle.world_keeps_streams.proofs.Common.{◌≡◌, ℕ, true, false, List, [], ◌∷◌, refl, subst, Host, Moment, Crossed, Asked, event_in, events_of, crossings_of, origin_in, Network, AreOurs}
+use Rattle.promise.specs.Safe.{Match, receives}
 use Rattle.reset_law.specs.Stays as stay
-use Rattle.promise.specs.Safe.{receives}
 use Rattle.promise.specs.declared.life.Life.{Life}
 use Rattle.world_keeps_streams.proofs.Lives.Lists.{IsOf, contains}
 use Rattle.world_keeps_streams.proofs.Requests.Names.{matched, origin_grows}

@@ -1,17 +1,13 @@
 -- Requests of two hosts beside the law of pairing: each is where this many connections of its sockets were closed before it.
-use Rattle.world_keeps_streams.proofs.Common.{◌≡◌, inr, ℕ, ◌&&◌, not, Bool, true, false, List, [], ◌∷◌, if◌then◌else◌, refl, sym, subst, ◌∙◌, Host, Sockets, events_at, receiver, sender, Mark, Ask, Close, Asks, placed_event, Side, hears, says, Joined, asks_said, run_at, Event, begins_either, HaveAddresses, Moment, event_in, events_of, crossings_of, Coupled, coupled, law_events, origin_in, keeps, steps, all_hears, all_says, all_tied, are_origins, at_texts, half, hears_if, left_if, met_if, receiver_half, sender_half, served_in, mail_below, IsLawful, Seen, WorldState}
-use Rattle.world_keeps_pairing.proofs.lemmas.{book_run}
-use Rattle.reset_law.specs.Network.{AreOurs, Network, all_ours}
-use Rattle.net_sim.specs.Mixed.{Happened}
-use Rattle.net_sim.proofs.lemmas.AllOurs.{happened}
+use Rattle.world_keeps_streams.proofs.Common.{◌≡◌, inr, ℕ, ◌&&◌, not, Bool, true, false, List, [], ◌∷◌, if◌then◌else◌, refl, sym, subst, ◌∙◌, Host, Mark, Ask, Close, Asks, Side, hears, says, Event, begins_either, HaveAddresses, IsLawful, Moment, event_in, events_of, crossings_of, Coupled, coupled, law_events, origin_in, keeps, steps, Seen, WorldState, AreOurs, Network, all_ours, Happened, happened}
+use Rattle.pairing_law.specs.Links.{Sockets, events_at, receiver, sender, Receiver, Sender}
+use Rattle.pairing_law.specs.Places.{placed_event, placed}
+use Rattle.pairing_law.proofs.lemmas.{Joined, asks_said, run_at, joined_run, ready_same}
+use Rattle.world_keeps_pairing.proofs.lemmas.{all_hears, all_says, all_tied, are_origins, at_texts, half, hears_if, left_if, met_if, receiver_half, sender_half, served_in, mail_below, book_run, before}
 use Rattle.interface.specs.Mailboxes as mail
-use Rattle.pairing_law.specs.Links.{Receiver, Sender}
-use Rattle.pairing_law.specs.Places.{placed}
-use Rattle.pairing_law.proofs.lemmas.{joined_run, ready_same}
 use Rattle.reset_law.specs.Stays as stay
 use Rattle.net_sim.specs.Told.{kept_in}
 use Rattle.promise.specs.declared.life.Life as book
-use Rattle.world_keeps_pairing.proofs.lemmas.{before}
 
 -- ---- moments that may be in a network, whatever its strangers do
 

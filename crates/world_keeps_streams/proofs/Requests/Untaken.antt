@@ -1,13 +1,11 @@
 -- Where the request of an end hasn't gone out, the peer has no end that took it.
-use Rattle.world_keeps_streams.proofs.Common.{◌≡◌, ℕ, Bool, true, false, List, [], ◌∷◌, Option, Some, None, refl, ap, sym, subst, ◌∙◌, Host, HostMessage, IsTelling, gone_now, numbered, numbered_tells, Sockets, Asks, Mark, placed_event, Side, asks_said, Event, HaveAddresses, Moment, Crossed, Asked, event_in, events_of, crossings_of, law_events, origin_in, keeps, all_says, at_texts, half, hears_if, left_if, mail_below, met_if, odd_send, numbered_by_peer, own_calls}
-use Rattle.reset_law.specs.Network.{AreOurs, Network}
-use Rattle.net_sim.specs.Mixed.{Happened}
+use Rattle.world_keeps_streams.proofs.Common.{◌≡◌, ℕ, Bool, true, false, List, [], ◌∷◌, Option, Some, None, refl, ap, sym, subst, ◌∙◌, Host, HostMessage, IsTelling, gone_now, numbered, numbered_tells, Asks, Mark, placed_event, Side, Event, HaveAddresses, Moment, Crossed, Asked, event_in, events_of, crossings_of, law_events, origin_in, keeps, numbered_by_peer, own_calls, AreOurs, Network, Happened}
+use Rattle.pairing_law.specs.Links.{Sockets, Receiver, Sender}
+use Rattle.pairing_law.proofs.lemmas.{asks_said, Joined as Paired}
+use Rattle.world_keeps_pairing.proofs.lemmas.{all_says, at_texts, half, hears_if, left_if, mail_below, met_if, odd_send, IsPair, before}
 use Rattle.interface.specs.Mailboxes as mail
 use Rattle.interface.specs.declared.crossing.Crossing.TheVariants as crossing
-use Rattle.pairing_law.specs.Links.{Receiver, Sender}
-use Rattle.pairing_law.proofs.lemmas.{Joined as Paired}
 use Rattle.reset_law.specs.Stays as stay
-use Rattle.world_keeps_pairing.proofs.lemmas.{IsPair, before}
 use Rattle.world_keeps_streams.proofs.Heard.Calls.{heard_calls}
 use Rattle.world_keeps_streams.proofs.Heard.Marks.{said_heard}
 use Rattle.world_keeps_streams.proofs.Requests.Now.{Counts, heard_there, joined_halves, unsaid_there}

@@ -1,19 +1,20 @@
 -- What a host that doesn't stay, and says nothing, does by one moment: at most one call, of those that it makes by itself.
-use Rattle.world_keeps_streams.proofs.Common.{◌≡◌, ℕ, ◌==◌, Bool, true, false, not, ◌||◌, if◌then◌else◌, cond, List, [], ◌∷◌, ◌++◌, Option, Some, None, refl, ap, sym, subst, ◌∙◌, Host, same_host, Flow, Answer, HostMessage, same_host-true, Command, closed_end, commanded, contacted, interrupt_of, receiver_requested, requested, with_end, with_more_bits, Order, Legal, orders_of, data_taken, desk_of, listens_on, free_link, is_busy, is_receiving, sending_end, PairState, Parcel, pair_after, parcel_gone, is_ready, rfnm_phase, TurnState, answered_turn, failed_by, freed, is_gone, message_taken, orders_taken, settled_turn, with_desk, Entry, Listener, Phase, what_goes, put, Answered, AsksBack, Closes, Gives, Grants, Hears, OpensReceiver, OpensSender, Takes, turn_of, NcpState, owner_of, pair_with, with_pair, AreInOrder, at_owner, closed_socket, with_peer, next_in, offered_by, Peer, Request, next_is, next_pair, pair_changed, IsAsking, queue_by, clash, answer_calls, message_calls, next_calls, orders_heard, owner_calls, parcel_calls, request_calls}
+use Rattle.world_keeps_streams.proofs.Common.{◌≡◌, ℕ, ◌==◌, Bool, true, false, not, ◌||◌, if◌then◌else◌, cond, List, [], ◌∷◌, ◌++◌, Option, Some, None, refl, ap, sym, subst, ◌∙◌, Host, same_host, Flow, Answer, HostMessage, same_host-true, Command, closed_end, commanded, contacted, interrupt_of, receiver_requested, requested, with_end, with_more_bits, Order, Legal, orders_of, data_taken, desk_of, listens_on, free_link, is_busy, is_receiving, sending_end, PairState, is_ready, rfnm_phase, TurnState, answered_turn, failed_by, freed, is_gone, message_taken, orders_taken, settled_turn, with_desk, Entry, Listener, Phase, what_goes, put, NcpState, owner_of, pair_with, with_pair, AreInOrder, Peer, Request, next_is, next_pair, pair_changed, clash}
+use Rattle.host_pairs.specs.Parcels.{Parcel, pair_after, parcel_gone, link_of}
+use Rattle.host_keeps_streams.specs.Histories.{Answered, AsksBack, Closes, Gives, Grants, Hears, OpensReceiver, OpensSender, Takes, Call}
+use Rattle.sockets.specs.Accepting.{turn_of, accepted}
+use Rattle.sockets.specs.Requests.{at_owner, closed_socket, with_peer, served}
+use Rattle.sockets.specs.Sending.{next_in, offered_by, offered}
+use Rattle.pair_keeps_streams.proofs.lemmas.{IsAsking, queue_by}
+use Rattle.world_keeps_streams.specs.Calls.{answer_calls, message_calls, next_calls, orders_heard, owner_calls, parcel_calls, request_calls, called}
 use Rattle.interface.specs.declared.crossing.Answer.TheVariants as answer
 use Rattle.interface.specs.declared.crossing.Inbound.TheVariants as inbound
 use Rattle.ncp_control.specs.declared.command.Command.TheVariants as command
 use Rattle.host_pairs.specs.Commands.{granted}
 use Rattle.host_pairs.specs.Parcels as parcel
-use Rattle.host_pairs.specs.Parcels.{link_of}
 use Rattle.ncp_control.specs.declared.phase.Phase.TheVariants as phase
 use Rattle.host_keeps_streams.specs.Histories as calls
-use Rattle.host_keeps_streams.specs.Histories.{Call}
-use Rattle.sockets.specs.Accepting.{accepted}
-use Rattle.sockets.specs.Requests.{served}
-use Rattle.sockets.specs.Sending.{offered}
 use Rattle.sockets.specs.declared.request.Request.TheVariants as request
-use Rattle.world_keeps_streams.specs.Calls.{called}
 use Rattle.world_keeps_streams.proofs.Calls.May.{MayCall}
 use Rattle.world_keeps_streams.proofs.Stays.Quiet.{IsMore, Quiet, Asks, Told, Replied, no_more, one_more}
 

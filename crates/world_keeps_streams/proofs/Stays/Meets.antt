@@ -1,16 +1,13 @@
 -- Where two hosts of a world meet both streams begin.
-use Rattle.world_keeps_streams.proofs.Common.{◌≡◌, ℕ, ◌==◌, Bool, true, false, not, ◌&&◌, if◌then◌else◌, List, [], ◌∷◌, ◌++◌, refl, ap, sym, subst, ◌∙◌, Host, same_host, HostMessage, same_host-true, Command, PairState, ends_now, Message, In, pair, begins, ready, takes_reset, begins_either, contradicts, Fresh, begins_fresh, accepted, pair_with, HaveAddresses, Asked, Crossed, Moment, event_in, events_of, places, program, crossings_of, Coupled, by_request, program_own, keeps, AText, AnRrp, AnRst, Sort, mail_below, sort_of, calls_by, own_calls}
-use Rattle.net_sim.proofs.lemmas.{coupled}
-use Rattle.reset_law.specs.Network.{AreOurs, Network}
-use Rattle.net_sim.specs.Mixed.{Happened}
+use Rattle.world_keeps_streams.proofs.Common.{◌≡◌, ℕ, ◌==◌, Bool, true, false, not, ◌&&◌, if◌then◌else◌, List, [], ◌∷◌, ◌++◌, refl, ap, sym, subst, ◌∙◌, Host, same_host, HostMessage, Command, PairState, ends_now, pair, begins_either, contradicts, Fresh, begins_fresh, accepted, pair_with, HaveAddresses, Asked, Crossed, Moment, event_in, events_of, places, program, crossings_of, Coupled, by_request, program_own, coupled, keeps, AText, AnRrp, AnRst, Sort, mail_below, sort_of, calls_by, own_calls, AreOurs, Network, Happened}
+use Rattle.interface.proofs.lemmas.{same_host-true, and_true}
+use Rattle.reset_law.specs.Events.{Message, In, Reset}
+use Rattle.reset_law.specs.Stays.{begins, ready, takes_reset, stays}
 use Rattle.interface.specs.Mailboxes as mail
 use Rattle.interface.specs.declared.crossing.Crossing.TheVariants as crossing
 use Rattle.interface.specs.declared.crossing.Inbound.TheVariants as inbound
-use Rattle.interface.proofs.lemmas.{and_true}
 use Rattle.host_keeps_streams.specs.Histories as calls
-use Rattle.reset_law.specs.Events.{Reset}
 use Rattle.reset_law.specs.Runs.{IsRun}
-use Rattle.reset_law.specs.Stays.{stays}
 use Rattle.world_keeps_streams.proofs.Calls.Allowed.{may_calls}
 use Rattle.world_keeps_streams.proofs.Stays.Calm.{Calm, One, Still, reset_drops}
 use Rattle.world_keeps_streams.proofs.Calls.Chain.{chain, idle, ready_both}

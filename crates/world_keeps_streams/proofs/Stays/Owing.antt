@@ -1,14 +1,14 @@
 -- A host that stays and owes an RRP has said nothing since its stay began; so a text fails only where its sender leaves.
-use Rattle.world_keeps_streams.proofs.Common.{◌≡◌, ◌⊎◌, ℕ, Bool, false, List, [], ◌∷◌, Some, refl, inl, inr, Host, same_host, Answer, failed_phase, is_ready, Phase, Want, Gone, Heard, Ready, Message, Other, Event, Contact, Out, In, Told, Down, Up, Idle, Take, Hear, when, are, place, Put, Fetch, Clear, ClearAll, boxes, Pair, MaySend, pair_moved, pair, kind_in, ready, begins, takes_reset, NoPlain, begin_quiet, carry, keeps}
-use Rattle.reset_law.specs.Network.{AreOurs, Network}
-use Rattle.reset_law.specs.Pairs.{Plain}
-use Rattle.std.proofs.Common.{true}
+use Rattle.world_keeps_streams.proofs.Common.{Host, same_host, Answer, failed_phase, is_ready, Phase, kind_in, keeps, AreOurs, Network}
+use Rattle.std.proofs.Common.{◌≡◌, ◌⊎◌, ℕ, Bool, false, List, [], ◌∷◌, Some, refl, inl, inr, true}
+use Rattle.ncp_control.specs.declared.phase.Phase.TheVariants.{Want, Gone, Heard, Ready, Closed}
+use Rattle.reset_law.specs.Events.{Message, Other, Event, Contact, Out, In, Told, Down, Up, Idle, Take, Hear, when, are, place, Reset, Reply}
+use Rattle.reset_law.specs.Boxes.{Put, Fetch, Clear, ClearAll, boxes}
+use Rattle.reset_law.specs.Pairs.{Pair, MaySend, pair_moved, pair, Plain}
+use Rattle.reset_law.specs.Stays.{ready, begins, takes_reset, stays}
+use Rattle.reset_law.proofs.lemmas.{NoPlain, begin_quiet, carry, owed_begin, owed_call, owed_sent, owed_told, plain_cleared, plain_fetched, plain_if, plain_put, sends_signal}
 use Rattle.interface.specs.declared.crossing.Answer.TheVariants as answer
-use Rattle.ncp_control.specs.declared.phase.Phase.TheVariants.{Closed}
-use Rattle.reset_law.specs.Events.{Reset, Reply}
 use Rattle.reset_law.specs.Runs.{IsRun}
-use Rattle.reset_law.specs.Stays.{stays}
-use Rattle.reset_law.proofs.lemmas.{owed_begin, owed_call, owed_sent, owed_told, plain_cleared, plain_fetched, plain_if, plain_put, sends_signal}
 use Rattle.world_keeps_streams.proofs.Stays.Resets.{stays_on}
 use Rattle.world_keeps_lives.proofs.lemmas.{not_both}
 

@@ -1,16 +1,16 @@
 -- What a host does by itself, before its peer has met it: a user asks for ends and closes them, answers come, and an RRP that nobody waits for.
-use Rattle.world_keeps_streams.proofs.Common.{◌≡◌, ℕ, ◌==◌, Bool, true, false, if◌then◌else◌, List, [], ◌∷◌, ◌++◌, refl, ap, sym, subst, ◌∙◌, append_assoc, Host, Command, Stream, Inv, PairState, freed, Entry, Listener, all_received, all_sent, Hears, Answered, AreAllowed, IsAllowed, IsTelling, ends_now, gone_by, gone_now, name_now, receiver_now, sender_now, received_at, sent_at, name_of, Fetched, Free, IsAsking, IsPairedCall, IsPosted, IsWordless, Joint, Party, Post, Stepped, Steps, queue_by, receives_receiver, receives_sender, sends_receiver, sends_sender, x_after, y_after}
-use Rattle.std.proofs.Common.{append-nil}
+use Rattle.world_keeps_streams.proofs.Common.{append_assoc, Host, Command, Inv, PairState, freed, Entry, Listener, all_received, all_sent, name_of}
+use Rattle.std.proofs.Common.{◌≡◌, ℕ, ◌==◌, Bool, true, false, if◌then◌else◌, List, [], ◌∷◌, ◌++◌, refl, ap, sym, subst, ◌∙◌, append-nil}
+use Rattle.stream_law.specs.Streams.{Stream, Box, Empty, Waiting, Taken}
+use Rattle.host_keeps_streams.specs.Histories.{Hears, Answered, AreAllowed, IsAllowed, IsTelling, ends_now, gone_by, gone_now, name_now, receiver_now, sender_now, received_at, sent_at, Call}
+use Rattle.pair_keeps_streams.proofs.lemmas.{Fetched, Free, IsAsking, IsPairedCall, IsPosted, IsWordless, Joint, Party, Post, Stepped, Steps, queue_by, receives_receiver, receives_sender, sends_receiver, sends_sender, x_after, y_after, after, sends}
 use Rattle.ncp_control.specs.declared.command.Command.TheVariants as command
 use Rattle.stream_law.specs.Receivers as receivers
 use Rattle.stream_law.specs.Receivers.{Receiver}
 use Rattle.stream_law.specs.Senders as senders
 use Rattle.stream_law.specs.Senders.{Sender}
-use Rattle.stream_law.specs.Streams.{Box, Empty, Waiting, Taken}
 use Rattle.host_keeps_streams.specs.Histories as calls
-use Rattle.host_keeps_streams.specs.Histories.{Call}
 use Rattle.host_keeps_streams.specs.Moves.{closes}
-use Rattle.pair_keeps_streams.proofs.lemmas.{after, sends}
 
 -- ---- such calls
 

@@ -1,14 +1,12 @@
 -- What the law of resets says of a stay: how it begins, who says what in it, and what is outstanding.
-use Rattle.world_keeps_streams.proofs.Common.{◌≡◌, ℕ, Bool, true, false, not, ◌&&◌, ◌||◌, ◌==◌, List, [], ◌∷◌, Option, Some, None, is_some, refl, ap, sym, ◌∙◌, eq-eqb, Host, is_busy, PairState, Other, Event, Out, boxes, pair, kind_in, is_signal, ready, begins, takes_reset, NoPlain, alone_run, begin_quiet, contradicts, ready_phase, sound_run, stays_ready, Agrees, keeps}
-use Rattle.reset_law.specs.Network.{AreOurs, Network}
-use Rattle.reset_law.specs.Pairs.{Plain}
-use Rattle.std.proofs.Common.{◌≢◌}
-use Rattle.reset_law.specs.Events.{Reset, Reply, is_up}
-use Rattle.reset_law.specs.Boxes.{Box, Empty, Waiting, Taken}
-use Rattle.reset_law.specs.Pairs.{Kind, Rst, Rrp}
+use Rattle.world_keeps_streams.proofs.Common.{Host, is_busy, PairState, kind_in, is_signal, Agrees, keeps, AreOurs, Network}
+use Rattle.std.proofs.Common.{◌≡◌, ℕ, Bool, true, false, not, ◌&&◌, ◌||◌, ◌==◌, List, [], ◌∷◌, Option, Some, None, is_some, refl, ap, sym, ◌∙◌, eq-eqb, ◌≢◌}
+use Rattle.reset_law.specs.Events.{Other, Event, Out, Reset, Reply, is_up}
+use Rattle.reset_law.specs.Boxes.{boxes, Box, Empty, Waiting, Taken}
+use Rattle.reset_law.specs.Pairs.{pair, Plain, Kind, Rst, Rrp}
+use Rattle.reset_law.specs.Stays.{ready, begins, takes_reset, joint, stays}
+use Rattle.reset_law.proofs.lemmas.{NoPlain, alone_run, begin_quiet, contradicts, ready_phase, sound_run, stays_ready, empty_kind, joint_stays, phase_ready, ready_up}
 use Rattle.reset_law.specs.Runs.{IsRun}
-use Rattle.reset_law.specs.Stays.{joint, stays}
-use Rattle.reset_law.proofs.lemmas.{empty_kind, joint_stays, phase_ready, ready_up}
 use Rattle.world_keeps_streams.proofs.Steps.Joined.{commands_in}
 
 -- who says something outside of a stay has a peer that isn't in one

@@ -1,17 +1,16 @@
 -- What a host did since it dropped its ends, where it has said nothing and wasn't in a stay, is what a host does by itself.
-use Rattle.world_keeps_streams.proofs.Common.{◌≡◌, ℕ, Bool, true, false, not, ◌&&◌, if◌then◌else◌, List, [], ◌∷◌, Option, Some, None, refl, ap, sym, subst, ◌∙◌, Host, same_host, Flow, Answer, HostMessage, same_host-true, PairState, Parcel, failed_phase, is_ready, Phase, Want, Gone, Heard, Ready, Message, Other, Event, Contact, Out, In, Told, Down, Up, Idle, Send, Take, Hear, Begin, when, are, boxes, MaySend, pair_moved, pair, ready, takes_reset, carry, contradicts, ready_phase, accepted, turn_of, opening_state, pair_with, served, next_in, offered, Peer, Request, answer_leaves, message_leaves, Agrees, message_on, Asked, Crossed, IsNext, IsStory, Moment, event_in, events_of, places, program, Coupled, program_own, story_agrees, keeps, AText, AnRrp, AnRst, Sort, sort_of, clash, answer_calls, calls_by, message_calls, next_calls, request_calls}
-use Rattle.reset_law.specs.Network.{AreOurs, Network}
+use Rattle.world_keeps_streams.proofs.Common.{◌≡◌, ℕ, Bool, true, false, not, ◌&&◌, if◌then◌else◌, List, [], ◌∷◌, Option, Some, None, refl, ap, sym, subst, ◌∙◌, Host, same_host, Flow, Answer, HostMessage, same_host-true, PairState, Parcel, failed_phase, is_ready, Phase, MaySend, pair_moved, pair, carry, contradicts, ready_phase, accepted, turn_of, opening_state, pair_with, served, next_in, offered, Peer, Request, answer_leaves, message_leaves, Agrees, message_on, Asked, Crossed, IsNext, IsStory, Moment, event_in, events_of, places, program, Coupled, program_own, story_agrees, keeps, AText, AnRrp, AnRst, Sort, sort_of, clash, answer_calls, calls_by, message_calls, next_calls, request_calls, AreOurs, Network}
+use Rattle.ncp_control.specs.declared.phase.Phase.TheVariants.{Want, Gone, Heard, Ready, Closed}
+use Rattle.reset_law.specs.Events.{Message, Other, Event, Contact, Out, In, Told, Down, Up, Idle, Send, Take, Hear, Begin, when, are, Reset, Reply, Call}
+use Rattle.reset_law.specs.Boxes.{boxes, Box, Empty, Waiting, Taken, WaitsWith}
+use Rattle.reset_law.specs.Stays.{ready, takes_reset, stays}
 use Rattle.std.proofs.lemmas.Bool.{and_from}
 use Rattle.interface.specs.declared.crossing.Answer.TheVariants as answer
 use Rattle.interface.specs.declared.crossing.Crossing.TheVariants as crossing
 use Rattle.interface.specs.declared.crossing.Inbound.TheVariants as inbound
 use Rattle.ncp_control.specs.Phases as program_phases
-use Rattle.ncp_control.specs.declared.phase.Phase.TheVariants.{Closed}
-use Rattle.reset_law.specs.Events.{Reset, Reply, Call}
-use Rattle.reset_law.specs.Boxes.{Box, Empty, Waiting, Taken, WaitsWith}
 use Rattle.reset_law.specs.Pairs as law
 use Rattle.reset_law.specs.Runs.{IsRun}
-use Rattle.reset_law.specs.Stays.{stays}
 use Rattle.pairing_law.proofs.lemmas.{waits_in_stay}
 use Rattle.world_keeps_streams.proofs.Stays.Calm.{Calm, Calms, answer_calm, offer_calm, reply_calm, request_calm, still}
 use Rattle.world_keeps_streams.proofs.Calls.Chain.{ready_both, plain_at}

@@ -1,19 +1,18 @@
 -- Moments in which messages of a host are gone: answers about them, and hosts that start.
-use Rattle.world_keeps_streams.proofs.Common.{◌≡◌, inl, inr, ℕ, ◌==◌, Bool, true, false, ◌&&◌, if◌then◌else◌, List, [], ◌∷◌, ◌++◌, Some, is_some, refl, ap, sym, subst, ◌∙◌, eq-eqb, eqb-true, Host, same_host, Flow, Answer, same_host-true, Command, Stream, desk_of, settled, is_busy, PairState, TurnState, answered_turn, failed, freed, settled_turn, eqb-sym, Answered, IsTelling, is_out, Fetched, Free, Party, Steps, Clear, ClearAll, posted, boxes, Other, are, place, when, kind_in, is_signal, pair, alone_run, stays_ready, turn_of, NcpState, opening_state, pair_with, answer_leaves, Agrees, Moment, Crossed, IsStory, event_in, events_of, places, program, program_own, story_agrees, answer_calls, own_calls}
-use Rattle.reset_law.specs.Network.{AreOurs, Network}
-use Rattle.reset_law.specs.Pairs.{Plain}
+use Rattle.world_keeps_streams.proofs.Common.{◌≡◌, inl, inr, ℕ, ◌==◌, Bool, true, false, ◌&&◌, if◌then◌else◌, List, [], ◌∷◌, ◌++◌, Some, is_some, refl, ap, sym, subst, ◌∙◌, eq-eqb, eqb-true, Host, same_host, Flow, Answer, same_host-true, Command, Stream, desk_of, settled, is_busy, PairState, TurnState, answered_turn, failed, freed, settled_turn, eqb-sym, Fetched, Free, Party, Steps, kind_in, is_signal, turn_of, accepted, NcpState, opening_state, pair_with, answer_leaves, Agrees, Moment, Crossed, IsStory, event_in, events_of, places, program, program_own, story_agrees, freed_busy, AreOurs, Network}
+use Rattle.host_keeps_streams.specs.Histories.{Answered, IsTelling, is_out}
+use Rattle.reset_law.specs.Boxes.{Clear, ClearAll, posted, boxes, Box, Empty, Waiting, Taken, Fits}
+use Rattle.reset_law.specs.Events.{Other, are, place, when, Reset, Reply}
+use Rattle.reset_law.specs.Pairs.{pair, Plain}
+use Rattle.reset_law.proofs.lemmas.{alone_run, stays_ready, ready_phase}
+use Rattle.world_keeps_streams.specs.Calls.{answer_calls, own_calls, called}
 use Rattle.interface.specs.declared.crossing.Answer.TheVariants as answer
 use Rattle.interface.specs.declared.crossing.Crossing.TheVariants as crossing
 use Rattle.interface.specs.declared.crossing.Inbound.TheVariants as inbound
 use Rattle.ncp_control.specs.Phases as program_phases
 use Rattle.ncp_control.specs.declared.phase.Phase.TheVariants as phase
-use Rattle.reset_law.specs.Boxes.{Box, Empty, Waiting, Taken, Fits}
-use Rattle.reset_law.specs.Events.{Reset, Reply}
 use Rattle.reset_law.specs.Runs.{IsRun}
 use Rattle.reset_law.specs.Stays as stay
-use Rattle.sockets.specs.Accepting.{accepted}
-use Rattle.net_sim.proofs.lemmas.{freed_busy}
-use Rattle.world_keeps_streams.specs.Calls.{called}
 use Rattle.world_keeps_streams.proofs.Steps.Going.{Goes, answered_here, elsewhere_here, stays_as}
 use Rattle.world_keeps_streams.proofs.Steps.GoesOut.{IsCleared, box_is_free, out_cleared}
 use Rattle.world_keeps_streams.proofs.Steps.Held.{Acted, Held, HereIn, act_by}
@@ -22,7 +21,6 @@ use Rattle.world_keeps_streams.proofs.Stays.Owing.{told_rfnm}
 use Rattle.world_keeps_streams.proofs.Calls.Chain.{ready_both, plain_at}
 use Rattle.world_keeps_streams.proofs.Moments.Answer.{accepted_pair}
 use Rattle.world_keeps_streams.proofs.Steps.ActsAsked.{kept_stop}
-use Rattle.reset_law.proofs.lemmas.{ready_phase}
 
 cleared_all : (t : Bool) (here : ℕ) (X : ℕ → Box) (l : ℕ) → IsCleared (X l) (posted here (when t ClearAll) X l)
 cleared_all true here X l = inr refl

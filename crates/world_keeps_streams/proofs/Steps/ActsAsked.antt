@@ -1,7 +1,7 @@
 -- Moments in which a host's boxes stay as they are: what a user asks for, and hosts that stop.
-use Rattle.world_keeps_streams.proofs.Common.{◌≡◌, ℕ, Bool, true, false, not, ◌&&◌, if◌then◌else◌, List, [], ◌∷◌, ◌++◌, refl, subst, Host, same_host, Command, Stream, is_busy, IsTelling, Free, Party, Post, Steps, Event, Contact, Begin, when, Pair, pair_moved, pair, pair_with, opening_state, served, Request, event_by, Moment, Crossed, Asked, event_in, events_of, program, keeps, calls_by, own_calls, request_calls}
+use Rattle.world_keeps_streams.proofs.Common.{◌≡◌, ℕ, Bool, true, false, not, ◌&&◌, if◌then◌else◌, List, [], ◌∷◌, ◌++◌, refl, subst, Host, same_host, Command, Stream, is_busy, IsTelling, Free, Party, Post, Steps, Pair, pair_moved, pair, pair_with, opening_state, served, Request, event_by, Moment, Crossed, Asked, event_in, events_of, program, keeps, calls_by, own_calls, request_calls}
+use Rattle.reset_law.specs.Events.{Event, Contact, Begin, when, Call}
 use Rattle.interface.specs.declared.crossing.Crossing.TheVariants as crossing
-use Rattle.reset_law.specs.Events.{Call}
 use Rattle.ncp_control.specs.Phases as phases
 use Rattle.reset_law.specs.Stays as stay
 use Rattle.sockets.specs.declared.request.Request.TheVariants as request

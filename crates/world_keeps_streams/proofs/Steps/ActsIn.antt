@@ -1,7 +1,11 @@
 -- A host takes a message of its peer.
-use Rattle.world_keeps_streams.proofs.Common.{◌≡◌, ℕ, ◌==◌, Bool, true, false, not, ◌&&◌, if◌then◌else◌, List, [], ◌∷◌, ◌++◌, length, Option, Some, None, refl, ap, sym, subst, ◌∙◌, eqb-true, Host, same_host, HostMessage, same_host-true, Command, covers, for, is_size, Stream, Legal, orders_of, data_taken, desk_of, is_busy, PairState, message_taken, orders_taken, with_desk, AreJoint, eqb-sym, IsTelling, Fetched, Free, Joint, Lies, Party, Post, Steps, Fetch, posted, boxes, In, Message, Other, are, place, when, stays_ready, accepted, turn_of, pair_with, message_leaves, IsApart, message_on, Moment, Crossed, IsStory, event_in, events_of, places, program, program_own, keeps, AText, AnRrp, AnRst, Sort, message_pair, plain_joint, sort_of, waiting, message_calls, orders_heard, own_calls}
-use Rattle.reset_law.specs.Network.{AreOurs, Network}
-use Rattle.std.proofs.Common.{append-nil}
+use Rattle.world_keeps_streams.proofs.Common.{eqb-true, Host, same_host, HostMessage, same_host-true, Command, Stream, Legal, orders_of, data_taken, desk_of, is_busy, PairState, message_taken, orders_taken, with_desk, AreJoint, eqb-sym, IsTelling, stays_ready, accepted, turn_of, pair_with, message_leaves, IsApart, message_on, Moment, Crossed, IsStory, event_in, events_of, places, program, program_own, keeps, AText, AnRrp, AnRst, Sort, message_pair, plain_joint, sort_of, waiting, AreOurs, Network}
+use Rattle.std.proofs.Common.{◌≡◌, ℕ, ◌==◌, Bool, true, false, not, ◌&&◌, if◌then◌else◌, List, [], ◌∷◌, ◌++◌, length, Option, Some, None, refl, ap, sym, subst, ◌∙◌, append-nil}
+use Rattle.stream_law.specs.Words.{covers, for, is_size}
+use Rattle.pair_keeps_streams.proofs.lemmas.{Fetched, Free, Joint, Lies, Party, Post, Steps, receives}
+use Rattle.reset_law.specs.Boxes.{Fetch, posted, boxes, Box, Waiting, Taken, WaitsWith, fetched}
+use Rattle.reset_law.specs.Events.{In, Message, Other, are, place, when, Reset, Reply}
+use Rattle.world_keeps_streams.specs.Calls.{message_calls, orders_heard, own_calls}
 use Rattle.interface.specs.declared.crossing.Crossing.TheVariants as crossing
 use Rattle.interface.specs.declared.crossing.Inbound.TheVariants as inbound
 use Rattle.ncp_control.specs.declared.command.Command.TheVariants as command
@@ -10,9 +14,6 @@ use Rattle.stream_law.specs.Receivers as receivers
 use Rattle.stream_law.specs.Receivers.{Receiver}
 use Rattle.stream_law.specs.Within.{IsPrefix}
 use Rattle.ncp_control.specs.Phases as program_phases
-use Rattle.pair_keeps_streams.proofs.lemmas.{receives}
-use Rattle.reset_law.specs.Boxes.{Box, Waiting, Taken, WaitsWith, fetched}
-use Rattle.reset_law.specs.Events.{Reset, Reply}
 use Rattle.reset_law.specs.Runs.{IsRun}
 use Rattle.reset_law.specs.Stays as stay
 use Rattle.world_keeps_streams.proofs.Steps.Going.{Goes, Here, passes_here, stays_as, takes_here}

@@ -1,10 +1,11 @@
 -- A message goes out of a host.
-use Rattle.world_keeps_streams.proofs.Common.{◌≡◌, ℕ, ◌==◌, Bool, true, false, not, ◌&&◌, if◌then◌else◌, List, [], ◌∷◌, ◌++◌, Some, refl, ap, sym, subst, ◌∙◌, eqb-true, Host, same_host, HostMessage, same_host-true, Command, Stream, desk_of, PairState, link_for, next_of, pair_after, parcel_gone, text_for, eqb-sym, IsRanged, IsReadBack, offer_read, IsTelling, gone_now, name_of, Joint, NotTaken, Party, Steps, Put, posted, boxes, Message, Other, Out, Send, are, place, when, Pair, pair_moved, pair, stays_ready, NcpState, pair_with, next_in, offered, next_is, next_pair, offer_leaves, message_on, Moment, Crossed, IsNext, IsStory, event_in, events_of, places, program, story_agrees, keeps, AText, AnRrp, AnRst, Sort, offered_pair, sort_of, next_calls, own_calls, parcel_calls}
-use Rattle.reset_law.specs.Network.{AreOurs, Network}
+use Rattle.world_keeps_streams.proofs.Common.{◌≡◌, ℕ, ◌==◌, Bool, true, false, not, ◌&&◌, if◌then◌else◌, List, [], ◌∷◌, ◌++◌, Some, refl, ap, sym, subst, ◌∙◌, eqb-true, Host, same_host, HostMessage, same_host-true, Command, Stream, desk_of, PairState, link_for, next_of, pair_after, parcel_gone, text_for, eqb-sym, IsRanged, IsReadBack, offer_read, IsTelling, gone_now, name_of, Joint, NotTaken, Party, Steps, Pair, pair_moved, pair, stays_ready, ready_phase, NcpState, pair_with, next_in, offered, message_on, Moment, Crossed, IsNext, IsStory, event_in, events_of, places, program, story_agrees, keeps, next_calls, own_calls, parcel_calls, AreOurs, Network, clash}
+use Rattle.reset_law.specs.Boxes.{Put, posted, boxes, Box, Empty, Waiting}
+use Rattle.reset_law.specs.Events.{Message, Other, Out, Send, are, place, when, Reset, Reply}
+use Rattle.sockets.proofs.lemmas.{next_is, next_pair, offer_leaves}
+use Rattle.world_keeps_pairing.proofs.lemmas.{AText, AnRrp, AnRst, Sort, offered_pair, sort_of}
 use Rattle.interface.specs.declared.crossing.Crossing.TheVariants as crossing
 use Rattle.ncp_control.specs.declared.phase.Phase.TheVariants as phase
-use Rattle.reset_law.specs.Boxes.{Box, Empty, Waiting}
-use Rattle.reset_law.specs.Events.{Reset, Reply}
 use Rattle.reset_law.specs.Runs.{IsRun}
 use Rattle.ncp_control.specs.Phases as phases
 use Rattle.reset_law.specs.Stays as stay
@@ -16,8 +17,6 @@ use Rattle.world_keeps_streams.proofs.Steps.Joined.{commands_in, post_in}
 use Rattle.world_keeps_streams.proofs.Calls.MayCalls.{MayCalls}
 use Rattle.world_keeps_streams.proofs.Stays.Resets.{leaves_by}
 use Rattle.world_keeps_streams.proofs.Calls.Chain.{ready_both, plain_at}
-use Rattle.reset_law.proofs.lemmas.{ready_phase}
-use Rattle.world_keeps_lives.proofs.lemmas.{clash}
 
 -- where a request of the one hasn't gone out, the other hasn't taken it
 abbrev pub FindsNone : (ℕ → ℕ → ℕ → ℕ) → (ℕ → ℕ → ℕ → ℕ) → Host → Host → List Moment → Party → Type 0

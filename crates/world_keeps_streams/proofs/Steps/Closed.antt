@@ -1,11 +1,13 @@
 -- A connection that the law's sender has closed stays closed, and nothing is sent in it any more.
-use Rattle.world_keeps_streams.proofs.Common.{◌≡◌, ℕ, ◌==◌, Bool, true, false, if◌then◌else◌, List, [], ◌∷◌, ◌++◌, Option, Some, None, refl, ap, sym, subst, ◌∙◌, eqb-true, Host, Allocation, Word, Rts, All, Gvb, Cls, for, Entry, all_sent, AreAllowed, IsHistory, IsTelling, gone_now, name_now, receiver_now, sender_now, sent_at, holds_now}
+use Rattle.world_keeps_streams.proofs.Common.{◌≡◌, ℕ, ◌==◌, Bool, true, false, if◌then◌else◌, List, [], ◌∷◌, ◌++◌, Option, Some, None, refl, ap, sym, subst, ◌∙◌, eqb-true, Host, Allocation, Entry}
+use Rattle.stream_law.specs.Words.{Word, Rts, All, Gvb, Cls, for}
+use Rattle.host_keeps_streams.specs.Closings.{all_sent, MayAllSend}
+use Rattle.host_keeps_streams.specs.Histories.{AreAllowed, IsHistory, IsTelling, gone_now, name_now, receiver_now, sender_now, sent_at}
+use Rattle.host_keeps_streams.proofs.lemmas.{holds_now, Holds, step_sent}
 use Rattle.ncp_control.specs.Allocation as counters
 use Rattle.stream_law.specs.Senders as senders
 use Rattle.stream_law.specs.Senders.{Sender}
-use Rattle.host_keeps_streams.specs.Closings.{MayAllSend}
 use Rattle.host_keeps_streams.specs.Histories as calls
-use Rattle.host_keeps_streams.proofs.lemmas.{Holds, step_sent}
 use Rattle.world_keeps_streams.proofs.Facts.{last_off}
 
 pub record Kept (old new : Sender) (c : ℕ) : Type 0 where

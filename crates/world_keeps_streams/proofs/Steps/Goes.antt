@@ -1,12 +1,9 @@
 -- A moment in which no stay begins keeps two programs beside two streams of a link; and so they are at all lawful moments.
-use Rattle.world_keeps_streams.proofs.Common.{◌≡◌, ℕ, ◌==◌, Bool, true, false, if◌then◌else◌, List, [], ◌∷◌, ◌++◌, refl, ap, sym, subst, ◌∙◌, eqb-true, Host, HostMessage, Command, Stream, opening_stream, IsRanged, AreAllowed, IsTelling, gone_now, numbered, name_of, numbered_tells, Joint, NotTaken, Party, Steps, Fetch, posted, boxes, Event, Message, Other, Out, are, place, when, begins_either, carry, pair_with, Request, HaveAddresses, event_by, message_on, Moment, Crossed, Asked, IsStory, event_in, events_of, program, crossings_of, Coupled, by_request, mail_below, programs_ranged, calls_by, own_calls}
-use Rattle.net_sim.proofs.lemmas.{coupled}
-use Rattle.world_keeps_pairing.proofs.lemmas.{served_in}
-use Rattle.reset_law.specs.Network.{AreOurs, Network}
-use Rattle.net_sim.specs.Mixed.{Happened}
+use Rattle.world_keeps_streams.proofs.Common.{◌≡◌, ℕ, ◌==◌, Bool, true, false, if◌then◌else◌, List, [], ◌∷◌, ◌++◌, refl, ap, sym, subst, ◌∙◌, eqb-true, Host, HostMessage, Command, Stream, opening_stream, IsRanged, AreAllowed, IsTelling, gone_now, numbered, name_of, numbered_tells, Joint, NotTaken, Party, Steps, begins_either, carry, pair_with, Request, HaveAddresses, event_by, message_on, Moment, Crossed, Asked, IsStory, event_in, events_of, program, crossings_of, Coupled, by_request, coupled, mail_below, programs_ranged, served_in, calls_by, own_calls, AreOurs, Network, Happened}
+use Rattle.reset_law.specs.Boxes.{Fetch, posted, boxes, Box, Empty, fetched}
+use Rattle.reset_law.specs.Events.{Event, Message, Other, Out, are, place, when}
 use Rattle.interface.specs.Mailboxes as mail
 use Rattle.interface.specs.declared.crossing.Crossing.TheVariants as crossing
-use Rattle.reset_law.specs.Boxes.{Box, Empty, fetched}
 use Rattle.reset_law.specs.Runs.{IsRun}
 use Rattle.reset_law.specs.Stays as stay
 use Rattle.world_keeps_streams.proofs.Steps.ActsAnswer.{act_answer, act_up}

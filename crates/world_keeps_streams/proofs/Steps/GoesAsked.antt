@@ -1,14 +1,15 @@
 -- What a user asks for keeps two streams of a link beside the program.
-use Rattle.world_keeps_streams.proofs.Common.{◌≡◌, ℕ, Bool, true, false, cond, List, [], ◌∷◌, ◌++◌, Option, Some, None, refl, ap, sym, subst, ◌∙◌, if◌then◌else◌, Host, same_host, same_host-true, Command, Stream, closed_end, commanded, contacted, interrupt_of, receiver_requested, requested, with_end, with_more_bits, listens_on, free_link, is_busy, is_receiving, sending_end, PairState, Entry, Hears, Takes, Says, Sends, Answered, OpensReceiver, OpensSender, Grants, AsksBack, Gives, Closes, IsAllowed, IsTelling, ends_by, is_out, Free, IsAsking, IsPairedCall, IsWordless, Party, Post, Steps, queue_by, NcpState, owner_of, pair_with, at_owner, closed_socket, with_peer, Request, pair_changed, owner_calls, request_calls}
+use Rattle.world_keeps_streams.proofs.Common.{◌≡◌, ℕ, Bool, true, false, cond, List, [], ◌∷◌, ◌++◌, Option, Some, None, refl, ap, sym, subst, ◌∙◌, if◌then◌else◌, Host, same_host, same_host-true, Command, Stream, closed_end, commanded, contacted, interrupt_of, receiver_requested, requested, with_end, with_more_bits, listens_on, free_link, is_busy, is_receiving, sending_end, PairState, Entry, NcpState, owner_of, pair_with, Request, pair_changed}
+use Rattle.host_keeps_streams.specs.Histories.{Hears, Takes, Says, Sends, Answered, OpensReceiver, OpensSender, Grants, AsksBack, Gives, Closes, IsAllowed, IsTelling, ends_by, is_out, Call}
+use Rattle.pair_keeps_streams.proofs.lemmas.{Free, IsAsking, IsPairedCall, IsWordless, Party, Post, Steps, queue_by}
+use Rattle.sockets.specs.Requests.{at_owner, closed_socket, with_peer, served}
+use Rattle.world_keeps_streams.specs.Calls.{owner_calls, request_calls, called}
 use Rattle.ncp_control.specs.declared.command.Command.TheVariants as command
 use Rattle.stream_law.specs.Senders.{Sender}
 use Rattle.host_pairs.specs.Commands.{granted}
 use Rattle.host_pairs.specs.Parcels.{link_of}
 use Rattle.host_keeps_streams.specs.Histories as calls
-use Rattle.host_keeps_streams.specs.Histories.{Call}
-use Rattle.sockets.specs.Requests.{served}
 use Rattle.sockets.specs.declared.request.Request.TheVariants as request
-use Rattle.world_keeps_streams.specs.Calls.{called}
 use Rattle.world_keeps_streams.proofs.Steps.Going.{Goes, Here, asks_here, stays_as, wordless_here}
 use Rattle.world_keeps_streams.proofs.Calls.MayCalls.{MayCalls}
 

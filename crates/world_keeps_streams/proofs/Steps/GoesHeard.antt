@@ -1,12 +1,11 @@
 -- What a host that stays takes of its peer; and what one takes that has left.
-use Rattle.world_keeps_streams.proofs.Common.{◌≡◌, ℕ, true, false, List, [], ◌∷◌, ◌++◌, refl, ap, sym, ◌∙◌, Host, Command, Stream, desk_taken, Order, Legal, Wrong, error, desk_of, command_queued, is_busy, PairState, is_ready, TurnState, order_taken, orders_taken, with_desk, AreJoint, ready_when, Hears, IsTelling, Free, Joint, Party, Post, Steps, orders_heard}
+use Rattle.world_keeps_streams.proofs.Common.{◌≡◌, ℕ, true, false, List, [], ◌∷◌, ◌++◌, refl, ap, sym, ◌∙◌, Host, Command, Stream, desk_taken, Order, Legal, Wrong, error, desk_of, command_queued, is_busy, PairState, is_ready, TurnState, order_taken, orders_taken, with_desk, AreJoint, ready_when, Hears, IsTelling, Free, Joint, Party, Post, Steps, clash}
+use Rattle.world_keeps_streams.specs.Calls.{orders_heard, called}
 use Rattle.ncp_control.specs.declared.command.Command.TheVariants as command
 use Rattle.host_keeps_streams.specs.Histories as calls
-use Rattle.world_keeps_streams.specs.Calls.{called}
 use Rattle.world_keeps_streams.proofs.Steps.Going.{Goes, Here, hears_here, standing, stays_as, then_goes, wordless_here}
 use Rattle.world_keeps_streams.proofs.Steps.Joined.{legal_in}
 use Rattle.world_keeps_streams.proofs.Calls.MayCalls.{MayCalls}
-use Rattle.world_keeps_lives.proofs.lemmas.{clash}
 
 -- ---- a receiver that takes
 

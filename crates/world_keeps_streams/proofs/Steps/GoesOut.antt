@@ -1,7 +1,6 @@
 -- What a host that doesn't stay leaves in its boxes; and what a host that stays knows of them.
-use Rattle.world_keeps_streams.proofs.Common.{◌≡◌, ◌⊎◌, inl, inr, ℕ, Bool, true, false, List, ◌++◌, ap, sym, subst, ◌∙◌, Host, Command, Stream, is_busy, IsTelling, boxes, stays_ready, pair_with, Moment, IsStory, events_of, program, story_agrees, Free, Joint, Lies, Party, Post, Steps}
-use Rattle.reset_law.specs.Network.{AreOurs, Network}
-use Rattle.reset_law.specs.Boxes.{Box, Empty}
+use Rattle.world_keeps_streams.proofs.Common.{◌≡◌, ◌⊎◌, inl, inr, ℕ, Bool, true, false, List, ◌++◌, ap, sym, subst, ◌∙◌, Host, Command, Stream, is_busy, IsTelling, stays_ready, pair_with, Moment, IsStory, events_of, program, story_agrees, Free, Joint, Lies, Party, Post, Steps, AreOurs, Network}
+use Rattle.reset_law.specs.Boxes.{boxes, Box, Empty}
 use Rattle.reset_law.specs.Runs.{IsRun}
 use Rattle.reset_law.specs.Stays as stay
 use Rattle.world_keeps_streams.proofs.Steps.Held.{Acted, acted_out, side}

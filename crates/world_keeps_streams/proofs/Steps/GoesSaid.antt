@@ -1,14 +1,15 @@
 -- What goes out of a host that stays keeps two streams of a link beside its program.
-use Rattle.world_keeps_streams.proofs.Common.{◌≡◌, ℕ, zero, suc, ◌==◌, Bool, true, false, not, ◌&&◌, if◌then◌else◌, List, [], ◌∷◌, ◌++◌, map, take, drop, Option, Some, None, is_some, refl, ap, sym, subst, ◌∙◌, Host, Command, Stream, MayGo, Order, Legal, orders_of, DeskState, desk_of, is_busy, is_link, sends_on, PairState, Parcel, command_gone, commands_gone, link_for, next_of, pair_after, parcel_gone, text_for, with_connections, Entry, Listener, Phase, what_goes, IsReadBack, IsTelling, Says, gone_now, name_of, Free, NotTaken, Party, Post, Steps, Other, Pair, Agrees, ArePlain, control_message, message_on, data_away, plain_take, eqb-sym, commands_said, parcel_calls}
+use Rattle.world_keeps_streams.proofs.Common.{◌≡◌, ℕ, zero, suc, ◌==◌, Bool, true, false, not, ◌&&◌, if◌then◌else◌, List, [], ◌∷◌, ◌++◌, map, take, drop, Option, Some, None, is_some, refl, ap, sym, subst, ◌∙◌, Host, Command, Stream, MayGo, Order, Legal, orders_of, DeskState, desk_of, is_busy, is_link, sends_on, PairState, Entry, Listener, Phase, what_goes, IsReadBack, IsTelling, Says, gone_now, name_of, Other, Pair, eqb-sym}
+use Rattle.host_pairs.specs.Parcels.{Parcel, command_gone, commands_gone, link_for, next_of, pair_after, parcel_gone, text_for, with_connections, link_of}
+use Rattle.pair_keeps_streams.proofs.lemmas.{Free, NotTaken, Party, Post, Steps, taken_gone}
+use Rattle.net_sim.specs.Projection.{Agrees, ArePlain, control_message, message_on}
+use Rattle.net_sim.proofs.lemmas.{data_away, plain_take, says_reply}
+use Rattle.world_keeps_streams.specs.Calls.{commands_said, parcel_calls, called}
 use Rattle.ncp_control.specs.declared.command.Command.TheVariants as command
 use Rattle.host_pairs.specs.Parcels as parcel
-use Rattle.host_pairs.specs.Parcels.{link_of}
 use Rattle.ncp_control.specs.declared.phase.Phase.TheVariants as phase
 use Rattle.host_keeps_streams.specs.Histories as calls
-use Rattle.pair_keeps_streams.proofs.lemmas.{taken_gone}
 use Rattle.reset_law.specs.Boxes.{Box, Empty, Waiting}
-use Rattle.net_sim.proofs.lemmas.{says_reply}
-use Rattle.world_keeps_streams.specs.Calls.{called}
 use Rattle.world_keeps_streams.proofs.Steps.Going.{Goes, Here, bytes_here, no_bytes_here, renamed, says_here, stays_as, then_goes}
 use Rattle.world_keeps_streams.proofs.Steps.Joined.{commands_in, commands_of_message, legal_in, post_in, post_of_message}
 use Rattle.world_keeps_streams.proofs.Calls.Leads.{gone_same}

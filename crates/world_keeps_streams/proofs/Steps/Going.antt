@@ -1,14 +1,14 @@
 -- One host that stays, beside one peer: its calls one after another, upon two streams of a link.
-use Rattle.world_keeps_streams.proofs.Common.{◌≡◌, ℕ, ◌==◌, ◌*◌, Bool, true, false, List, [], ◌∷◌, ◌++◌, take, Some, refl, ap, sym, subst, ◌∙◌, append_assoc, Host, IsCommand, IsHeader, Command, Stream, is_busy, sends_on, PairState, Bytes, next_of, Entry, Listener, all_received, all_sent, HasSaid, Hears, Takes, Says, Answered, AreAllowed, IsAllowed, IsTelling, ends_by, gone_by, gone_now, is_out, received_at, receiver_now, sender_now, sent_at, name_of, Fetched, Free, IsAsking, IsFirst, IsHeard, IsPaired, IsPairedCall, IsWordless, Joint, Lies, NotTaken, Party, Post, Stepped, Steps, queue_by, receives_receiver, receives_sender, sends_receiver, sends_sender, x_after, y_after}
+use Rattle.world_keeps_streams.proofs.Common.{◌≡◌, ℕ, ◌==◌, ◌*◌, Bool, true, false, List, [], ◌∷◌, ◌++◌, take, Some, refl, ap, sym, subst, ◌∙◌, append_assoc, Host, IsCommand, IsHeader, Command, Stream, is_busy, sends_on, PairState, Bytes, next_of, Entry, Listener, all_received, all_sent, name_of}
+use Rattle.host_keeps_streams.specs.Formed.{HasSaid, FindsFree}
+use Rattle.host_keeps_streams.specs.Histories.{Hears, Takes, Says, Answered, AreAllowed, IsAllowed, IsTelling, ends_by, gone_by, gone_now, is_out, received_at, receiver_now, sender_now, sent_at, Call}
+use Rattle.pair_keeps_streams.proofs.lemmas.{Fetched, Free, IsAsking, IsFirst, IsHeard, IsPaired, IsPairedCall, IsWordless, Joint, Lies, NotTaken, Party, Post, Stepped, Steps, queue_by, receives_receiver, receives_sender, sends_receiver, sends_sender, x_after, y_after, IsRequest, finds_free, receives, sends}
 use Rattle.stream_law.specs.Receivers as receivers
 use Rattle.stream_law.specs.Receivers.{Receiver}
 use Rattle.stream_law.specs.Senders as senders
 use Rattle.stream_law.specs.Senders.{Sender}
 use Rattle.host_pairs.specs.Data.{data_text}
-use Rattle.host_keeps_streams.specs.Formed.{FindsFree}
 use Rattle.host_keeps_streams.specs.Histories as calls
-use Rattle.host_keeps_streams.specs.Histories.{Call}
-use Rattle.pair_keeps_streams.proofs.lemmas.{IsRequest, finds_free, receives, sends}
 use Rattle.world_keeps_streams.specs.Calls.{called}
 
 -- a host that stays with a peer: what waits to be taken of it, and after that what waits in its program

@@ -1,7 +1,7 @@
 -- The two programs of a pair of hosts of a world on one link, beside two runs of the law of streams.
-use Rattle.world_keeps_streams.proofs.Common.{◌≡◌, ℕ, Bool, true, false, List, [], ◌∷◌, ◌++◌, Host, Command, boxes, Message, Other, Stream, Order, Legal, Wrong, orders_of, AreAllowed, IsTelling, gone_now, numbered, receiver_now, sender_now, numbered_tells, pair_with, Moment, events_of, program, Fetched, Free, Joint, Lies, Party, Post, own_calls}
+use Rattle.world_keeps_streams.proofs.Common.{◌≡◌, ℕ, Bool, true, false, List, [], ◌∷◌, ◌++◌, Host, Command, boxes, Stream, Order, Legal, Wrong, orders_of, AreAllowed, IsTelling, gone_now, numbered, receiver_now, sender_now, numbered_tells, pair_with, Moment, events_of, program, Fetched, Free, Joint, Lies, Party, Post, own_calls}
+use Rattle.reset_law.specs.Events.{Message, Other, Reset, Reply}
 use Rattle.reset_law.specs.Boxes as reset
-use Rattle.reset_law.specs.Events.{Reset, Reply}
 use Rattle.reset_law.specs.Stays as stay
 use Rattle.stream_law.specs.Receivers.{Receiver}
 use Rattle.stream_law.specs.Within.{IsPrefix}

@@ -1,7 +1,5 @@
 -- Two programs of a world are beside two streams of each link at all lawful moments.
-use Rattle.world_keeps_streams.proofs.Common.{◌≡◌, ℕ, ◌==◌, false, List, [], ◌∷◌, refl, Host, opening_stream, numbered, numbered_tells, Joint, Steps, all_steps, mirror, opened, HaveAddresses, Moment, event_in, events_of, crossings_of}
-use Rattle.reset_law.specs.Network.{AreOurs, Network}
-use Rattle.net_sim.specs.Mixed.{Happened}
+use Rattle.world_keeps_streams.proofs.Common.{◌≡◌, ℕ, ◌==◌, false, List, [], ◌∷◌, refl, Host, opening_stream, numbered, numbered_tells, Joint, Steps, all_steps, mirror, opened, HaveAddresses, Moment, event_in, events_of, crossings_of, AreOurs, Network, Happened}
 use Rattle.interface.specs.Mailboxes as mail
 use Rattle.reset_law.specs.Stays as stay
 use Rattle.world_keeps_streams.proofs.Steps.Goes as going

@@ -1,9 +1,9 @@
 -- The two halves of a moment, one after the other: what each of two hosts does by it.
-use Rattle.world_keeps_streams.proofs.Common.{◌≡◌, ℕ, true, List, ◌∷◌, ◌++◌, ap, sym, subst, ◌∙◌, Host, Command, Stream, AreAllowed, numbered, numbered_tells, Joint, Party, boxes, Moment, events_of, own_calls}
+use Rattle.world_keeps_streams.proofs.Common.{◌≡◌, ℕ, true, List, ◌∷◌, ◌++◌, ap, sym, subst, ◌∙◌, Host, Command, Stream, AreAllowed, numbered, numbered_tells, Joint, Party, Moment, events_of, own_calls}
+use Rattle.reset_law.specs.Boxes.{boxes, Box}
 use Rattle.stream_law.specs.Receivers.{Receiver}
 use Rattle.stream_law.specs.Senders.{Sender}
 use Rattle.stream_law.specs.Within.{IsPrefix}
-use Rattle.reset_law.specs.Boxes.{Box}
 use Rattle.reset_law.specs.Stays as stay
 use Rattle.world_keeps_streams.proofs.Steps.Held.{Acted, Held, side}
 use Rattle.world_keeps_streams.proofs.Steps.Joined.{IsSettled, Joined, Keeps, commands_in, party, post_in, numbered_by_peer, turned_tells}

@@ -1,12 +1,13 @@
 -- What the calls of one moment do to a receiving end: a user closes it, commands are heard, or neither.
-use Rattle.world_keeps_streams.proofs.Common.{◌≡◌, ◌⊎◌, inl, inr, ℕ, ◌==◌, ◌&&◌, Bool, true, false, if◌then◌else◌, List, [], ◌∷◌, ◌++◌, take, find, Option, Some, None, refl, sym, subst, ◌∙◌, eq-eqb, eqb-true, Host, same_host, Crossing, same_host-refl, same_host-true, Command, Order, Legal, Wrong, orders_of, desk_of, listens_on, is_busy, is_mine_on, PairState, Parcel, command_gone, with_connections, TurnState, order_taken, Entry, Listener, both, is_ready, AreAllowed, Closes, HasClosed, Hears, Says, gone_now, name_now, numbered, find_passes, numbered_tells, turn_of, NcpState, owner_of, pair_with, next_in, Peer, Request, lives_at, Asked, Crossed, Moment, places, program, answer_calls, calls_by, commands_said, message_calls, next_calls, orders_heard, own_calls, owner_calls, parcel_calls, request_calls}
+use Rattle.world_keeps_streams.proofs.Common.{◌≡◌, ◌⊎◌, inl, inr, ℕ, ◌==◌, ◌&&◌, Bool, true, false, if◌then◌else◌, List, [], ◌∷◌, ◌++◌, take, find, Option, Some, None, refl, sym, subst, ◌∙◌, eq-eqb, eqb-true, Host, same_host, Crossing, same_host-refl, same_host-true, Command, Order, Legal, Wrong, orders_of, desk_of, listens_on, is_busy, is_mine_on, PairState, Parcel, command_gone, with_connections, TurnState, order_taken, Entry, Listener, both, is_ready, turn_of, NcpState, owner_of, pair_with, next_in, Peer, Request, lives_at, Asked, Crossed, Moment, places, program}
+use Rattle.host_keeps_streams.specs.Histories.{AreAllowed, Closes, HasClosed, Hears, Says, gone_now, name_now, numbered, Call}
+use Rattle.host_keeps_streams.proofs.lemmas.{find_passes, numbered_tells}
+use Rattle.world_keeps_streams.specs.Calls.{answer_calls, calls_by, commands_said, message_calls, next_calls, orders_heard, own_calls, owner_calls, parcel_calls, request_calls, called}
 use Rattle.interface.specs.declared.crossing.Crossing.TheVariants as crossing
 use Rattle.host_pairs.specs.Parcels as parcel
 use Rattle.host_keeps_streams.specs.Histories as calls
-use Rattle.host_keeps_streams.specs.Histories.{Call}
 use Rattle.sockets.specs.declared.request.Request.TheVariants as request
 use Rattle.promise.specs.declared.life.Life.{Life}
-use Rattle.world_keeps_streams.specs.Calls.{called}
 use Rattle.world_keeps_streams.proofs.Lives.Fates.{IsClose}
 use Rattle.world_keeps_streams.proofs.Steps.Overs.{AllHearNone, HearsNone}
 use Rattle.world_keeps_streams.proofs.Steps.Unsaid.{AllHear}

@@ -1,16 +1,16 @@
 -- What the law's receivers have of a CLS of the sender: it names no link, so all of them hear it; and once it was heard nothing is granted more.
-use Rattle.world_keeps_streams.proofs.Common.{◌≡◌, ℕ, ◌==◌, ◌&&◌, not, Bool, true, false, if◌then◌else◌, List, [], ◌∷◌, ◌++◌, length, Option, Some, None, is_some, refl, ap, sym, subst, ◌∙◌, eqb-true, Host, header_of, Command, DataHeader, Rts, Str, All, Gvb, Ret, Cls, covers, for, is_size, DeskState, desk_of, listener_on, entry_at, free_link, is_receiving, receives_on, PairState, Closing, Entry, Listener, MayAllReceive, all_received, received_close, received_gone, received_open, Hears, Takes, Says, OpensReceiver, Grants, AsksBack, Closes, AreAllowed, IsHistory, IsTelling, gone_now, name_now, received_at, receiver_now, sender_now, answers_str, asked_received, closed_received, closes_on, cls_received, data_received, received_by, received_out, str_received, holds_now, step_received}
+use Rattle.world_keeps_streams.proofs.Common.{◌≡◌, ℕ, ◌==◌, ◌&&◌, not, Bool, true, false, if◌then◌else◌, List, [], ◌∷◌, ◌++◌, length, Option, Some, None, is_some, refl, ap, sym, subst, ◌∙◌, eqb-true, Host, header_of, Command, DataHeader, DeskState, desk_of, listener_on, entry_at, free_link, is_receiving, receives_on, PairState, Closing, Entry, Listener, MayAllReceive, all_received, received_close, received_gone, received_open}
+use Rattle.stream_law.specs.Words.{Rts, Str, All, Gvb, Ret, Cls, covers, for, is_size, holds}
+use Rattle.host_keeps_streams.specs.Histories.{Hears, Takes, Says, OpensReceiver, Grants, AsksBack, Closes, AreAllowed, IsHistory, IsTelling, gone_now, name_now, received_at, receiver_now, sender_now, Call}
+use Rattle.host_keeps_streams.specs.Moves.{answers_str, asked_received, closed_received, closes_on, cls_received, data_received, received_by, received_out, str_received, asks_for, on_link}
+use Rattle.host_keeps_streams.proofs.lemmas.{holds_now, step_received, Holds}
 use Rattle.ncp_control.specs.declared.command.Command.TheVariants as command
 use Rattle.ncp_control.specs.Allocation as counters
-use Rattle.stream_law.specs.Words.{holds}
 use Rattle.stream_law.specs.Receivers as receivers
 use Rattle.stream_law.specs.Receivers.{Receiver}
 use Rattle.host_pairs.specs.declared.entry.Closing.TheVariants as closing
 use Rattle.host_keeps_streams.specs.Histories as calls
-use Rattle.host_keeps_streams.specs.Histories.{Call}
-use Rattle.host_keeps_streams.specs.Moves.{asks_for, on_link}
 use Rattle.host_keeps_streams.specs.Names.{named}
-use Rattle.host_keeps_streams.proofs.lemmas.{Holds}
 use Rattle.world_keeps_streams.proofs.Facts.{last_off}
 
 -- ---- moves other than the hearing of a CLS

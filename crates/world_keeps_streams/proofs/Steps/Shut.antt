@@ -1,13 +1,13 @@
 -- A receiving end that a user closed has said its CLS, by what the law's receiver has of its connection; and an end that is there later was there already,
 -- where its connection had been asked for.
-use Rattle.world_keeps_streams.proofs.Common.{◌≡◌, inl, inr, ℕ, ◌==◌, ◌&&◌, Bool, true, false, if◌then◌else◌, List, [], ◌∷◌, ◌++◌, length, Option, Some, None, refl, ap, sym, subst, ◌∙◌, Host, Str, Ret, Cls, covers, for, is_size, for_here, some_is, receives_on, PairState, Entry, Listener, MayAllReceive, all_received, AreAllowed, Closes, HasClosed, IsHistory, IsTelling, gone_now, name_now, received_at, receiver_now, sender_now, holds_now, step_received}
-use Rattle.stream_law.specs.Words.{holds}
+use Rattle.world_keeps_streams.proofs.Common.{◌≡◌, inl, inr, ℕ, ◌==◌, ◌&&◌, Bool, true, false, if◌then◌else◌, List, [], ◌∷◌, ◌++◌, length, Option, Some, None, refl, ap, sym, subst, ◌∙◌, Host, for_here, some_is, receives_on, PairState, Entry, Listener, MayAllReceive, all_received}
+use Rattle.stream_law.specs.Words.{Str, Ret, Cls, covers, for, is_size, holds}
+use Rattle.host_keeps_streams.specs.Histories.{AreAllowed, Closes, HasClosed, IsHistory, IsTelling, gone_now, name_now, received_at, receiver_now, sender_now, Call, IsClosing}
+use Rattle.host_keeps_streams.proofs.lemmas.{holds_now, step_received, Holds}
 use Rattle.stream_law.specs.Receivers as receivers
 use Rattle.stream_law.specs.Receivers.{Receiver}
 use Rattle.host_keeps_streams.specs.Histories as calls
-use Rattle.host_keeps_streams.specs.Histories.{Call, IsClosing}
 use Rattle.host_keeps_streams.specs.Names.{named}
-use Rattle.host_keeps_streams.proofs.lemmas.{Holds}
 use Rattle.interface.proofs.lemmas.{unlike}
 
 -- ---- a connection that was asked for

@@ -1,12 +1,10 @@
 -- What two programs of a world that stay together have of each link, as the law of streams has it.
-use Rattle.world_keeps_streams.proofs.Common.{◌≡◌, ℕ, ◌==◌, Bool, true, false, List, refl, ap, sym, subst, ◌∙◌, Host, Entry, HasReceiver, AreAllowed, HasClosed, gone_now, name_now, numbered, receiver_now, sender_now, IsSending, closed_first, holds_now, numbered_tells, IsSafe, safe_inv, pair_with, HaveAddresses, Moment, events_of, program, crossings_of, own_calls, numbered_by_peer}
-use Rattle.reset_law.specs.Network.{AreOurs, Network}
-use Rattle.net_sim.specs.Mixed.{Happened}
+use Rattle.world_keeps_streams.proofs.Common.{◌≡◌, ℕ, ◌==◌, Bool, true, false, List, refl, ap, sym, subst, ◌∙◌, Host, Entry, HasReceiver, AreAllowed, HasClosed, gone_now, name_now, numbered, receiver_now, sender_now, IsSending, safe_inv, pair_with, HaveAddresses, Moment, events_of, program, crossings_of, own_calls, numbered_by_peer, AreOurs, Network, Happened}
+use Rattle.host_keeps_streams.proofs.lemmas.{closed_first, holds_now, numbered_tells, Holds}
+use Rattle.stream_law.specs.Within.{IsSafe, AreGranted, IsPrefix}
 use Rattle.interface.specs.Mailboxes as mail
-use Rattle.host_keeps_streams.proofs.lemmas.{Holds}
 use Rattle.stream_law.specs.Receivers.{Receiver}
 use Rattle.stream_law.specs.Senders.{Sender}
-use Rattle.stream_law.specs.Within.{AreGranted, IsPrefix}
 use Rattle.reset_law.specs.Stays as stay
 use Rattle.world_keeps_streams.proofs.Calls.Allowed.{may_calls}
 use Rattle.world_keeps_streams.proofs.Calls.Chain.{Chained, chain}

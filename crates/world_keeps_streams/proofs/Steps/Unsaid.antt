@@ -1,14 +1,14 @@
 -- A receiving end that hasn't said its CLS doesn't go where commands are heard: it says its own first.
-use Rattle.world_keeps_streams.proofs.Common.{◌≡◌, ℕ, ◌==◌, ◌&&◌, Bool, true, false, if◌then◌else◌, List, [], ◌∷◌, ◌++◌, filter, Option, Some, None, is_some, refl, ap, sym, subst, ◌∙◌, eqb-true, Host, Command, Word, Str, Ret, Cls, for, for_here, some_is, DeskState, desk_of, listener_on, entry_at, free_link, has_cls, is_at, is_receiving, receives_on, PairState, Closing, Entry, Listener, both, not_is, MayAllReceive, all_received, received_close, received_open, HasReceiver, IsReceiver, AreAllowed, Hears, IsHistory, IsTelling, gone_now, name_now, received_at, receiver_now, sender_now, answers_str, closes_on, cls_received, received_by, str_received, holds_now, step_received}
-use Rattle.std.proofs.Common.{not}
+use Rattle.world_keeps_streams.proofs.Common.{◌≡◌, ℕ, ◌==◌, ◌&&◌, Bool, true, false, if◌then◌else◌, List, [], ◌∷◌, ◌++◌, filter, Option, Some, None, is_some, refl, ap, sym, subst, ◌∙◌, not, eqb-true, Host, Command, for_here, some_is, DeskState, desk_of, listener_on, entry_at, free_link, has_cls, is_at, is_receiving, receives_on, PairState, Closing, Entry, Listener, both, not_is, MayAllReceive, all_received, received_close, received_open, HasReceiver, IsReceiver}
+use Rattle.stream_law.specs.Words.{Word, Str, Ret, Cls, for, holds}
+use Rattle.host_keeps_streams.specs.Histories.{AreAllowed, Hears, IsHistory, IsTelling, gone_now, name_now, received_at, receiver_now, sender_now, Call}
+use Rattle.host_keeps_streams.specs.Moves.{answers_str, closes_on, cls_received, received_by, str_received}
+use Rattle.host_keeps_streams.proofs.lemmas.{holds_now, step_received, Holds}
 use Rattle.ncp_control.specs.declared.command.Command.TheVariants as command
-use Rattle.stream_law.specs.Words.{holds}
 use Rattle.stream_law.specs.Receivers as receivers
 use Rattle.stream_law.specs.Receivers.{Receiver}
 use Rattle.host_pairs.specs.declared.entry.Closing.TheVariants as closing
 use Rattle.host_keeps_streams.specs.Histories as calls
-use Rattle.host_keeps_streams.specs.Histories.{Call}
-use Rattle.host_keeps_streams.proofs.lemmas.{Holds}
 use Rattle.world_keeps_streams.proofs.Deeds.Effects.{Among, among_kept, found_among}
 use Rattle.world_keeps_streams.proofs.Books.Arrives.{one_end}
 use Rattle.interface.proofs.lemmas.{unlike}

@@ -1,11 +1,12 @@
 -- A pair that has nothing to say where each of its messages was answered: no command waits, and no end may send.
-use Rattle.world_keeps_streams.proofs.Common.{◌≡◌, inl, inr, ℕ, suc, ◌≤◌, ◌==◌, ◌&&◌, ◌||◌, not, nat_lt, Bool, true, false, List, [], ◌∷◌, filter, find, length, Option, Some, is_some, refl, ap, sym, subst, ◌∙◌, arith, eq-eqb, eqb-true, Host, same_host, Command, is_answered, is_busy, is_open, is_receiving, PairState, Commands, Parcel, may_send, may_send_on, next_of, sendable, Entry, both, find_passes, unlike, pair_with, message_of, next_in, Peer}
-use Rattle.std.proofs.Common.{min, None, lt-ltb}
-use Rattle.std.proofs.lemmas.Bool.{eqb-false, ltb-false}
+use Rattle.world_keeps_streams.proofs.Common.{Host, same_host, Command, is_answered, is_busy, is_open, is_receiving, PairState, Entry, both, pair_with, Peer}
+use Rattle.std.proofs.Common.{◌≡◌, inl, inr, ℕ, suc, ◌≤◌, ◌==◌, ◌&&◌, ◌||◌, not, nat_lt, Bool, true, false, List, [], ◌∷◌, filter, find, length, Option, Some, is_some, refl, ap, sym, subst, ◌∙◌, arith, eq-eqb, min, None, lt-ltb}
+use Rattle.std.proofs.lemmas.Bool.{eqb-true, eqb-false, ltb-false}
+use Rattle.host_pairs.specs.Parcels.{Commands, Parcel, may_send, may_send_on, next_of, sendable, Reply, bytes_by, bytes_of, bytes_on, link_of, lower, lowest_link, next_bytes, next_of_ready, sendable_by}
+use Rattle.host_keeps_streams.proofs.lemmas.{find_passes, unlike}
+use Rattle.sockets.specs.Sending.{message_of, next_in, message_for, parcel_for}
 use Rattle.ncp_control.specs.Packing.{packed_count}
 use Rattle.ncp_control.specs.declared.phase.Phase.TheVariants as phase
-use Rattle.host_pairs.specs.Parcels.{Reply, bytes_by, bytes_of, bytes_on, link_of, lower, lowest_link, next_bytes, next_of_ready, sendable_by}
-use Rattle.sockets.specs.Sending.{message_for, parcel_for}
 use Rattle.world_keeps_streams.proofs.Deeds.Effects.{Among}
 
 -- ---- a program

@@ -1,12 +1,15 @@
 -- No end of a pair has to close: each that is drained has queued its CLS. What a pair does with what comes in of its peer keeps this.
-use Rattle.world_keeps_streams.proofs.Common.{◌≡◌, ℕ, suc, ◌*◌, ◌==◌, ◌&&◌, ◌||◌, not, Bool, true, false, if◌then◌else◌, List, [], ◌∷◌, ◌++◌, map, filter, find, length, take, Option, Some, None, is_some, refl, ap, sym, subst, ◌∙◌, arith, eq-eqb, nat_lt, eqb-true, ne_eqb, list_any, Host, Answer, data_bits, header_of, is_receive_socket, is_ready, rfnm_phase, Command, DataHeader, Phase, closed_end, receiver_requested, requested, with_end, with_more_bits, Ending, Open, Unconnected, asked_on_link, asked_with_size, at_end, changed, cls_taken_by, desk_taken, matched_once, receiver_on, ret_taken, rts_heard, rts_taken, rts_taken_by, sender_on, str_heard, str_linked, str_taken_by, ERRONEOUS, Legal, Order, Wrong, error, orders_of, arrived, arrived_if, data_found, data_taken, is_acceptable, spent, text_faulted, DeskState, command_queued, desk_of, listener_on, settled, swept, called_off, changed_first, close_due, closed_by_partner, closed_when, entry_at, free_link, is_answered, is_at, is_busy, is_called_off, is_due, is_mine_on, is_open, is_receiving, must_close, receives_on, receiving_end, refused_end, sending_end, sends_on, PairState, Bytes, Commands, Parcel, asked_at, bits_gone, cls_sent, command_gone, commands_gone, may_send, may_send_on, pair_after, parcel_gone, sendable, TurnState, answered_turn, command_taken, failed_by, freed, if_ready, is_gone, message_taken, order_taken, orders_taken, settled_turn, with_desk, Closing, Entry, Listener, both, not_is, unlike, open_parts}
+use Rattle.world_keeps_streams.proofs.Common.{list_any, Host, Answer, data_bits, header_of, is_receive_socket, is_ready, rfnm_phase, Command, DataHeader, Phase, closed_end, receiver_requested, requested, with_end, with_more_bits, ERRONEOUS, Legal, Order, Wrong, error, orders_of, arrived, arrived_if, data_found, data_taken, is_acceptable, spent, text_faulted, DeskState, command_queued, desk_of, listener_on, settled, swept, PairState, TurnState, answered_turn, command_taken, failed_by, freed, if_ready, is_gone, message_taken, order_taken, orders_taken, settled_turn, with_desk, Closing, Entry, Listener, both, not_is, open_parts}
+use Rattle.std.proofs.Common.{◌≡◌, ℕ, suc, ◌*◌, ◌==◌, ◌&&◌, ◌||◌, not, Bool, true, false, if◌then◌else◌, List, [], ◌∷◌, ◌++◌, map, filter, find, length, take, Option, Some, None, is_some, refl, ap, sym, subst, ◌∙◌, arith, eq-eqb, nat_lt}
+use Rattle.std.proofs.lemmas.Bool.{eqb-true, ne_eqb}
+use Rattle.host_pairs.specs.Commands.{Ending, Open, Unconnected, asked_on_link, asked_with_size, at_end, changed, cls_taken_by, desk_taken, matched_once, receiver_on, ret_taken, rts_heard, rts_taken, rts_taken_by, sender_on, str_heard, str_linked, str_taken_by, Found}
+use Rattle.host_pairs.specs.Entries.{called_off, changed_first, close_due, closed_by_partner, closed_when, entry_at, free_link, is_answered, is_at, is_busy, is_called_off, is_due, is_mine_on, is_open, is_receiving, must_close, receives_on, receiving_end, refused_end, sending_end, sends_on, is_over}
+use Rattle.host_pairs.specs.Parcels.{Bytes, Commands, Parcel, asked_at, bits_gone, cls_sent, command_gone, commands_gone, may_send, may_send_on, pair_after, parcel_gone, sendable, Reply, Reset, link_of}
+use Rattle.host_keeps_streams.proofs.lemmas.{unlike}
 use Rattle.interface.specs.declared.crossing.Answer.TheVariants as answer
 use Rattle.ncp_control.specs.declared.command.Command.TheVariants as command
 use Rattle.ncp_control.specs.declared.phase.Phase.TheVariants as phase
 use Rattle.host_pairs.specs.Commands as commands
-use Rattle.host_pairs.specs.Commands.{Found}
-use Rattle.host_pairs.specs.Entries.{is_over}
-use Rattle.host_pairs.specs.Parcels.{Reply, Reset, link_of}
 use Rattle.host_pairs.specs.declared.entry.Closing.TheVariants as closing
 
 -- ---- one end

@@ -1,15 +1,14 @@
 -- No end of a host has to close, at any moment: each that is drained has queued its CLS.
-use Rattle.world_keeps_streams.proofs.Common.{◌≡◌, ℕ, ◌&&◌, not, Bool, true, false, if◌then◌else◌, cond, List, [], ◌∷◌, length, Option, Some, None, refl, sym, subst, Host, same_host, Flow, Answer, HostMessage, not_false, same_host-true, is_receive_socket, is_send_socket, is_ready, closed_end, commanded, contacted, interrupt_of, receiver_requested, requested, with_end, with_more_bits, desk_of, listens_on, free_link, is_busy, is_open, sending_end, PairState, Parcel, pair_after, parcel_gone, answered_turn, message_taken, Entry, both, after_turn, turn_of, NcpState, opening_state, owner_of, pair_with, with_pair, AreInOrder, at_owner, closed_socket, on_open, next_in, offered_by, Peer, Request, next_pair, not_first, pair_changed, HaveAddresses, Asked, Crossed, Moment, places, program, crossings_of, coupled, owner_found, mail_below, Happened, Network}
-use Rattle.net_sim.specs.Mixed.{MayHappen}
+use Rattle.world_keeps_streams.proofs.Common.{◌≡◌, ℕ, ◌&&◌, not, Bool, true, false, if◌then◌else◌, cond, List, [], ◌∷◌, length, Option, Some, None, refl, sym, subst, Host, same_host, Flow, Answer, HostMessage, not_false, same_host-true, is_receive_socket, is_send_socket, is_ready, closed_end, commanded, contacted, interrupt_of, receiver_requested, requested, with_end, with_more_bits, desk_of, listens_on, free_link, is_busy, is_open, sending_end, PairState, answered_turn, message_taken, Entry, both, NcpState, opening_state, owner_of, pair_with, with_pair, AreInOrder, Peer, Request, next_pair, not_first, pair_changed, HaveAddresses, Asked, Crossed, Moment, places, program, crossings_of, coupled, owner_found, mail_below, Happened, MayHappen, Network}
+use Rattle.host_pairs.specs.Parcels.{Parcel, pair_after, parcel_gone, link_of}
+use Rattle.sockets.specs.Accepting.{after_turn, turn_of, accepted}
+use Rattle.sockets.specs.Requests.{at_owner, closed_socket, on_open, refusal, send_fault, served}
+use Rattle.sockets.specs.Sending.{next_in, offered_by, offered}
 use Rattle.interface.specs.Mailboxes as mail
 use Rattle.interface.specs.declared.crossing.Crossing.TheVariants as crossing
 use Rattle.interface.specs.declared.crossing.Inbound.TheVariants as inbound
 use Rattle.ncp_control.specs.declared.command.Command.TheVariants as command
 use Rattle.host_pairs.specs.Commands.{granted}
-use Rattle.host_pairs.specs.Parcels.{link_of}
-use Rattle.sockets.specs.Accepting.{accepted}
-use Rattle.sockets.specs.Requests.{refusal, send_fault, served}
-use Rattle.sockets.specs.Sending.{offered}
 use Rattle.sockets.specs.declared.request.Request.TheVariants as request
 use Rattle.world_keeps_streams.proofs.Calls.Chain.{plain_at}
 use Rattle.world_keeps_streams.proofs.Ours.{held}

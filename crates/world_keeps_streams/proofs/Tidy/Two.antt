@@ -1,6 +1,7 @@
 -- Two ends of one connection, each of which has heard what the other said: nobody has closed them, but for a sender that drains.
-use Rattle.world_keeps_streams.proofs.Common.{◌≡◌, ℕ, ◌==◌, ◌&&◌, ◌||◌, Bool, true, false, List, [], length, is_some, refl, ap, sym, ◌∙◌, has_cls, is_answered, is_called_off, is_due, is_open, is_receiving, was_closed, Closing, Entry, has_opened, unlike}
-use Rattle.host_pairs.specs.Entries.{is_over}
+use Rattle.world_keeps_streams.proofs.Common.{◌≡◌, ℕ, ◌==◌, ◌&&◌, ◌||◌, Bool, true, false, List, [], length, is_some, refl, ap, sym, ◌∙◌, Closing, Entry, has_opened}
+use Rattle.host_pairs.specs.Entries.{has_cls, is_answered, is_called_off, is_due, is_open, is_receiving, was_closed, is_over}
+use Rattle.host_keeps_streams.proofs.lemmas.{unlike}
 use Rattle.host_pairs.specs.declared.entry.Closing.TheVariants as closing
 use Rattle.world_keeps_streams.proofs.Tidy.Pairs.{IsTidy}
 

@@ -1,12 +1,11 @@
-use Rattle.world_keeps_streams.proofs.Common.{◌≡◌, zero, suc, ◌==◌, ◌&&◌, Bool, true, false, if◌then◌else◌, [], ◌∷◌, Option, Some, None, is_some, refl, ap, subst, ◌∙◌, arith, Host, same_host, box_of, Flow, HostMessage, NcpState, opening_state, first, second, Seat}
+use Rattle.world_keeps_streams.proofs.Common.{◌≡◌, zero, suc, ◌==◌, ◌&&◌, Bool, true, false, if◌then◌else◌, [], ◌∷◌, Option, Some, None, is_some, refl, ap, subst, ◌∙◌, arith, Host, same_host, Flow, HostMessage, NcpState, opening_state, first, second, Seat, rst}
+use Rattle.interface.specs.Mailboxes.{box_of, Box, Empty, Taken, Waiting, is_up}
 use Rattle.world_keeps_streams.proofs.Facts.{untrue, unfalse}
-use Rattle.interface.specs.Mailboxes.{Box, Empty, Taken, Waiting, is_up}
 use Rattle.interface.specs.declared.crossing.Crossing.TheVariants as crossing
 use Rattle.sockets.specs.Sending.{next_out}
 use Rattle.sockets.specs.Requests.{served}
 use Rattle.sockets.specs.declared.request.Request.TheVariants as request
 use Rattle.net_sim.specs.Silent.{AllSilent}
-use Rattle.net_sim.specs.WorkedResets.{rst}
 use Rattle.world_keeps_streams.proofs.calm.worked_settling.Goals as goal
 
 is_empty : Box → Bool

@@ -1,8 +1,6 @@
-use Rattle.net_sim.proofs.lemmas.AllOurs.{happened}
+use Rattle.world_keeps_streams.proofs.Common.{happened, all_ours, ◌∷◌, refl, Crossed}
 use Rattle.interface.specs.declared.crossing.Answer.TheVariants as answer
 use Rattle.interface.specs.declared.crossing.Crossing.TheVariants as crossing
-use Rattle.reset_law.specs.Network.{all_ours}
-use Rattle.world_keeps_streams.proofs.Common.{◌∷◌, Crossed, refl}
 use Rattle.world_keeps_streams.proofs.Books.Agree.{settled}
 use Rattle.world_keeps_streams.proofs.Books.All.{sent, source}
 use Rattle.world_keeps_streams.proofs.Books.Answered.{answered}

@@ -1,4 +1,6 @@
-use Rattle.world_keeps_streams.proofs.Common.{◌≡◌, ◌||◌, inl, inr, Bool, true, false, List, [], ◌∷◌, ◌++◌, drop, refl, ap, sym, subst, ◌∙◌, taken_in, went_out, Flow, Crossing, HostMessage, first, second, Crossed, crossings_of, bits_sent, eight_sent, sent_moments, Arrives, ComesFor}
+use Rattle.world_keeps_streams.proofs.Common.{◌≡◌, ◌||◌, inl, inr, Bool, true, false, List, [], ◌∷◌, ◌++◌, drop, refl, ap, sym, subst, ◌∙◌, taken_in, went_out, Flow, Crossing, HostMessage, Crossed, crossings_of, bits_sent, eight_sent, sent_moments}
+use Rattle.sockets.specs.Worked.{first, second, on_link}
+use Rattle.world_keeps_streams.specs.Arrivals.{Arrives, ComesFor}
 use Rattle.bit_messages.specs.Octets.{octets_of}
 use Rattle.interface.specs.Mailboxes.{same_flow}
 use Rattle.interface.specs.declared.crossing.Crossing.TheVariants as crossing
@@ -8,7 +10,6 @@ use Rattle.host_pairs.specs.Control.{orders_of}
 use Rattle.sockets.specs.Accepting.{accepted}
 use Rattle.sockets.specs.Requests.{refusal, served, served_notices}
 use Rattle.sockets.specs.Sending.{next_out, offered}
-use Rattle.sockets.specs.Worked.{on_link}
 use Rattle.net_sim.specs.Told.{kept_in}
 use Rattle.promise.specs.declared.life.Life.{Life}
 use Rattle.promise.specs.Safe.{receives}

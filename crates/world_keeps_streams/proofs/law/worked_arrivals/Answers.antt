@@ -1,10 +1,10 @@
-use Rattle.world_keeps_streams.proofs.Common.{◌≡◌, inl, inr, ℕ, Bool, true, false, List, [], ◌∷◌, Option, None, refl, ap, ◌∙◌, arith, Host, same_host, some_is, asked_on_link, asked_with_size, spent, is_open, receiving_end, sending_end, asked_at, Entry, first, second, program, bits_sent, none_there}
+use Rattle.world_keeps_streams.proofs.Common.{◌≡◌, inl, inr, ℕ, Bool, true, false, List, [], ◌∷◌, Option, None, refl, ap, ◌∙◌, arith, Host, same_host, some_is, spent, is_open, receiving_end, sending_end, asked_at, Entry, first, second, program, bits_sent, none_there}
+use Rattle.host_pairs.specs.Commands.{asked_on_link, asked_with_size, granted}
 use Rattle.world_keeps_streams.proofs.Facts.{untrue}
 use Rattle.bit_messages.specs.Octets.{octets_of}
 use Rattle.ncp_control.specs.Packing.{packed_count}
 use Rattle.ncp_control.specs.Reading.{read_of, command_of}
 use Rattle.host_pairs.specs.Control.{orders_of}
-use Rattle.host_pairs.specs.Commands.{granted}
 use Rattle.sockets.specs.Accepting.{accepted}
 use Rattle.sockets.specs.Requests.{refusal, served, served_notices}
 use Rattle.sockets.specs.Sending.{next_out, offered}

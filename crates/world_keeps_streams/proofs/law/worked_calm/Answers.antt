@@ -1,11 +1,12 @@
-use Rattle.world_keeps_streams.proofs.Common.{◌≡◌, ℕ, zero, suc, ◌==◌, Bool, true, false, Option, is_some, refl, ap, arith, ne_eqb, HostMessage, asked_on_link, asked_with_size, spent, receiving_end, sending_end, asked_at, first, second, program, crossings_of, none_there, NoneOut}
+use Rattle.world_keeps_streams.proofs.Common.{◌≡◌, ℕ, zero, suc, ◌==◌, Bool, true, false, Option, is_some, refl, ap, arith, HostMessage, spent, receiving_end, sending_end, asked_at, first, second, program, crossings_of, none_there, NoneOut}
+use Rattle.std.proofs.lemmas.Bool.{ne_eqb}
+use Rattle.host_pairs.specs.Commands.{asked_on_link, asked_with_size, granted}
 use Rattle.world_keeps_streams.proofs.Facts.{untrue, unfalse}
 use Rattle.bit_messages.specs.Octets.{octets_of}
 use Rattle.interface.specs.Mailboxes.{Box, Empty, Taken, Waiting}
 use Rattle.ncp_control.specs.Packing.{packed_count}
 use Rattle.ncp_control.specs.Reading.{read_of, command_of}
 use Rattle.host_pairs.specs.Control.{orders_of}
-use Rattle.host_pairs.specs.Commands.{granted}
 use Rattle.sockets.specs.Accepting.{accepted}
 use Rattle.sockets.specs.Requests.{refusal, served, served_notices}
 use Rattle.sockets.specs.Sending.{next_out, offered}

@@ -1,18 +1,19 @@
-use Rattle.world_keeps_streams.proofs.Common.{◌≡◌, ◌⊎◌, inl, inr, ℕ, zero, suc, ◌<◌, Bool, true, false, List, [], ◌∷◌, length, slice_index_or, refl, ap, sym, subst, ◌∙◌, arith, Contains, asked_with_size, spent, receiving_end, asked_at, Entry, first, second, Match, Crossed, program, crossings_of, texts_for, gave, none_there, HasTakenCls, ended_moments, quit_moments}
+use Rattle.world_keeps_streams.proofs.Common.{◌≡◌, ◌⊎◌, inl, inr, ℕ, zero, suc, ◌<◌, Bool, true, false, List, [], ◌∷◌, length, slice_index_or, refl, ap, sym, subst, ◌∙◌, arith, Contains, spent, receiving_end, asked_at, Entry, first, second, Crossed, program, crossings_of, texts_for, gave, none_there}
+use Rattle.host_pairs.specs.Commands.{asked_with_size, granted}
+use Rattle.promise.specs.Safe.{Match, sends}
+use Rattle.world_keeps_streams.specs.Came.{HasTakenCls}
+use Rattle.world_keeps_streams.specs.Worked.{ended_moments, quit_moments, took}
 use Rattle.bit_messages.specs.Octets.{octets_of}
 use Rattle.ncp_control.specs.Packing.{packed_count}
 use Rattle.ncp_control.specs.Reading.{read_of, command_of}
 use Rattle.host_pairs.specs.Control.{orders_of}
-use Rattle.host_pairs.specs.Commands.{granted}
 use Rattle.host_pairs.specs.declared.entry.Closing.TheVariants as closing
 use Rattle.sockets.specs.Accepting.{accepted}
 use Rattle.sockets.specs.Requests.{refusal, served, served_notices}
 use Rattle.sockets.specs.Sending.{next_out, offered}
 use Rattle.interface.specs.declared.crossing.Crossing.TheVariants as crossing
-use Rattle.promise.specs.Safe.{sends}
 use Rattle.promise.specs.declared.life.Life.{Life}
 use Rattle.net_sim.specs.Told.{kept_in}
-use Rattle.world_keeps_streams.specs.Worked.{took}
 use Rattle.world_keeps_streams.proofs.law.worked_came.Goals as goal
 
 first_closed : List Entry → Bool

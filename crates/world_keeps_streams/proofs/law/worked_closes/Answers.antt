@@ -1,16 +1,18 @@
-use Rattle.world_keeps_streams.proofs.Common.{◌≡◌, ℕ, Bool, true, false, List, [], ◌∷◌, ◌++◌, if◌then◌else◌, Option, None, refl, ap, subst, ◌∙◌, inl, inr, arith, Host, some_is, asked_with_size, spent, receiving_end, asked_at, Entry, Closes, HasClosed, name_now, numbered, first, second, own_calls, gave, IsClosedByPartner, WasClosedBy, ended_moments, quit_moments, Crossed, program, none_there}
+use Rattle.world_keeps_streams.proofs.Common.{◌≡◌, ℕ, Bool, true, false, List, [], ◌∷◌, ◌++◌, if◌then◌else◌, Option, None, refl, ap, subst, ◌∙◌, inl, inr, arith, Host, some_is, spent, receiving_end, asked_at, Entry, first, second, own_calls, gave, Crossed, program, none_there}
+use Rattle.host_pairs.specs.Commands.{asked_with_size, granted}
+use Rattle.host_keeps_streams.specs.Histories.{Closes, HasClosed, name_now, numbered}
+use Rattle.world_keeps_streams.specs.Closes.{IsClosedByPartner, WasClosedBy}
+use Rattle.world_keeps_streams.specs.Worked.{ended_moments, quit_moments, close_back, stopped_moments, took_eight}
 use Rattle.bit_messages.specs.Octets.{octets_of}
 use Rattle.interface.specs.declared.crossing.Crossing.TheVariants as crossing
 use Rattle.ncp_control.specs.Packing.{packed_count}
 use Rattle.ncp_control.specs.Reading.{read_of, command_of}
 use Rattle.host_pairs.specs.Control.{orders_of}
-use Rattle.host_pairs.specs.Commands.{granted}
 use Rattle.host_pairs.specs.declared.entry.Closing.TheVariants as closing
 use Rattle.host_keeps_streams.specs.Histories as calls
 use Rattle.sockets.specs.Accepting.{accepted}
 use Rattle.sockets.specs.Requests.{refusal, served, served_notices}
 use Rattle.sockets.specs.Sending.{next_out, offered}
-use Rattle.world_keeps_streams.specs.Worked.{close_back, stopped_moments, took_eight}
 use Rattle.net_sim.specs.Worked.{eight}
 use Rattle.world_keeps_streams.proofs.law.worked_closes.Goals as goal
 

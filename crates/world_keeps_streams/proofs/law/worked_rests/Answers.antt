@@ -1,10 +1,10 @@
-use Rattle.world_keeps_streams.proofs.Common.{◌≡◌, ℕ, Bool, true, false, List, [], ◌∷◌, Option, None, refl, ap, subst, ◌∙◌, arith, box_of, some_is, asked_with_size, spent, is_open, receiving_end, asked_at, Entry, first, second, program, crossings_of, bits_sent, eight_sent, sent_moments, none_there}
+use Rattle.world_keeps_streams.proofs.Common.{◌≡◌, ℕ, Bool, true, false, List, [], ◌∷◌, Option, None, refl, ap, subst, ◌∙◌, arith, some_is, spent, is_open, receiving_end, asked_at, Entry, first, second, program, crossings_of, bits_sent, eight_sent, sent_moments, none_there}
+use Rattle.interface.specs.Mailboxes.{box_of, Waiting}
+use Rattle.host_pairs.specs.Commands.{asked_with_size, granted}
 use Rattle.bit_messages.specs.Octets.{octets_of}
-use Rattle.interface.specs.Mailboxes.{Waiting}
 use Rattle.ncp_control.specs.Packing.{packed_count}
 use Rattle.ncp_control.specs.Reading.{read_of, command_of}
 use Rattle.host_pairs.specs.Control.{orders_of}
-use Rattle.host_pairs.specs.Commands.{granted}
 use Rattle.sockets.specs.Accepting.{accepted}
 use Rattle.sockets.specs.Requests.{refusal, served, served_notices}
 use Rattle.sockets.specs.Sending.{next_out, offered}

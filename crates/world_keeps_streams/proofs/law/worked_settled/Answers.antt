@@ -1,9 +1,10 @@
-use Rattle.world_keeps_streams.proofs.Common.{◌≡◌, Bool, true, false, List, [], ◌∷◌, refl, ap, arith, Allocation, Command, asked_on_link, asked_with_size, spent, receiving_end, sending_end, asked_at, control, first, second, program, sent_moments, none_there}
+use Rattle.world_keeps_streams.proofs.Common.{◌≡◌, Bool, true, false, List, [], ◌∷◌, refl, ap, arith, Allocation, Command, spent, receiving_end, sending_end, asked_at, program, sent_moments, none_there}
+use Rattle.host_pairs.specs.Commands.{asked_on_link, asked_with_size, granted}
+use Rattle.sockets.specs.Worked.{control, first, second}
 use Rattle.bit_messages.specs.Octets.{octets_of}
 use Rattle.ncp_control.specs.Packing.{packed_count}
 use Rattle.ncp_control.specs.Reading.{read_of, command_of}
 use Rattle.host_pairs.specs.Control.{orders_of}
-use Rattle.host_pairs.specs.Commands.{granted}
 use Rattle.sockets.specs.Accepting.{accepted}
 use Rattle.sockets.specs.Requests.{refusal, served, served_notices}
 use Rattle.sockets.specs.Sending.{next_out, offered}

@@ -1,5 +1,6 @@
-use Rattle.world_keeps_streams.proofs.Common.{◌≡◌, ◌⊎◌, inl, inr, ◌<◌, ℕ, suc, Bool, true, false, List, [], ◌∷◌, ◌++◌, Option, None, drop, length, slice_index_or, refl, ap, sym, subst, ◌∙◌, arith, is_receive_socket, some_is, Entry, HasClosed, name_now, numbered, pair_with, first, second, Crossed, Moment, program, sent_moments, mine_on, own_calls, IsClosedByPartner, WasClosedByPartner, quit_moments}
-use Rattle.std.proofs.Common.{zero}
+use Rattle.world_keeps_streams.proofs.Common.{is_receive_socket, some_is, Entry, HasClosed, name_now, numbered, pair_with, first, second, Crossed, Moment, program, sent_moments, mine_on, own_calls, IsClosedByPartner, WasClosedByPartner}
+use Rattle.std.proofs.Common.{◌≡◌, ◌⊎◌, inl, inr, ◌<◌, ℕ, suc, Bool, true, false, List, [], ◌∷◌, ◌++◌, Option, None, drop, length, slice_index_or, refl, ap, sym, subst, ◌∙◌, arith, zero}
+use Rattle.world_keeps_streams.specs.Worked.{quit_moments, close_sent, took}
 use Rattle.bit_messages.specs.Octets.{octets_of}
 use Rattle.interface.specs.declared.crossing.Crossing.TheVariants as crossing
 use Rattle.ncp_control.specs.Packing.{packed_count}
@@ -11,7 +12,6 @@ use Rattle.sockets.specs.Sending.{next_out, offered}
 use Rattle.promise.specs.Safe.{receives}
 use Rattle.net_sim.specs.Told.{kept_in}
 use Rattle.promise.specs.declared.life.Life.{Life}
-use Rattle.world_keeps_streams.specs.Worked.{close_sent, took}
 use Rattle.world_keeps_lives.proofs.lemmas.{has_not, never_earlier, never_has, none_has}
 use Rattle.world_keeps_streams.proofs.worked.worked_past_closes.Goals as goal
 

@@ -1,16 +1,18 @@
-use Rattle.world_keeps_streams.proofs.Common.{◌≡◌, inl, inr, ℕ, Bool, false, List, ◌∷◌, ◌++◌, length, if◌then◌else◌, Option, Some, refl, ap, sym, subst, ◌∙◌, arith, Contains, Flow, Crossing, Going, stage, IsBeside, texts_on, Match, sent_log, each_in, took_nothing}
-use Rattle.std.proofs.Common.{true, []}
+use Rattle.world_keeps_streams.proofs.Common.{Contains, Flow, Crossing, IsBeside, each_in}
+use Rattle.std.proofs.Common.{◌≡◌, inl, inr, ℕ, Bool, false, List, ◌∷◌, ◌++◌, length, if◌then◌else◌, Option, Some, refl, ap, sym, subst, ◌∙◌, arith, true, []}
+use Rattle.promise.specs.Ends.{Going, stage}
+use Rattle.promise.specs.Formed.{texts_on, link_of}
+use Rattle.promise.specs.Safe.{Match, receives}
+use Rattle.world_keeps_lives.specs.WorkedFormed.{sent_log}
+use Rattle.world_keeps_streams.specs.WorkedArrived.{took_nothing, closed_log, closed_receiver, closed_sender, coming_log, sent_more}
 use Rattle.world_keeps_streams.proofs.Ends.Arrived.{same_head}
 use Rattle.bit_messages.specs.Octets.{octets_of}
 use Rattle.interface.specs.declared.crossing.Answer.TheVariants as answer
 use Rattle.interface.specs.declared.crossing.Crossing.TheVariants as crossing
 use Rattle.ncp_control.specs.Reading.{command_of, read_of}
 use Rattle.host_pairs.specs.Control.{orders_of}
-use Rattle.promise.specs.Formed.{link_of}
-use Rattle.promise.specs.Safe.{receives}
 use Rattle.promise.specs.declared.life.Fate.TheVariants as fate
 use Rattle.promise.specs.declared.life.Life.{Life}
-use Rattle.world_keeps_streams.specs.WorkedArrived.{closed_log, closed_receiver, closed_sender, coming_log, sent_more}
 use Rattle.world_keeps_streams.proofs.worked_arrived.worked_open.Goals as goal
 
 -- ---- a log without answers

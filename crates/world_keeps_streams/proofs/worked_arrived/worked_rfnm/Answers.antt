@@ -1,15 +1,15 @@
-use Rattle.world_keeps_streams.proofs.Common.{◌≡◌, inl, inr, ℕ, ◌<◌, true, false, List, [], ◌∷◌, drop, length, Option, Some, refl, ap, sym, subst, ◌∙◌, arith, option_map, IsCounted, IsBeside, texts_on, Match, Fate, eight_sent, gave, sent_log, each_in, took_nothing}
+use Rattle.world_keeps_streams.proofs.Common.{◌≡◌, inl, inr, ℕ, ◌<◌, true, false, List, [], ◌∷◌, drop, length, Option, Some, refl, ap, sym, subst, ◌∙◌, arith, option_map, IsBeside, Fate, eight_sent, each_in}
+use Rattle.promise.specs.Arrived.{IsCounted, HasArrived}
+use Rattle.promise.specs.Formed.{texts_on, flow_of, link_of}
+use Rattle.promise.specs.Safe.{Match, before, receives, sends}
+use Rattle.world_keeps_lives.specs.WorkedFormed.{gave, sent_log, took}
+use Rattle.world_keeps_streams.specs.WorkedArrived.{took_nothing, answered_log, on_two}
 use Rattle.bit_messages.specs.Octets.{octets_of}
 use Rattle.interface.specs.declared.crossing.Crossing.TheVariants as crossing
 use Rattle.ncp_control.specs.Reading.{command_of, read_of}
 use Rattle.host_pairs.specs.Control.{orders_of}
-use Rattle.promise.specs.Arrived.{HasArrived}
-use Rattle.promise.specs.Formed.{flow_of, link_of}
-use Rattle.promise.specs.Safe.{before, receives, sends}
 use Rattle.promise.specs.declared.life.Fate.TheVariants as fate
 use Rattle.promise.specs.declared.life.Life.{Life}
-use Rattle.world_keeps_lives.specs.WorkedFormed.{took}
-use Rattle.world_keeps_streams.specs.WorkedArrived.{answered_log, on_two}
 use Rattle.world_keeps_streams.proofs.worked_arrived.worked_rfnm.Goals as goal
 
 -- both lives have link 2

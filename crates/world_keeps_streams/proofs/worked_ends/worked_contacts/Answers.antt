@@ -1,13 +1,12 @@
-use Rattle.world_keeps_streams.proofs.Common.{◌≡◌, inl, inr, ◌||◌, Bool, true, false, List, [], ◌∷◌, ◌++◌, refl, ap, sym, subst, list_any, Crossing, Legal, control, first, second, Course, crosses, is_contact, Called, Fate}
-use Rattle.promise.specs.Ends.{Leaves}
+use Rattle.world_keeps_streams.proofs.Common.{◌≡◌, inl, inr, ◌||◌, Bool, true, false, List, [], ◌∷◌, ◌++◌, refl, ap, sym, subst, list_any, Crossing, Called, Fate}
+use Rattle.host_pairs.specs.Control.{Legal, orders_of}
+use Rattle.sockets.specs.Worked.{control, first, second, RTS, STR}
+use Rattle.promise.specs.Ends.{Course, crosses, is_contact, Leaves, AreLeft, IsLeft, contacts_now}
 use Rattle.bit_messages.specs.Octets.{octets_of}
 use Rattle.interface.specs.declared.crossing.Crossing.TheVariants as crossing
 use Rattle.ncp_control.specs.Reading.{read_of, command_of}
 use Rattle.ncp_control.specs.declared.command.Command.TheVariants as command
-use Rattle.host_pairs.specs.Control.{orders_of}
-use Rattle.sockets.specs.Worked.{RTS, STR}
 use Rattle.net_sim.specs.WorkedMoments.{rts, str}
-use Rattle.promise.specs.Ends.{AreLeft, IsLeft, contacts_now}
 use Rattle.promise.specs.declared.life.Fate.TheVariants as fate
 use Rattle.promise.specs.declared.life.Life.{Life}
 use Rattle.world_keeps_streams.specs.WorkedEnds.{asker, begun_then, both_asked, contact, later_life, own_cls, partner_cls, second_life}

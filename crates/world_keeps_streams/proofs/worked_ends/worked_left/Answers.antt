@@ -1,9 +1,8 @@
-use Rattle.world_keeps_streams.proofs.Common.{◌≡◌, inl, true, false, [], ◌∷◌, ◌++◌, refl, first, second}
+use Rattle.world_keeps_streams.proofs.Common.{◌≡◌, inl, true, false, [], ◌∷◌, ◌++◌, refl, first, second, rst}
 use Rattle.bit_messages.specs.Octets.{octets_of}
 use Rattle.interface.specs.declared.crossing.Crossing.TheVariants as crossing
 use Rattle.ncp_control.specs.Reading.{read_of, command_of}
 use Rattle.host_pairs.specs.Control.{orders_of}
-use Rattle.net_sim.specs.WorkedResets.{rst}
 use Rattle.promise.specs.declared.life.Fate.TheVariants as fate
 use Rattle.world_keeps_streams.specs.WorkedEnds.{after_rst, asker, begun_then, late_answer, own_cls, partner_cls}
 use Rattle.world_keeps_streams.proofs.Ends.Rows.{one_left}

@@ -1,19 +1,13 @@
-use Rattle.world_keeps_streams.proofs.Common.{◌≡◌, ◌≤◌, inl, inr, ℕ, true, List, [], ◌∷◌, length, refl, arith}
-use Rattle.world_keeps_streams.proofs.Common.{Crossing, Cause, Over, Stopped, Dropped, stage, texts_on, first}
-use Rattle.world_keeps_streams.proofs.Common.{Called, second}
+use Rattle.world_keeps_streams.proofs.Common.{◌≡◌, ◌≤◌, inl, inr, ℕ, true, List, [], ◌∷◌, length, refl, arith, Crossing, first, second, Called, eight_sent, rst, CountNothingLater}
+use Rattle.promise.specs.Ends.{Cause, Over, Stopped, Dropped, stage, Closed}
+use Rattle.promise.specs.Formed.{texts_on, link_of}
 use Rattle.bit_messages.specs.Octets.{octets_of}
 use Rattle.interface.specs.declared.crossing.Crossing.TheVariants as crossing
 use Rattle.ncp_control.specs.Reading.{read_of, command_of}
 use Rattle.host_pairs.specs.Control.{orders_of}
-use Rattle.net_sim.specs.WorkedMoments.{eight_sent}
-use Rattle.net_sim.specs.WorkedResets.{rst}
-use Rattle.promise.specs.Ends.{Closed}
-use Rattle.promise.specs.Formed.{link_of}
 use Rattle.promise.specs.Safe.{before}
 use Rattle.promise.specs.declared.life.Life.{Life}
-use Rattle.world_keeps_streams.specs.Within.{CountNothingLater}
-use Rattle.world_keeps_streams.specs.WorkedEnds.{InTime, asker, begun_then, came_late, came_sooner}
-use Rattle.world_keeps_streams.specs.WorkedEnds.{contact, eight_elsewhere, own_cls, partner_cls, took_later, took_one}
+use Rattle.world_keeps_streams.specs.WorkedEnds.{InTime, asker, begun_then, came_late, came_sooner, contact, eight_elsewhere, own_cls, partner_cls, took_later, took_one}
 use Rattle.world_keeps_streams.proofs.Ends.Rows.{CountsBy, one_counts}
 use Rattle.world_keeps_streams.proofs.Lives.Lists.{IsOf, contains}
 use Rattle.world_keeps_streams.proofs.worked_ends.worked_within.Goals as goal

@@ -1,14 +1,11 @@
-use Rattle.world_keeps_streams.proofs.Common.{◌≡◌, inl, ℕ, ◌<◌, true, false, List, [], ◌∷◌, length, Option, Some}
-use Rattle.world_keeps_streams.proofs.Common.{refl, ap, sym}
-use Rattle.world_keeps_streams.proofs.Common.{subst, ◌∙◌, arith, option_map, Flow, Crossing, HostMessage, IsCounted}
-use Rattle.world_keeps_streams.proofs.Common.{texts_on, last_out, Match, some_is, eight_sent, gave, each_in}
+use Rattle.world_keeps_streams.proofs.Common.{◌≡◌, inl, ℕ, ◌<◌, true, false, List, [], ◌∷◌, length, Option, Some, refl, ap, sym, subst, ◌∙◌, arith, option_map, Flow, Crossing, HostMessage, IsCounted, some_is, eight_sent, each_in}
+use Rattle.promise.specs.Formed.{texts_on, flow_of, link_of}
+use Rattle.promise.specs.Safe.{last_out, Match, before, sends}
+use Rattle.world_keeps_lives.specs.WorkedFormed.{gave, stray, stray_log, took, two_log}
 use Rattle.bit_messages.specs.Octets.{octets_of}
 use Rattle.ncp_control.specs.Reading.{command_of, read_of}
 use Rattle.host_pairs.specs.Control.{orders_of}
-use Rattle.promise.specs.Formed.{flow_of, link_of}
-use Rattle.promise.specs.Safe.{before, sends}
 use Rattle.promise.specs.declared.life.Life.{Life}
-use Rattle.world_keeps_lives.specs.WorkedFormed.{stray, stray_log, took, two_log}
 use Rattle.world_keeps_streams.specs.Sent.{WasSent}
 use Rattle.world_keeps_streams.specs.WorkedSent.{again_log, early_log, gap_log, gave_twice, took_twice, unsent_log}
 use Rattle.world_keeps_streams.proofs.worked_sent.worked_sent.Goals as goal
