@@ -1,9 +1,8 @@
 -- The elements of a list by their places.
-use Rattle.book_judge.proofs.Common.{◌≡◌, ℕ, zero, suc, ◌+◌, ◌<◌, ◌≤◌, Bool, true, false, not, ◌&&◌, List, [], ◌∷◌, ◌++◌, length, take, get_or, Some, MatchBool, refl, ap, sym, subst, ◌∙◌, inl, inr, arith, Contains, cases_lt, get_or_from_slice_get, slice_get_within, AreTwo, Life}
+use Rattle.book_judge.proofs.Common.{◌≡◌, ℕ, zero, suc, ◌+◌, ◌<◌, ◌≤◌, Bool, true, false, not, ◌&&◌, List, [], ◌∷◌, ◌++◌, length, take, get_or, Some, MatchBool, refl, ap, sym, subst, ◌∙◌, inl, inr, arith, cases_lt, get_or_from_slice_get, slice_get_within, AreTwo, Life, contains_none}
+use Rattle.std.specs.List.{Contains, slice_get}
 use Rattle.std.proofs.lemmas.List.{append_assoc}
-use Rattle.std.specs.List.{slice_get}
 use Rattle.book_judge.proofs.Identities.Named.{contains_cases}
-use Rattle.interface.proofs.lemmas.{contains_none}
 
 -- ---- tests
 

@@ -1,19 +1,19 @@
 -- What is said of partners, of two lives that match, of streams and of grants is so.
-use Rattle.book_judge.proofs.Common.{◌≡◌, ℕ, zero, suc, ◌+◌, ◌-◌, ◌<◌, ◌≤◌, Bool, true, false, not, ◌&&◌, if◌then◌else◌, List, [], ◌∷◌, length, take, drop, Option, Some, None, refl, ap, sym, subst, ◌∙◌, inl, inr, arith, Err, IsSome, Ok, Result, cases_lt, le-leb, length-take-le, take_all, slice_get_within, same_flow, Host, same_host, Flow, Crossing, HostMessage, and_true, same_flow-true, same_host-refl, same_host-true, IsStamped, AreStamped, EndsAt, ShowsLife, WithMatch, Finding, CrossedAt, AreTwo, Match, Name, before, control_flow, last_out, named, own_request, partner_request, receives, sends, AreHanded, Fate, Life, AreNamed, same_name, AllApart, ApartFrom, FoundOdds, apart_at, FedAt, FoundFirst, GrantedAt, IsHanded, SourceAt, fits, fits_at, is_granted}
+use Rattle.book_judge.proofs.Common.{◌≡◌, ℕ, zero, suc, ◌+◌, ◌-◌, ◌<◌, ◌≤◌, Bool, true, false, not, ◌&&◌, if◌then◌else◌, List, [], ◌∷◌, length, take, drop, Option, Some, None, refl, ap, sym, subst, ◌∙◌, inl, inr, arith, length-take-le, take_all, slice_get_within, same_flow, Host, same_host, Flow, Crossing, HostMessage, and_true, same_flow-true, same_host-refl, same_host-true, Finding, Fate, Life}
+use Rattle.std.specs.Prelude.{Err, IsSome, Ok, Result, IfOk, nat_le, MatchOption}
+use Rattle.std.proofs.lemmas.Bool.{cases_lt, le-leb, leb-true, and_from, false_from_ne_true, true_from_ne_false}
+use Rattle.net_sim.specs.Audit.{IsStamped, IsWellFormed}
+use Rattle.net_sim.specs.Findings.{AreStamped, EndsAt, ShowsLife, WithMatch, AreAtPeace, AreFed, AreUnmatched, HaveGranted, ShowsMalformed, ShowsTwo, first_fed, first_granted}
+use Rattle.promise.specs.Formed.{CrossedAt}
+use Rattle.promise.specs.Safe.{AreTwo, Match, Name, before, control_flow, last_out, named, own_request, partner_request, receives, sends, AreHanded, IsGranted, SafeGrants, SafePartners, Source}
+use Rattle.book_judge.specs.Inside.Asked.{AreNamed, same_name, Names, unstamped}
+use Rattle.book_judge.specs.Inside.Partners.{AllApart, ApartFrom, FoundOdds, apart_at}
+use Rattle.book_judge.specs.Inside.Chains.{FedAt, FoundFirst, GrantedAt, IsHanded, SourceAt, fits, fits_at, is_granted, fits_of}
 use Rattle.std.specs.List.{slice_get}
-use Rattle.std.specs.Prelude.{IfOk, nat_le}
 use Rattle.std.specs.declared.alloc.AllocError.{AllocError}
-use Rattle.std.proofs.lemmas.Bool.{leb-true, and_from, false_from_ne_true, true_from_ne_false}
 use Rattle.interface.specs.declared.crossing.Crossing.TheVariants as crossing
-use Rattle.net_sim.specs.Audit.{IsWellFormed}
-use Rattle.net_sim.specs.Findings.{AreAtPeace, AreFed, AreUnmatched, HaveGranted, ShowsMalformed, ShowsTwo, first_fed}
-use Rattle.net_sim.specs.Findings.{first_granted}
 use Rattle.std.specs.Global.{Vec}
-use Rattle.std.specs.Prelude.{MatchOption}
-use Rattle.book_judge.specs.Inside.Asked.{Names, unstamped}
 use Rattle.net_sim.specs.declared.auditing.findings.Finding.TheVariants as finding
-use Rattle.promise.specs.Safe.{IsGranted, SafeGrants, SafePartners, Source}
-use Rattle.book_judge.specs.Inside.Chains.{fits_of}
 use Rattle.book_judge.proofs.Elements.{AreAt, contains_place, false_not, get_take, get_took, place_contains, places_two, read_at, two_places}
 use Rattle.book_judge.proofs.Identities.Known.{Apart, apart_is, apart_there, apart_true, same_is, same_true}
 

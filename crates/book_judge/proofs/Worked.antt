@@ -1,11 +1,11 @@
 -- The rows.
-use Rattle.book_judge.proofs.Common.{◌≡◌, true, false, List, [], ◌∷◌, refl, sym, ◌∙◌, Host, is_host, Empty, Fits, Flow, Answer, Crossing, HostMessage, same_flow-refl, same_host-refl, IsSomeRun, StraysAt}
+use Rattle.book_judge.proofs.Common.{◌≡◌, true, false, List, [], ◌∷◌, refl, sym, ◌∙◌, Host, is_host, Flow, Answer, Crossing, HostMessage, same_flow-refl, same_host-refl, IsSomeRun, StraysAt, Going, stage, gave, sent_log, took}
+use Rattle.interface.specs.Mailboxes.{Empty, Fits}
 use Rattle.interface.specs.declared.crossing.Answer.TheVariants as answer
 use Rattle.interface.specs.declared.crossing.Crossing.TheVariants as crossing
 use Rattle.bit_messages.specs.Octets.{octets_of}
 use Rattle.ncp_control.specs.Reading.{command_of, read_of}
 use Rattle.host_pairs.specs.Control.{orders_of}
-use Rattle.book_judge.proofs.Common.{Going, gave, sent_log, stage, took}
 
 is_there : (h : Host) → is_host (h ∷ []) h ≡ true
 is_there h = rw (same_host-refl h) refl

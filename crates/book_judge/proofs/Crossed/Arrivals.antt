@@ -1,11 +1,10 @@
 -- How many messages had gone out before each one came in.
-use Rattle.book_judge.proofs.Common.{◌≡◌, ℕ, suc, ◌+◌, ◌-◌, ◌<◌, ◌≤◌, ◌==◌, ◌&&◌, if◌then◌else◌, Bool, false, true, and_true, eqb-true, ltb-true, List, [], ◌∷◌, ◌++◌, length, take, get_or, Option, Some, None, refl, ap, sym, subst, ◌∙◌, arith, inl, inr, cases_lt, slice_get_within, Flow, Crossing, HostMessage, texts_by}
+use Rattle.book_judge.proofs.Common.{◌≡◌, ℕ, suc, ◌+◌, ◌-◌, ◌<◌, ◌≤◌, ◌==◌, ◌&&◌, if◌then◌else◌, Bool, false, true, List, [], ◌∷◌, ◌++◌, length, take, get_or, Option, Some, None, refl, ap, sym, subst, ◌∙◌, arith, inl, inr, and_true, eqb-true, ltb-true, cases_lt, slice_get_within, Flow, Crossing, HostMessage, Arrival}
+use Rattle.book_judge.specs.Inside.Joined.{texts_by, IsNth, PlaceOf, message_of}
 use Rattle.std.specs.List.{slice_get}
 use Rattle.std.specs.Prelude.{nat_lt}
 use Rattle.interface.specs.declared.crossing.Crossing.TheVariants as crossing
 use Rattle.book_judge.specs.Inside.Arrivals.{AreArrivals, ArrivalOf, IsArrival, IsArrivalAt, IsSteady, found_in, risen, sent_by}
-use Rattle.book_judge.specs.Inside.Joined.{IsNth, PlaceOf, message_of}
-use Rattle.book_judge.specs.declared.arrivals.Arrival.{Arrival}
 use Rattle.book_judge.proofs.Identities.Asked.{grown_length}
 use Rattle.book_judge.proofs.Elements.{read_at}
 use Rattle.book_judge.proofs.Identities.Named.{get_cases}

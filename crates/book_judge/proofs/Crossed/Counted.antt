@@ -1,20 +1,16 @@
 -- Which message of its partner each one is that a receiving life counts: what is tested of numbers is so of places.
-use Rattle.book_judge.proofs.Common.{◌≡◌, ℕ, suc, ◌+◌, ◌-◌, ◌<◌, ◌≤◌, ◌==◌, ◌&&◌, Bool, true, false, if◌then◌else◌, List, length, take, reverse, Option, Some, None, refl, ap, sym, subst, ◌∙◌, arith, inl, inr, option_map, Contains, cases_lt, ltb-true, eqb-true, and_from, slice_get_within, take_all, EndsAt, ShowsLife, WithMatch, Finding, Host, Flow, Crossing, HostMessage, and_true, CrossedAt, Match, Name, Life, link_of, flow_of, texts_on, texts_by, before, last_out, partner_request, receives, AreNamed, FoundFirst}
-use Rattle.std.proofs.Common.{eq-eqb, lt-ltb}
-use Rattle.std.proofs.lemmas.Bool.{false_from_ne_true}
-use Rattle.std.specs.List.{slice_get}
-use Rattle.std.specs.Prelude.{max, nat_lt}
+use Rattle.book_judge.proofs.Common.{cases_lt, ltb-true, eqb-true, and_from, false_from_ne_true, slice_get_within, take_all, EndsAt, ShowsLife, WithMatch, Finding, Host, Flow, Crossing, HostMessage, and_true, Life, texts_by, IsNth, AreNamed, FoundFirst, sent_by, since, Start, Taking}
+use Rattle.std.proofs.Common.{◌≡◌, ℕ, suc, ◌+◌, ◌-◌, ◌<◌, ◌≤◌, ◌==◌, ◌&&◌, Bool, true, false, if◌then◌else◌, List, length, take, reverse, Option, Some, None, refl, ap, sym, subst, ◌∙◌, arith, inl, inr, eq-eqb, lt-ltb}
+use Rattle.std.specs.Prelude.{option_map, max, nat_lt}
+use Rattle.std.specs.List.{Contains, slice_get}
+use Rattle.promise.specs.Formed.{CrossedAt, link_of, flow_of, texts_on}
+use Rattle.promise.specs.Safe.{Match, Name, before, last_out, partner_request, receives}
 use Rattle.interface.specs.declared.crossing.Crossing.TheVariants as crossing
 use Rattle.promise.specs.Arrived.{IsCounted}
 use Rattle.world_keeps_streams.specs.Sent.{EachWasSent, WasSent}
 use Rattle.book_judge.specs.Broken.{first_sent}
-use Rattle.book_judge.specs.Inside.Arrivals.{sent_by}
-use Rattle.book_judge.specs.Inside.Joined.{IsNth}
-use Rattle.book_judge.specs.Inside.Made.{since}
 use Rattle.book_judge.specs.Inside.Sent.{AllSent, SenderAt, SentAt, taking_at}
 use Rattle.book_judge.specs.Inside.Starts.{AreStarts, IsStart, counts, counts_of}
-use Rattle.book_judge.specs.declared.starts.Start.{Start}
-use Rattle.book_judge.specs.declared.starts.Taking.{Taking}
 use Rattle.book_judge.proofs.Crossed.Numbers.{message_nth, nth_message}
 use Rattle.book_judge.proofs.Crossed.Sent.{count_since, sent_back, sent_forth}
 use Rattle.book_judge.proofs.Crossed.TextsBy.{texts_less}

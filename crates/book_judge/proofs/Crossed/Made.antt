@@ -1,11 +1,11 @@
 -- When lives are made of the messages that crossed before their ends.
-use Rattle.book_judge.proofs.Common.{◌≡◌, ◌⊎◌, ℕ, zero, suc, ◌+◌, ◌<◌, ◌≤◌, Bool, false, if◌then◌else◌, List, [], ◌∷◌, ◌++◌, length, take, drop, get_or, reverse, Option, Some, None, is_some, MatchBool, ap, sym, subst, ◌∙◌, inl, inr, refl, arith, ◌==◌, Contains, IsSome, reverse-reverse, take_all, take_more, Crossing, FormedBook, IsFormed, first_data, flow_of, link_of, texts_on, receives, before, Life, texts_by, AreMade, IsMade, Asking, Going, Over, Stage, Course, course, stage, deeds_in, begun_by, begun_of, end_after, pace_of, false≢true, eqb-true, le-leb}
-use Rattle.std.proofs.Common.{true}
-use Rattle.promise.specs.Formed.{own_named, partner_named, texts_for}
-use Rattle.book_judge.specs.Inside.Deeds.{end_by}
-use Rattle.std.proofs.Common.{eq-eqb, leb-true, max, nat_le}
+use Rattle.book_judge.proofs.Common.{Contains, IsSome, reverse-reverse, take_all, take_more, Crossing, receives, before, Life, texts_by, Asking, Going, Over, Stage, Course, course, stage}
+use Rattle.std.proofs.Common.{◌≡◌, ◌⊎◌, ℕ, zero, suc, ◌+◌, ◌<◌, ◌≤◌, Bool, false, if◌then◌else◌, List, [], ◌∷◌, ◌++◌, length, take, drop, get_or, reverse, Option, Some, None, is_some, MatchBool, ap, sym, subst, ◌∙◌, inl, inr, refl, arith, ◌==◌, true, eq-eqb, leb-true, max, nat_le}
+use Rattle.promise.specs.Formed.{FormedBook, IsFormed, first_data, flow_of, link_of, texts_on, own_named, partner_named, texts_for}
+use Rattle.book_judge.specs.Lives.{AreMade, IsMade, UnmadeAt}
+use Rattle.book_judge.specs.Inside.Deeds.{deeds_in, begun_by, begun_of, end_after, pace_of, end_by}
+use Rattle.std.proofs.lemmas.Bool.{false≢true, eqb-true, le-leb}
 use Rattle.book_judge.specs.Inside.Made.{Counts, HasBits, IsMadeBy, Makes, since}
-use Rattle.book_judge.specs.Lives.{UnmadeAt}
 use Rattle.book_judge.proofs.Identities.Named.{contains_cases}
 use Rattle.book_judge.proofs.Crossed.TextsBy.{before_take, data_read, texts_past, texts_same}
 use Rattle.book_judge.proofs.Ends.Reached.{all_crossings}

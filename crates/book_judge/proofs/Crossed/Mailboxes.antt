@@ -1,17 +1,18 @@
 -- The mailboxes that are kept are those of the log, and a crossing finds in them what it needs exactly where it does in the log.
-use Rattle.book_judge.proofs.Common.{◌≡◌, ℕ, ◌+◌, ◌<◌, ◌≤◌, suc, Bool, true, false, not, ◌&&◌, ◌||◌, List, [], ◌∷◌, ◌++◌, length, take, drop, get_or, reverse, Option, Some, None, refl, ap, sym, subst, ◌∙◌, inl, inr, ◌⊎◌, if◌then◌else◌, cond, arith, le-leb, length-append, length-reverse, length-take-le, reverse-append, reverse-reverse, take-append-drop, take_all, take_more, slice_get_read, eq_by_cmp_equiv, get-empty, get-insert, eq_by_cmp, is_eq, Ordering, Less, Equal, Greater, flow_cmp, same_flow, Host, is_host, same_host, Empty, Fits, Flow, Answer, Crossing, HostMessage, both_ways, same_flow-refl, same_flow-true, same_host-refl, same_host-true, same_text, IsSomeRun, StraysAt, Held, Mail}
-use Rattle.std.proofs.lemmas.List.{append_assoc}
-use Rattle.std.proofs.Common.{nat_le, slice_get}
+use Rattle.book_judge.proofs.Common.{slice_get_read, get-empty, get-insert, eq_by_cmp, is_eq, Ordering, Less, Equal, Greater, flow_cmp, same_flow, Host, is_host, same_host, Flow, Answer, Crossing, HostMessage, IsSomeRun, StraysAt, Held, Mail}
+use Rattle.std.proofs.Common.{◌≡◌, ℕ, ◌+◌, ◌<◌, ◌≤◌, suc, Bool, true, false, not, ◌&&◌, ◌||◌, List, [], ◌∷◌, ◌++◌, length, take, drop, get_or, reverse, Option, Some, None, refl, ap, sym, subst, ◌∙◌, inl, inr, ◌⊎◌, if◌then◌else◌, cond, arith, nat_le, slice_get}
+use Rattle.std.proofs.lemmas.Bool.{le-leb, or_right, not_from_false}
+use Rattle.std.proofs.lemmas.List.{length-append, length-reverse, length-take-le, reverse-append, reverse-reverse, take-append-drop, take_all, take_more, append_assoc}
+use Rattle.std.specs.Cmp.{eq_by_cmp_equiv}
+use Rattle.interface.specs.Mailboxes.{Empty, Fits, Box, Waiting, Taken, WaitsWith, fetched, box_of, is_up, up_after_crossing, IsRun}
+use Rattle.interface.proofs.lemmas.{both_ways, same_flow-refl, same_flow-true, same_host-refl, same_host-true, exact_flows, flows_total, run_below, not_true}
+use Rattle.book_judge.specs.Inside.{same_text, to_itself, mark_in, held_in, fresh}
 use Rattle.std.proofs.Math.Seq.{get_or-append_seam}
 use Rattle.std.proofs.lemmas.Bool.Decides.{leb_tells}
 use Rattle.std.specs.FinMap as fin
-use Rattle.std.proofs.lemmas.Bool.{or_right, not_from_false}
-use Rattle.interface.specs.Mailboxes.{Box, Waiting, Taken, WaitsWith, fetched, box_of, is_up, up_after_crossing, IsRun}
 use Rattle.interface.specs.declared.crossing.Answer.TheVariants as answer
 use Rattle.interface.specs.declared.crossing.Crossing.TheVariants as crossing
-use Rattle.interface.proofs.lemmas.{exact_flows, flows_total, run_below, not_true}
 use Rattle.book_judge.specs.Inside as tests
-use Rattle.book_judge.specs.Inside.{to_itself, mark_in, held_in, fresh}
 use Rattle.book_judge.specs.declared.mail.Held.TheVariants as held
 use Rattle.book_judge.specs.declared.mail.Mark.{Mark}
 use Rattle.book_judge.proofs.Crossed.SameText.{same_text-is, same_text-true}

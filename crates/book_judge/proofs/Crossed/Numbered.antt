@@ -1,16 +1,11 @@
 -- What is answered of the messages of a life by their numbers.
-use Rattle.book_judge.proofs.Common.{◌≡◌, ℕ, suc, ◌+◌, ◌-◌, ◌<◌, ◌≤◌, Bool, true, false, List, [], length, take, get_or, Option, Some, None, MatchBool, refl, ap, sym, subst, ◌∙◌, arith, inl, inr, cases_lt, slice_get_read, take_all, Flow, Crossing, Name, Life, flow_of, texts_by, receives, AreJoined}
+use Rattle.book_judge.proofs.Common.{cases_lt, slice_get_read, take_all, Flow, Crossing, Name, receives, Life, flow_of, texts_by, AreJoined, IsNth, Arrival, Joined, Start, Taking}
+use Rattle.std.proofs.Common.{◌≡◌, ℕ, suc, ◌+◌, ◌-◌, ◌<◌, ◌≤◌, Bool, true, false, List, [], length, take, get_or, Option, Some, None, MatchBool, refl, ap, sym, subst, ◌∙◌, arith, inl, inr, leb-true, nat_le}
 use Rattle.std.specs.Bool.{OnTrue}
 use Rattle.std.specs.List.{slice_get}
-use Rattle.std.proofs.Common.{leb-true, nat_le}
 use Rattle.book_judge.specs.Inside.Arrivals.{ArrivalOf, IsSteady, sent_by}
-use Rattle.book_judge.specs.Inside.Joined.{IsNth}
 use Rattle.book_judge.specs.Inside.Sent.{AllSent, ArriveIn, EachSent, Rises, SenderAt, SentAt, SentNth, Tells, taking_at}
 use Rattle.book_judge.specs.Inside.Starts.{AreStarts, counts, counts_of, start_at}
-use Rattle.book_judge.specs.declared.arrivals.Arrival.{Arrival}
-use Rattle.book_judge.specs.declared.joined.Joined.{Joined}
-use Rattle.book_judge.specs.declared.starts.Start.{Start}
-use Rattle.book_judge.specs.declared.starts.Taking.{Taking}
 use Rattle.book_judge.proofs.Identities.Asked.{below_cases}
 use Rattle.book_judge.proofs.Crossed.Counted.{counts_is, counts_true}
 use Rattle.book_judge.proofs.Crossed.Numbers.{nth_once}

@@ -1,10 +1,9 @@
 -- The messages of a flow by their numbers, and the last that had gone out before a place.
-use Rattle.book_judge.proofs.Common.{◌≡◌, ℕ, suc, ◌+◌, ◌-◌, ◌<◌, ◌≤◌, ◌&&◌, Bool, true, false, if◌then◌else◌, List, [], ◌∷◌, ◌++◌, length, take, drop, get_or, reverse, Option, Some, None, refl, ap, sym, ◌∙◌, append-nil, arith, inl, inr, cases_lt, length-append, get_or_from_slice_get, slice_get_within, same_flow, Flow, Crossing, HostMessage, same_flow-true, text_of, texts_of, texts_by, before, last_out}
-use Rattle.std.proofs.lemmas.Bool.{false_from_ne_true}
+use Rattle.book_judge.proofs.Common.{◌≡◌, ℕ, suc, ◌+◌, ◌-◌, ◌<◌, ◌≤◌, ◌&&◌, Bool, true, false, if◌then◌else◌, List, [], ◌∷◌, ◌++◌, length, take, drop, get_or, reverse, Option, Some, None, refl, ap, sym, ◌∙◌, append-nil, arith, inl, inr, cases_lt, false_from_ne_true, length-append, get_or_from_slice_get, slice_get_within, same_flow, Flow, Crossing, HostMessage, same_flow-true, texts_by, IsNth, before, last_out}
+use Rattle.promise.specs.Formed.{text_of, texts_of}
 use Rattle.std.specs.List.{slice_get}
 use Rattle.std.specs.Prelude.{max, nat_lt}
 use Rattle.interface.specs.declared.crossing.Crossing.TheVariants as crossing
-use Rattle.book_judge.specs.Inside.Joined.{IsNth}
 use Rattle.book_judge.proofs.Elements.{read_at}
 use Rattle.book_judge.proofs.Identities.Named.{same_flow_is}
 use Rattle.book_judge.proofs.Crossed.Streamed.{place_more}

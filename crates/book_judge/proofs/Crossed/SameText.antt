@@ -1,5 +1,7 @@
 -- When two texts are the same.
-use Rattle.book_judge.proofs.Common.{◌≡◌, ℕ, Bool, true, false, ◌==◌, List, [], ◌∷◌, ◌++◌, length, take, refl, ap, sym, subst, ◌∙◌, eqb-true, take_at, and_true, both_ways, same_text, same_bit}
+use Rattle.book_judge.proofs.Common.{◌≡◌, ℕ, Bool, true, false, ◌==◌, List, [], ◌∷◌, ◌++◌, length, take, refl, ap, sym, subst, ◌∙◌, eqb-true, same_text, same_bit}
+use Rattle.std.proofs.lemmas.List.{take_at}
+use Rattle.interface.proofs.lemmas.{and_true, both_ways}
 use Rattle.std.proofs.Math.Dec.{eqb}
 use Rattle.std.proofs.lemmas.Bool.Decides.{Decides-eqb}
 use Rattle.std.proofs.lemmas.Slice.Eq.{slice_eq-Decides}

@@ -1,12 +1,10 @@
 -- What had gone out for a sending life when a message came in.
-use Rattle.book_judge.proofs.Common.{◌≡◌, ℕ, suc, ◌+◌, ◌-◌, ◌<◌, ◌≤◌, ◌&&◌, Bool, true, false, if◌then◌else◌, List, length, take, drop, reverse, Option, Some, None, refl, ap, sym, subst, ◌∙◌, arith, inl, inr, cases_lt, length-reverse, ltb-true, and_from, Flow, Crossing, and_true, Life, link_of, flow_of, texts_of, texts_on, texts_by, before, last_out, receives}
-use Rattle.std.proofs.Common.{zero, lt-ltb, [], ◌∷◌}
-use Rattle.std.proofs.lemmas.List.{length-take}
+use Rattle.book_judge.proofs.Common.{cases_lt, ltb-true, and_from, Flow, Crossing, and_true, Life, texts_by, before, last_out, receives, sent_by, since, Start}
+use Rattle.std.proofs.Common.{◌≡◌, ℕ, suc, ◌+◌, ◌-◌, ◌<◌, ◌≤◌, ◌&&◌, Bool, true, false, if◌then◌else◌, List, length, take, drop, reverse, Option, Some, None, refl, ap, sym, subst, ◌∙◌, arith, inl, inr, zero, lt-ltb, [], ◌∷◌}
+use Rattle.std.proofs.lemmas.List.{length-reverse, length-take}
+use Rattle.promise.specs.Formed.{link_of, flow_of, texts_of, texts_on}
 use Rattle.std.specs.Prelude.{max, min, nat_lt}
-use Rattle.book_judge.specs.Inside.Arrivals.{sent_by}
-use Rattle.book_judge.specs.Inside.Made.{since}
 use Rattle.book_judge.specs.Inside.Starts.{IsStart}
-use Rattle.book_judge.specs.declared.starts.Start.{Start}
 use Rattle.book_judge.proofs.Crossed.Made.{older_texts}
 use Rattle.book_judge.proofs.Crossed.Numbers.{LastBy, last_by}
 use Rattle.book_judge.proofs.Crossed.TextsBy.{before_take, texts_between, texts_less, texts_past}

@@ -1,14 +1,15 @@
 -- The data of each flow's messages, joined: one message more, and what a life's part of them is.
-use Rattle.book_judge.proofs.Common.{◌≡◌, ◌⊎◌, inl, inr, ℕ, zero, suc, ◌+◌, ◌-◌, ◌<◌, ◌≤◌, ◌==◌, ◌&&◌, not, Bool, true, false, if◌then◌else◌, List, [], ◌∷◌, ◌++◌, length, take, drop, reverse, Option, Some, None, MatchBool, refl, ap, sym, subst, ◌∙◌, append-nil, arith, get_or, cases_lt, eqb-true, ltb-false, ltb-true, Err, Ok, Result, option_map, drop_all, length-append, length-take-le, take_all, take_at, take_more, get_or_from_slice_get, slice_get_read, slice_get_within, flow_cmp, same_flow, Flow, Crossing, HostMessage, same_flow-true, Host, orders_of, data_in, first_data, named_at, named_in, named_of, text_of, control_flow, AreJoined, IsFirstFrom, NumberBy, all_bits, bits_in, marked, one_unread, pair, texts_by, unread_in, end_of, Piece}
-use Rattle.std.proofs.Common.{min, lt-ltb, nat_lt, slice_index_or, slice_set}
+use Rattle.book_judge.proofs.Common.{cases_lt, eqb-true, ltb-false, ltb-true, get_or_from_slice_get, slice_get_read, slice_get_within, flow_cmp, same_flow, Flow, Crossing, HostMessage, same_flow-true, Host, orders_of, control_flow, Piece, Joined}
+use Rattle.std.proofs.Common.{◌≡◌, ◌⊎◌, inl, inr, ℕ, zero, suc, ◌+◌, ◌-◌, ◌<◌, ◌≤◌, ◌==◌, ◌&&◌, not, Bool, true, false, if◌then◌else◌, List, [], ◌∷◌, ◌++◌, length, take, drop, reverse, Option, Some, None, MatchBool, refl, ap, sym, subst, ◌∙◌, append-nil, arith, get_or, min, lt-ltb, nat_lt, slice_index_or, slice_set}
+use Rattle.std.specs.Prelude.{Err, Ok, Result, option_map, OnOk}
+use Rattle.std.proofs.lemmas.List.{drop_all, length-append, length-take-le, take_all, take_at, take_more, get_or_default, take-append-le}
+use Rattle.promise.specs.Formed.{data_in, first_data, named_at, named_in, named_of, text_of}
+use Rattle.book_judge.specs.Inside.Joined.{AreJoined, IsFirstFrom, NumberBy, all_bits, bits_in, marked, one_unread, pair, texts_by, unread_in, HasNumber, IsPiece, IsStream, StreamOf, message_of}
+use Rattle.book_judge.specs.Inside.Made.{end_of}
 use Rattle.std.specs.List.{slice_get}
 use Rattle.std.specs.List.Sorted.{IsPartitionPoint, IsPartitionedBy}
 use Rattle.std.specs.FinMap as map
-use Rattle.std.specs.Prelude.{OnOk}
-use Rattle.std.proofs.lemmas.List.{get_or_default, take-append-le}
 use Rattle.interface.specs.declared.crossing.Crossing.TheVariants as crossing
-use Rattle.book_judge.specs.Inside.Joined.{HasNumber, IsPiece, IsStream, StreamOf, message_of}
-use Rattle.book_judge.specs.declared.joined.Joined.{Joined}
 use Rattle.book_judge.specs.declared.joined.Stream.{Stream}
 use Rattle.book_judge.proofs.Elements.{read_at}
 use Rattle.book_judge.proofs.Crossed.Mailboxes.{get_set}

@@ -1,11 +1,11 @@
 -- Whether a log with one crossing more keeps messages: that is seen by what crossed last on its flow.
-use Rattle.book_judge.proofs.Common.{◌≡◌, ◌⊎◌, ℕ, ◌+◌, ◌<◌, ◌≤◌, Bool, true, false, ◌||◌, if◌then◌else◌, List, [], ◌∷◌, ◌++◌, length, take, get_or, reverse, Option, Some, refl, ap, sym, subst, ◌∙◌, inl, inr, arith, get-empty, take_all, slice_get_read, flow_cmp, same_flow, SafeMessages, Flow, Crossing, HostMessage, same_flow-refl, same_flow-true, EndsAt, before, Held}
+use Rattle.book_judge.proofs.Common.{◌≡◌, ◌⊎◌, ℕ, ◌+◌, ◌<◌, ◌≤◌, Bool, true, false, ◌||◌, if◌then◌else◌, List, [], ◌∷◌, ◌++◌, length, take, get_or, reverse, Option, Some, refl, ap, sym, subst, ◌∙◌, inl, inr, arith, get-empty, take_all, slice_get_read, flow_cmp, same_flow, Flow, Crossing, HostMessage, EndsAt, before, Held}
+use Rattle.interface.specs.Messages.{SafeMessages, SinceLastOut, TakenOnce, taken_in, went_out}
+use Rattle.interface.proofs.lemmas.{same_flow-refl, same_flow-true, or_false}
 use Rattle.std.specs.List.{slice_get}
 use Rattle.std.specs.FinMap as map
-use Rattle.interface.specs.Messages.{SinceLastOut, TakenOnce, taken_in, went_out}
 use Rattle.interface.specs.declared.crossing.Answer.TheVariants as answer
 use Rattle.interface.specs.declared.crossing.Crossing.TheVariants as crossing
-use Rattle.interface.proofs.lemmas.{or_false}
 use Rattle.book_judge.specs.Inside.{says, waits_with}
 use Rattle.book_judge.specs.Inside.Taken.{finds, held_or, last_on, noted, was_taken}
 use Rattle.book_judge.specs.declared.mail.Held.TheVariants as held

@@ -1,13 +1,13 @@
 -- The texts that cross on a flow, and the data of the first of them.
-use Rattle.book_judge.proofs.Common.{◌≡◌, ℕ, suc, ◌+◌, ◌-◌, ◌<◌, ◌≤◌, ◌&&◌, Bool, true, false, if◌then◌else◌, List, [], ◌∷◌, ◌++◌, length, take, drop, reverse, Option, Some, None, refl, ap, sym, ◌∙◌, append-nil, arith, inl, inr, subst, ap₂, option_map, ltb-false, ltb-true, cases_lt, drop_all, length-append, length-reverse, reverse-append, take-append-drop, take_all, take_at, length-drop, Flow, Crossing, and_true, data_in, first_data, text_of, texts_of, all_bits, bits_in, one_unread, texts_by, unread_in, end_of, before}
-use Rattle.std.proofs.lemmas.List.{append_assoc, drop_at}
-use Rattle.std.proofs.Common.{zero}
-use Rattle.std.specs.Prelude.{max, nat_lt}
-use Rattle.std.proofs.lemmas.List.{drop-append-le}
+use Rattle.book_judge.proofs.Common.{ltb-false, ltb-true, cases_lt, Flow, Crossing, and_true, before}
+use Rattle.std.proofs.Common.{◌≡◌, ℕ, suc, ◌+◌, ◌-◌, ◌<◌, ◌≤◌, ◌&&◌, Bool, true, false, if◌then◌else◌, List, [], ◌∷◌, ◌++◌, length, take, drop, reverse, Option, Some, None, refl, ap, sym, ◌∙◌, append-nil, arith, inl, inr, subst, ap₂, zero}
+use Rattle.std.specs.Prelude.{option_map, max, nat_lt}
+use Rattle.std.proofs.lemmas.List.{drop_all, length-append, length-reverse, reverse-append, take-append-drop, take_all, take_at, length-drop, append_assoc, drop_at, drop-append-le}
+use Rattle.promise.specs.Formed.{data_in, first_data, text_of, texts_of, data_by, joined}
+use Rattle.book_judge.specs.Inside.Joined.{all_bits, bits_in, one_unread, texts_by, unread_in}
+use Rattle.book_judge.specs.Inside.Made.{end_of, end_by}
 use Rattle.ncp_control.specs.DataHeader.{header_of}
 use Rattle.ncp_control.specs.declared.data_header.DataHeader.{DataHeader}
-use Rattle.promise.specs.Formed.{data_by, joined}
-use Rattle.book_judge.specs.Inside.Made.{end_by}
 
 -- ---- what crossed before a place
 

@@ -1,10 +1,9 @@
 -- What comes first is kept: with one change before the others it is so again.
-use Rattle.book_judge.proofs.Common.{◌≡◌, ℕ, ◌+◌, ◌-◌, ◌<◌, ◌≤◌, Bool, true, false, ◌&&◌, List, [], ◌∷◌, length, drop, get_or, Option, Some, refl, ap, sym, subst, ◌∙◌, if◌then◌else◌, arith, get-empty, unwrap_or, drop_all, drop_more, length-drop, flow_cmp, Host, same_host, control_flow, Key, Ahead, Begin, Firsts, Change, Turn, IsAhead, asks_at, begin_at, closes_at, drops_at, first_begin, first_close, first_drop, first_stop, firsts_from, firsts_with, stops_at, number_at, key_cmp, same_key}
+use Rattle.book_judge.proofs.Common.{◌≡◌, ℕ, ◌+◌, ◌-◌, ◌<◌, ◌≤◌, Bool, true, false, ◌&&◌, List, [], ◌∷◌, length, drop, get_or, Option, Some, refl, ap, sym, subst, ◌∙◌, if◌then◌else◌, arith, get-empty, unwrap_or, drop_all, drop_more, length-drop, flow_cmp, Host, same_host, control_flow, Key, Ahead, Begin, Firsts, Change, Turn, key_cmp, same_key}
+use Rattle.book_judge.specs.Inside.Begins.{IsAhead, asks_at, begin_at, closes_at, drops_at, first_begin, first_close, first_drop, first_stop, firsts_from, firsts_with, stops_at, ahead_by, ahead_once, closed_at, key, firsts_at, firsts_by}
+use Rattle.book_judge.specs.Inside.Changes.{number_at}
 use Rattle.std.specs.FinMap as map
 use Rattle.book_judge.specs.declared.fates.changes.Turn.TheVariants as turn
-use Rattle.book_judge.specs.Inside.Begins.{ahead_by, ahead_once, closed_at}
-use Rattle.book_judge.specs.Inside.Begins.{key}
-use Rattle.book_judge.specs.Inside.Begins.{firsts_at, firsts_by}
 use Rattle.book_judge.proofs.Ends.Keys.{get_set_key, same_key-true}
 use Rattle.book_judge.proofs.Ends.Owed.{number_empty, own_set, pair_set}
 

@@ -1,20 +1,14 @@
 -- A life comes as far as what follows its requests says.
-use Rattle.book_judge.proofs.Common.{option_map, ◌≡◌, ◌⊎◌, inl, inr, ℕ, suc, ◌+◌, ◌-◌, ◌<◌, ◌≤◌, ◌==◌, get_or, Bool, true, false, ◌&&◌, ◌||◌, List, [], ◌∷◌, ◌++◌, length, Option, Some, None, refl, ap, ap₂, reverse, subst, sym, ◌∙◌, if◌then◌else◌, arith, or-false, and_from, cases_lt, eqb-true, false≢true, or_right, length-append, Host, same_host, Crossing, Asking, Cause, Closed, Dropped, Going, Over, Stage, Stopped, cut, Life, Key, Deed, Ahead, Begin, Firsts, Change, Turn, IsAhead, ask_key, asks_at, begin_at, closes_at, drops_at, first_begin, first_close, first_drop, first_stop, firsts_from, firsts_with, place_at, stops_at, changes_in, owes_never, Pace, after, begun_of, closed, deeds_in, end_after, opening, pace_of, same_key}
-use Rattle.std.proofs.Common.{nat_lt}
-use Rattle.std.proofs.Common.{eq-eqb}
-use Rattle.std.proofs.lemmas.Bool.{and_left, and_right, lt-ltb}
-use Rattle.std.proofs.lemmas.List.{append_assoc}
-use Rattle.book_judge.specs.declared.fates.Courses.{Courses}
-use Rattle.book_judge.specs.declared.fates.begins.Known.{Known}
+use Rattle.book_judge.proofs.Common.{option_map, or-false, Host, same_host, Crossing, Life, Key, Deed, Ahead, Begin, Firsts, Change, Turn, changes_in, owes_never, same_key, Courses, Known}
+use Rattle.std.proofs.Common.{◌≡◌, ◌⊎◌, inl, inr, ℕ, suc, ◌+◌, ◌-◌, ◌<◌, ◌≤◌, ◌==◌, get_or, Bool, true, false, ◌&&◌, ◌||◌, List, [], ◌∷◌, ◌++◌, length, Option, Some, None, refl, ap, ap₂, reverse, subst, sym, ◌∙◌, if◌then◌else◌, arith, nat_lt, eq-eqb}
+use Rattle.std.proofs.lemmas.Bool.{and_from, cases_lt, eqb-true, false≢true, or_right, and_left, and_right, lt-ltb}
+use Rattle.std.proofs.lemmas.List.{length-append, append_assoc}
+use Rattle.promise.specs.Ends.{Asking, Cause, Closed, Dropped, Going, Over, Stage, Stopped, cut}
+use Rattle.book_judge.specs.Inside.Begins.{IsAhead, ask_key, asks_at, begin_at, closes_at, drops_at, first_begin, first_close, first_drop, first_stop, firsts_from, firsts_with, place_at, stops_at, AreCourses, IsKnown, cut_from, ends_before, is_before, key, known_by, known_two, pace_at, reached_from, reached_if, stage_of}
+use Rattle.book_judge.specs.Inside.Deeds.{Pace, after, begun_of, closed, deeds_in, end_after, opening, pace_of, end_by}
 use Rattle.book_judge.specs.declared.fates.begins.Reached.{Reached}
 use Rattle.book_judge.specs.declared.fates.begins.Reached.TheVariants as reached
 use Rattle.book_judge.specs.declared.fates.changes.Turn.TheVariants as turn
-use Rattle.book_judge.specs.Inside.Begins.{AreCourses, IsKnown}
-use Rattle.book_judge.specs.Inside.Begins.{cut_from}
-use Rattle.book_judge.specs.Inside.Begins.{ends_before}
-use Rattle.book_judge.specs.Inside.Begins.{is_before, key, known_by, known_two, pace_at}
-use Rattle.book_judge.specs.Inside.Begins.{reached_from, reached_if, stage_of}
-use Rattle.book_judge.specs.Inside.Deeds.{end_by}
 use Rattle.book_judge.proofs.Ends.Changed.{changes_same, close_key, ended, turned, turned_by}
 use Rattle.book_judge.proofs.Ends.Owed.{not_less}
 

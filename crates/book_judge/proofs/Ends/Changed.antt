@@ -1,11 +1,12 @@
 -- Changes bring a life as far as all deeds do.
-use Rattle.book_judge.proofs.Common.{◌≡◌, ℕ, ◌+◌, ◌<◌, ◌≤◌, ◌==◌, Bool, true, false, not, ◌&&◌, ◌||◌, List, [], ◌∷◌, ◌++◌, length, drop, get_or, Option, Some, None, append-nil, refl, ap, sym, subst, ◌∙◌, if◌then◌else◌, drop_all, drop_more, Host, same_host, and_true, same_host-true, Life, Key, Act, Deed, Course, Dropped, Stage, Stopped, cut, ended_by, is_half, Change, Owed, Turn, ask_key, changes_in, nothing_owed, owed_once, owes, owes_after, owes_never, Pace, acts, after, asked, closed, has_peer, is_of, owes_by, pace_of, stamp, step, same_key}
-use Rattle.std.proofs.Common.{append_assoc}
+use Rattle.book_judge.proofs.Common.{drop_all, drop_more, Host, same_host, and_true, same_host-true, Life, Key, Act, Deed, Change, Owed, Turn, same_key}
+use Rattle.std.proofs.Common.{◌≡◌, ℕ, ◌+◌, ◌<◌, ◌≤◌, ◌==◌, Bool, true, false, not, ◌&&◌, ◌||◌, List, [], ◌∷◌, ◌++◌, length, drop, get_or, Option, Some, None, append-nil, refl, ap, sym, subst, ◌∙◌, if◌then◌else◌, append_assoc}
+use Rattle.promise.specs.Ends.{Course, Dropped, Stage, Stopped, cut, ended_by, is_half}
+use Rattle.book_judge.specs.Inside.Begins.{ask_key, key}
+use Rattle.book_judge.specs.Inside.Changes.{changes_in, nothing_owed, owed_once, owes, owes_after, owes_never, turn_of, with_turn}
+use Rattle.book_judge.specs.Inside.Deeds.{Pace, acts, after, asked, closed, has_peer, is_of, owes_by, pace_of, stamp, step, concerns}
 use Rattle.book_judge.specs.declared.fates.deeds.Act.TheVariants as act
 use Rattle.book_judge.specs.declared.fates.changes.Turn.TheVariants as turn
-use Rattle.book_judge.specs.Inside.Begins.{key}
-use Rattle.book_judge.specs.Inside.Changes.{turn_of, with_turn}
-use Rattle.book_judge.specs.Inside.Deeds.{concerns}
 use Rattle.book_judge.proofs.Ends.Owed.{AreBefore, before_first, owes_first, owes_next}
 
 -- ---- changes of a life

@@ -1,18 +1,14 @@
 -- Contacts of a life's host don't cross. With them it is as far as without them, or one has reset it; and what goes out
 -- to its peer next is then an RST.
-use Rattle.book_judge.proofs.Common.{◌≡◌, ◌⊎◌, inl, inr, ℕ, suc, ◌≤◌, ◌==◌, ◌&&◌, ◌||◌, not, Bool, true, false, if◌then◌else◌, List, [], ◌∷◌, length, refl, ap, sym, subst, ◌∙◌, arith, ◌-◌, drop, Option, Some, None, false≢true, false_from_ne_true, or_right, Host, same_host, same_flow, Flow, Crossing, HostMessage, orders_of, Legal, Order, Wrong, control_flow, before, receives, Contains, Asking, Closed, Course, Dropped, Going, Over, Stage, Stopped, course, Cause, cut, ended_by, is_half, Fate, Life, FormedBook, text_of, flow_of, link_of, texts_of, texts_on, AreMade, IsSuited, suits, is_begun, acts, after, asked, closed, deeds_at, opening, step, is_of, owes_by, stamp, Act, Deed, length-append, same_host-true, or-false, Command}
-use Rattle.std.proofs.Common.{zero}
-use Rattle.promise.specs.Ends.{stage}
-use Rattle.std.proofs.lemmas.Bool.{or_left}
-use Rattle.std.specs.List.{list_any}
+use Rattle.book_judge.proofs.Common.{false≢true, false_from_ne_true, or_right, or_left, Host, same_host, same_flow, Flow, Crossing, HostMessage, orders_of, Legal, Order, Wrong, control_flow, before, receives, Contains, list_any, Fate, Life, AreMade, IsSuited, suits, is_begun, Act, Deed, length-append, same_host-true, or-false, Command, Called}
+use Rattle.std.proofs.Common.{◌≡◌, ◌⊎◌, inl, inr, ℕ, suc, ◌≤◌, ◌==◌, ◌&&◌, ◌||◌, not, Bool, true, false, if◌then◌else◌, List, [], ◌∷◌, length, refl, ap, sym, subst, ◌∙◌, arith, ◌-◌, drop, Option, Some, None, zero}
+use Rattle.promise.specs.Ends.{Asking, Closed, Course, Dropped, Going, Over, Stage, Stopped, course, Cause, cut, ended_by, is_half, stage, AreContacts, IsLeft, Leaves, asks_for, closes, contacts_now, crosses, each, fails, heard, is_contact, partner_asked, partner_closed, said, still_contacts}
+use Rattle.promise.specs.Formed.{FormedBook, text_of, flow_of, link_of, texts_of, texts_on}
+use Rattle.book_judge.specs.Inside.Deeds.{acts, after, asked, closed, deeds_at, opening, step, is_of, owes_by, stamp}
 use Rattle.interface.specs.declared.crossing.Crossing.TheVariants as crossing
 use Rattle.ncp_control.specs.declared.command.Command.TheVariants as command
 use Rattle.promise.specs.Ends as ends
-use Rattle.promise.specs.Ends.{AreContacts, IsLeft, Leaves, asks_for, closes, contacts_now}
-use Rattle.promise.specs.Ends.{crosses, each, fails, heard, is_contact, partner_asked, partner_closed, said}
-use Rattle.promise.specs.Ends.{still_contacts}
 use Rattle.std.specs.Prelude.{nat_lt}
-use Rattle.promise.specs.declared.book.Called.{Called}
 use Rattle.promise.specs.declared.life.Fate.TheVariants as fate
 use Rattle.book_judge.specs.declared.fates.deeds.Act.TheVariants as act
 use Rattle.book_judge.proofs.Ends.Changed.{owes_acts}

@@ -1,13 +1,13 @@
 -- The order of keys, and the map that a list of entries by key makes.
 pub use Rattle.interface.proofs.lemmas.{is_equal}
-use Rattle.book_judge.proofs.Common.{◌≡◌, ℕ, Bool, true, false, ◌&&◌, ◌==◌, List, [], ◌∷◌, Some, refl, ap, sym, subst, ◌∙◌, cond, if◌then◌else◌, lookup, is_at, eq_by_cmp, is_eq, nat_cmp, eq_by_cmp_equiv, nat_cmp_total, Ordering, Equal, Greater, Less, FinMap, find, from_entries, get, get-from_entries, get-insert, insert, same_map, and_from, eqb-true, false≢true, exact_unsigned, Host, same_host, and_true, both_ways, same_host-refl, same_host-true, Key, same_bit, key_cmp, same_key}
-use Rattle.std.specs.Ordering.{bool_cmp, ordering_then}
-use Rattle.std.specs.Cmp.{IsTotalOrder, bool_cmp_total}
-use Rattle.std.proofs.lemmas.Bool.{eq-eqb}
+use Rattle.book_judge.proofs.Common.{◌≡◌, ℕ, Bool, true, false, ◌&&◌, ◌==◌, List, [], ◌∷◌, Some, refl, ap, sym, subst, ◌∙◌, cond, if◌then◌else◌, lookup, is_at, Ordering, Equal, Greater, Less, FinMap, find, from_entries, get, get-from_entries, get-insert, insert, same_map, Key, same_bit, key_cmp, same_key}
+use Rattle.std.specs.Ordering.{eq_by_cmp, is_eq, nat_cmp, bool_cmp, ordering_then}
+use Rattle.std.specs.Cmp.{eq_by_cmp_equiv, nat_cmp_total, IsTotalOrder, bool_cmp_total}
+use Rattle.std.proofs.lemmas.Bool.{and_from, eqb-true, false≢true, eq-eqb}
+use Rattle.std.proofs.lemmas.Map.Lookups.{exact_unsigned, CmpEqualImpliesEq, exact_pairs}
+use Rattle.interface.specs.Host.{Host, same_host, host_cmp}
+use Rattle.interface.proofs.lemmas.{and_true, both_ways, same_host-refl, same_host-true, exact_hosts, hosts_total}
 use Rattle.std.proofs.lemmas.Cmp.{on_total, then_total}
-use Rattle.std.proofs.lemmas.Map.Lookups.{CmpEqualImpliesEq, exact_pairs}
-use Rattle.interface.specs.Host.{host_cmp}
-use Rattle.interface.proofs.lemmas.{exact_hosts, hosts_total}
 use Rattle.book_judge.proofs.Crossed.SameText.{same_bit-true, same_bit-refl}
 
 -- ---- their order

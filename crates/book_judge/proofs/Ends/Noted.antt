@@ -1,17 +1,11 @@
 -- What is known of contacts while lives are gone through, and the first life whose fate isn't left to it.
-use Rattle.book_judge.proofs.Common.{◌≡◌, inl, inr, ℕ, ◌+◌, ◌<◌, ◌≤◌, Bool, true, false, not, ◌&&◌, if◌then◌else◌, List, []}
-use Rattle.book_judge.proofs.Common.{take, length, length-reverse, reverse, Option, Some, refl, ap, arith, sym, subst, ◌∙◌, false≢true, get-empty}
-use Rattle.book_judge.proofs.Common.{ltb-false, ltb-true, Crossing, course, stage, Asking, Going, Over, Stage}
-use Rattle.book_judge.proofs.Common.{Course, IsBeside, Fate, Life, AreSuited, is_begun, Key, key_cmp, same_key}
-use Rattle.book_judge.proofs.Common.{after, begun_by, begun_of, deeds_in, opening, pace_of, suits_after}
-use Rattle.std.proofs.Common.{None, nat_lt}
+use Rattle.book_judge.proofs.Common.{length-reverse, false≢true, ltb-false, ltb-true, get-empty, Crossing, course, stage, Asking, Going, Over, Stage, Course, IsBeside, Fate, Life, Key, key_cmp, same_key, after, begun_by, begun_of, deeds_in, opening, pace_of, suits_after, Said}
+use Rattle.std.proofs.Common.{◌≡◌, inl, inr, ℕ, ◌+◌, ◌<◌, ◌≤◌, Bool, true, false, not, ◌&&◌, if◌then◌else◌, List, [], take, length, reverse, Option, Some, refl, ap, arith, sym, subst, ◌∙◌, None, nat_lt}
+use Rattle.book_judge.specs.Fates.{AreSuited, is_begun, Outlasts, UnsuitedAt, cut_at, over_at, was_contacted}
 use Rattle.std.specs.FinMap as map
 use Rattle.promise.specs.declared.life.Fate.TheVariants as fate
-use Rattle.book_judge.specs.Fates.{Outlasts, UnsuitedAt, cut_at, over_at, was_contacted}
 use Rattle.book_judge.specs.Inside.Begins.{key}
-use Rattle.book_judge.specs.Inside.Contacts.{AreNoted, Bounds, IsEnd, agrees, ends_key, is_apart, is_reset}
-use Rattle.book_judge.specs.Inside.Contacts.{kept_end, noted, said_after, said_at, said_begun, said_in}
-use Rattle.book_judge.specs.declared.fates.contacts.Said.{Said}
+use Rattle.book_judge.specs.Inside.Contacts.{AreNoted, Bounds, IsEnd, agrees, ends_key, is_apart, is_reset, kept_end, noted, said_after, said_at, said_begun, said_in}
 use Rattle.book_judge.proofs.Ends.Keys.{get_set_key, same_key-refl, same_key-true}
 use Rattle.book_judge.proofs.Ends.Reached.{all_crossings}
 use Rattle.book_judge.proofs.Ends.Suited.{EachSuits, IsAt, at_here, at_last, at_older, each_fails, each_more}

@@ -1,15 +1,10 @@
 -- Changes without CLS are those of deeds without CLS, and what is said of a life is what both say.
-use Rattle.book_judge.proofs.Common.{option_map, ◌≡◌, ℕ, Bool, true, false, List, [], ◌∷◌, Option, Some, None, refl, ap, subst, sym, ◌∙◌, if◌then◌else◌, Host, Fate, Life, Act, Deed, Ahead, Change, IsAhead, place_at, changes_in, owes_after, owes_never, Pace, end_after}
-use Rattle.std.specs.List.{filter}
-use Rattle.book_judge.specs.declared.fates.Courses.{Courses}
-use Rattle.book_judge.specs.declared.fates.begins.Known.{Known}
-use Rattle.book_judge.specs.declared.fates.contacts.Said.{Said}
+use Rattle.book_judge.proofs.Common.{option_map, ◌≡◌, ℕ, Bool, true, false, List, [], ◌∷◌, Option, Some, None, refl, ap, subst, sym, ◌∙◌, if◌then◌else◌, Host, Fate, Life, Act, Deed, Ahead, Change, Pace, end_after, begun_of, after, opening, pace_of, filter, Courses, Known, Said}
+use Rattle.book_judge.specs.Inside.Begins.{IsAhead, place_at, AreCourses, IsKnown, pace_at}
+use Rattle.book_judge.specs.Inside.Changes.{changes_in, owes_after, owes_never, opens, turn_of, with_turn}
 use Rattle.book_judge.specs.declared.fates.deeds.Act.TheVariants as act
 use Rattle.book_judge.specs.declared.fates.changes.Turn.TheVariants as turn
-use Rattle.book_judge.specs.Inside.Begins.{AreCourses, IsKnown, pace_at}
-use Rattle.book_judge.specs.Inside.Changes.{opens, turn_of, with_turn}
 use Rattle.book_judge.specs.Inside.Contacts.{but_closes, is_open, said_after, said_begun}
-use Rattle.book_judge.specs.Inside.Deeds.{begun_of, after, opening, pace_of}
 use Rattle.book_judge.proofs.Ends.Owed.{same_if}
 
 module _ (d : Deed) (rest : List Change) where

@@ -1,11 +1,12 @@
 -- Which RRP are owed: what is kept of it says so of all hosts and peers.
-use Rattle.book_judge.proofs.Common.{◌≡◌, ℕ, ◌+◌, ◌≤◌, Bool, true, false, not, ◌&&◌, ◌||◌, Option, Some, refl, ap, ap₂, sym, subst, ◌∙◌, if◌then◌else◌, arith, get-empty, unwrap_or, false_from_ne_true, ltb-true, flow_cmp, same_flow, Host, same_host, Flow, control_flow, Act, Deed, Owed, has_peer, owes_by, nothing_owed, number_at, owed_once, owes, owes_after, owes_never}
-use Rattle.std.proofs.Common.{nat_lt}
+use Rattle.book_judge.proofs.Common.{get-empty, unwrap_or, flow_cmp, same_flow, Host, same_host, Flow, control_flow, Act, Deed, Owed}
+use Rattle.std.proofs.Common.{◌≡◌, ℕ, ◌+◌, ◌≤◌, Bool, true, false, not, ◌&&◌, ◌||◌, Option, Some, refl, ap, ap₂, sym, subst, ◌∙◌, if◌then◌else◌, arith, nat_lt}
+use Rattle.std.proofs.lemmas.Bool.{false_from_ne_true, ltb-true, lt-ltb}
+use Rattle.book_judge.specs.Inside.Deeds.{has_peer, owes_by}
+use Rattle.book_judge.specs.Inside.Changes.{nothing_owed, number_at, owed_once, owes, owes_after, owes_never, owed_by_act}
 use Rattle.std.specs.FinMap as map
-use Rattle.std.proofs.lemmas.Bool.{lt-ltb}
 use Rattle.book_judge.proofs.Crossed.Mailboxes.{get_set}
 use Rattle.book_judge.specs.declared.fates.deeds.Act.TheVariants as act
-use Rattle.book_judge.specs.Inside.Changes.{owed_by_act}
 
 -- ---- numbers of flows
 

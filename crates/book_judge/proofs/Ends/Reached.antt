@@ -1,10 +1,11 @@
 -- How far a life is by what crossed: by deeds it is as far as `Ends` of `promise` says.
-use Rattle.book_judge.proofs.Common.{◌≡◌, ℕ, ◌==◌, ◌&&◌, Bool, true, false, not, if◌then◌else◌, List, [], ◌∷◌, ◌++◌, length, refl, ap, ◌∙◌, Host, same_host, Crossing, orders_of, Legal, Order, Wrong, Course, Dropped, course, Life, after, deeds_at, deeds_by, deeds_in, opening, step, Deed, Command}
+use Rattle.book_judge.proofs.Common.{◌≡◌, ℕ, ◌==◌, ◌&&◌, Bool, true, false, not, if◌then◌else◌, List, [], ◌∷◌, ◌++◌, length, refl, ap, ◌∙◌, Host, same_host, Crossing, orders_of, Legal, Order, Wrong, Life, Deed, Command}
+use Rattle.promise.specs.Ends.{Course, Dropped, course}
+use Rattle.book_judge.specs.Inside.Deeds.{after, deeds_at, deeds_by, deeds_in, opening, step, act_of, with_act}
 use Rattle.interface.specs.declared.crossing.Answer.TheVariants as answer
 use Rattle.interface.specs.declared.crossing.Crossing.TheVariants as crossing
 use Rattle.ncp_control.specs.declared.command.Command.TheVariants as command
 use Rattle.promise.specs.Ends as ends
-use Rattle.book_judge.specs.Inside.Deeds.{act_of, with_act}
 
 -- ---- one deed after another
 

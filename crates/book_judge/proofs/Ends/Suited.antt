@@ -1,7 +1,7 @@
 -- Deeds of a log, and the first life whose fate they don't leave it.
-use Rattle.book_judge.proofs.Common.{◌≡◌, ◌⊎◌, inl, inr, ℕ, zero, suc, ◌+◌, ◌-◌, ◌<◌, ◌≤◌, Bool, true, false, List, [], ◌∷◌, ◌++◌, length, drop, get_or, take, Option, Some, refl, ap, arith, subst, sym, ◌∙◌, not, ◌&&◌, length-drop, length-take-le, take_all, take_more, Host, Crossing, orders_within, stage, Asking, Going, Over, Stage, Course, course, IsBeside, Fate, Life, AreSuited, suits, IsSuited, is_begun, deeds_by, deeds_in, suits_after, begun_by, begun_of, pace_of, suits_begun, Deed, false≢true, and_true}
-use Rattle.std.proofs.Common.{None}
-use Rattle.std.proofs.lemmas.Bool.{not-true}
+use Rattle.book_judge.proofs.Common.{length-drop, length-take-le, take_all, take_more, Host, Crossing, orders_within, stage, Asking, Going, Over, Stage, Course, course, IsBeside, Fate, Life, AreSuited, suits, IsSuited, is_begun, deeds_by, deeds_in, suits_after, begun_by, begun_of, pace_of, suits_begun, Deed, and_true}
+use Rattle.std.proofs.Common.{◌≡◌, ◌⊎◌, inl, inr, ℕ, zero, suc, ◌+◌, ◌-◌, ◌<◌, ◌≤◌, Bool, true, false, List, [], ◌∷◌, ◌++◌, length, drop, get_or, take, Option, Some, refl, ap, arith, subst, sym, ◌∙◌, not, ◌&&◌, None}
+use Rattle.std.proofs.lemmas.Bool.{false≢true, not-true}
 use Rattle.std.specs.List.{slice_get}
 use Rattle.promise.specs.declared.life.Fate.TheVariants as fate
 use Rattle.book_judge.proofs.Ends.Reached.{all_crossings}

@@ -1,17 +1,12 @@
 -- A contact resets all lives of a host with a peer. What goes out next is an RST, so each life that begins after it does so
 -- after that, or after a stop of the host: after a cut of all lives that have begun before.
-use Rattle.book_judge.proofs.Common.{◌≡◌, ◌⊎◌, inl, inr, ℕ, ◌<◌, ◌≤◌, ◌==◌, ◌&&◌, ◌||◌, not, Bool, true, false, if◌then◌else◌, List, [], ◌∷◌, length, refl, ap, ap₂, arith, sym, subst, ◌∙◌, false≢true, or_right, and_true, same_host-true, Host, same_host, same_flow, Crossing, orders_of, Legal, Order, Wrong, control_flow, Asking, Course, Dropped, Going, Over, Stage, Stopped, Closed, course, Cause, cut, ended_by, is_half, Fate, Life, stage, is_begun, AreSuited, opening, Command}
-use Rattle.std.proofs.lemmas.Bool.{or_left}
-use Rattle.std.specs.List.{list_any}
+use Rattle.book_judge.proofs.Common.{false≢true, or_right, or_left, and_true, same_host-true, Host, same_host, same_flow, Crossing, orders_of, Legal, Order, Wrong, control_flow, Fate, Life, is_begun, AreSuited, Outlasts, cut_at, over_at, reopened, unclosed, was_contacted, opening, Command, list_any, Called}
+use Rattle.std.proofs.Common.{◌≡◌, ◌⊎◌, inl, inr, ℕ, ◌<◌, ◌≤◌, ◌==◌, ◌&&◌, ◌||◌, not, Bool, true, false, if◌then◌else◌, List, [], ◌∷◌, length, refl, ap, ap₂, arith, sym, subst, ◌∙◌}
+use Rattle.promise.specs.Ends.{Asking, Course, Dropped, Going, Over, Stage, Stopped, Closed, course, Cause, cut, ended_by, is_half, stage, AreContacts, AreLeft, IsLeft, Leaves, asks_for, closes, contacts_now, crosses, each, fails, heard, is_contact, partner_asked, partner_closed, said, still_contacts}
 use Rattle.interface.specs.declared.crossing.Crossing.TheVariants as crossing
 use Rattle.ncp_control.specs.declared.command.Command.TheVariants as command
 use Rattle.promise.specs.Ends as ends
-use Rattle.promise.specs.Ends.{AreContacts, AreLeft, IsLeft, Leaves, asks_for, closes, contacts_now}
-use Rattle.promise.specs.Ends.{crosses, each, fails, heard, is_contact, partner_asked, partner_closed, said}
-use Rattle.promise.specs.Ends.{still_contacts}
-use Rattle.promise.specs.declared.book.Called.{Called}
 use Rattle.promise.specs.declared.life.Fate.TheVariants as fate
-use Rattle.book_judge.specs.Fates.{Outlasts, cut_at, over_at, reopened, unclosed, was_contacted}
 use Rattle.book_judge.proofs.Ends.Contacts.{Alike, Begun, Behind, Follows, Parted, alike_crosses, begun_acts, dropped_reset, early_acts, follows, kept_crosses, one_suited, over_acts, parted}
 use Rattle.book_judge.proofs.Ends.Unclosed.{IsBesideOpen, Placed, beside_open, over_open, placed_crosses, placed_open}
 

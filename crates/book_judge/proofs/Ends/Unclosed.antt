@@ -1,13 +1,12 @@
 -- A life that nobody closes: it is as far as deeds without CLS bring it.
-use Rattle.book_judge.proofs.Common.{◌≡◌, ℕ, ◌==◌, ◌&&◌, ◌||◌, Bool, true, false, if◌then◌else◌, List, [], ◌∷◌, ◌++◌, length, refl, ap, sym, subst, ◌∙◌, false≢true, Host, Crossing, orders_of, Legal, Order, Wrong, Asking, Cause, Closed, Course, Dropped, Going, Over, Stage, Stopped, course, cut, ended_by, stage, is_begun, Life, acts, after, asked, begun_by, closed, deeds_at, deeds_by, deeds_in, is_of, opening, stamp, step, Act, Deed, Command}
+use Rattle.book_judge.proofs.Common.{◌≡◌, ℕ, ◌==◌, ◌&&◌, ◌||◌, Bool, true, false, if◌then◌else◌, List, [], ◌∷◌, ◌++◌, length, refl, ap, sym, subst, ◌∙◌, false≢true, Host, Crossing, orders_of, Legal, Order, Wrong, is_begun, over_at, reopened, unclosed, Life, Act, Deed, Command}
+use Rattle.promise.specs.Ends.{Asking, Cause, Closed, Course, Dropped, Going, Over, Stage, Stopped, course, cut, ended_by, stage, crosses}
+use Rattle.book_judge.specs.Inside.Deeds.{acts, after, asked, begun_by, closed, deeds_at, deeds_by, deeds_in, is_of, opening, stamp, step, act_of, concerns, end_by, with_act}
 use Rattle.interface.specs.declared.crossing.Answer.TheVariants as answer
 use Rattle.interface.specs.declared.crossing.Crossing.TheVariants as crossing
 use Rattle.ncp_control.specs.declared.command.Command.TheVariants as command
-use Rattle.promise.specs.Ends.{crosses}
 use Rattle.book_judge.specs.declared.fates.deeds.Act.TheVariants as act
-use Rattle.book_judge.specs.Fates.{over_at, reopened, unclosed}
 use Rattle.book_judge.specs.Inside.Contacts.{but_closes, is_open}
-use Rattle.book_judge.specs.Inside.Deeds.{act_of, concerns, end_by, with_act}
 use Rattle.book_judge.proofs.Ends.Contacts.{begun_asked, begun_cut, owes_crosses}
 use Rattle.book_judge.proofs.Ends.Reached.{after_append, all_crossings, one_crossing}
 

@@ -1,8 +1,9 @@
 -- What streams and grants promise of the first lives, with one more.
-use Rattle.book_judge.proofs.Common.{◌≡◌, ℕ, suc, ◌-◌, ◌+◌, ◌<◌, ◌≤◌, Bool, true, false, not, List, [], ◌∷◌, ◌++◌, length, take, drop, get_or, Option, Some, None, MatchBool, refl, ap, sym, subst, ◌∙◌, arith, take-append-drop, take_all, take_more, get_or_from_slice_get, slice_get_read, slice_get_within, IsPrefix, Name, receives, Life, ExceedsAt, FedAt, GrantedAt, HasGranted, IsHanded, SourceAt, is_granted}
-use Rattle.std.proofs.Common.{zero}
+use Rattle.book_judge.proofs.Common.{get_or_from_slice_get, slice_get_read, slice_get_within, IsPrefix, Name, receives, Life}
+use Rattle.std.proofs.Common.{◌≡◌, ℕ, suc, ◌-◌, ◌+◌, ◌<◌, ◌≤◌, Bool, true, false, not, List, [], ◌∷◌, ◌++◌, length, take, drop, get_or, Option, Some, None, MatchBool, refl, ap, sym, subst, ◌∙◌, arith, zero}
+use Rattle.std.proofs.lemmas.List.{take-append-drop, take_all, take_more}
+use Rattle.book_judge.specs.Inside.Chains.{ExceedsAt, FedAt, GrantedAt, HasGranted, IsHanded, SourceAt, is_granted, IsSourced}
 use Rattle.std.specs.List.{slice_get}
-use Rattle.book_judge.specs.Inside.Chains.{IsSourced}
 use Rattle.book_judge.specs.Inside.Made.{same_found}
 use Rattle.book_judge.proofs.Elements.{read_at}
 use Rattle.book_judge.proofs.Crossed.SameText.{same_bit-true}

@@ -1,13 +1,13 @@
 -- What closes promise of the first lives, with one more.
-use Rattle.book_judge.proofs.Common.{◌≡◌, ℕ, zero, suc, ◌+◌, ◌<◌, ◌≤◌, ◌==◌, Bool, true, false, not, List, [], ◌∷◌, ◌++◌, length, take, get_or, Option, Some, None, MatchBool, refl, ap, sym, subst, ◌∙◌, inl, inr, arith, append-nil, IfSome, eqb-true, ltb-false, ltb-true, length-append, slice_get_read, slice_get_within, Crossing, ShowsLife, WithMatch, Finding, is_receive_socket, IsBeside, ClosesWhole, IsPrefix, Match, Name, receives, Fate, Life, same_text, AreNamed, ClosedAt, FoundFirst}
-use Rattle.book_judge.specs.Inside.Chains.{AgainAt, HasTaken}
+use Rattle.book_judge.proofs.Common.{◌≡◌, ℕ, zero, suc, ◌+◌, ◌<◌, ◌≤◌, ◌==◌, Bool, true, false, not, List, [], ◌∷◌, ◌++◌, length, take, get_or, Option, Some, None, MatchBool, refl, ap, sym, subst, ◌∙◌, inl, inr, arith, append-nil, slice_get_read, slice_get_within, Crossing, ShowsLife, WithMatch, Finding, is_receive_socket, IsBeside, ClosesWhole, Fate, Life, same_text, AreNamed}
+use Rattle.std.specs.Prelude.{IfSome, nat_lt}
+use Rattle.std.proofs.lemmas.Bool.{eqb-true, ltb-false, ltb-true, eq-eqb}
+use Rattle.std.proofs.lemmas.List.{length-append, nil_from_length}
+use Rattle.promise.specs.Safe.{IsPrefix, Match, Name, receives}
+use Rattle.book_judge.specs.Inside.Chains.{ClosedAt, FoundFirst, AgainAt, HasTaken, LosesAt, LosesOf, TookAll}
 use Rattle.std.specs.List.{slice_get}
-use Rattle.std.specs.Prelude.{nat_lt}
-use Rattle.std.proofs.lemmas.Bool.{eq-eqb}
-use Rattle.std.proofs.lemmas.List.{nil_from_length}
 use Rattle.promise.specs.declared.life.Fate.TheVariants as fate
 use Rattle.book_judge.specs.Broken.{first_closed}
-use Rattle.book_judge.specs.Inside.Chains.{LosesAt, LosesOf, TookAll}
 use Rattle.book_judge.proofs.Elements.{contains_place, false_not, get_take, get_took, place_contains, read_at}
 use Rattle.book_judge.proofs.Peace.{asked_of, fits_match, match_fits, one_some}
 use Rattle.book_judge.proofs.Crossed.SameText.{same_text-is, same_text-true}

@@ -1,12 +1,11 @@
 -- What an earlier life with the same requests shows of one: where that granted as much, nothing was sent past the grant of this.
-use Rattle.book_judge.proofs.Common.{◌≡◌, ℕ, ◌+◌, ◌<◌, ◌==◌, Bool, true, ◌&&◌, List, length, get_or, Option, Some, None, refl, ap, sym, subst, ◌∙◌, nat_cmp, IfSome, eqb-true, slice_get_read, Host, same_host, and_true, same_host-true, is_receive_socket, Name, own_request, receives, sends, Life, found_at, same_name, AreChained, ExceedsAt, GrantedAt, HasGranted, IsLast, fits, is_granted}
-use Rattle.book_judge.specs.Inside.Chains.{repeats}
-use Rattle.book_judge.specs.Inside.Asked.{key}
+use Rattle.book_judge.proofs.Common.{◌≡◌, ℕ, ◌+◌, ◌<◌, ◌==◌, Bool, true, ◌&&◌, List, length, get_or, Option, Some, None, refl, ap, sym, subst, ◌∙◌, nat_cmp, eqb-true, slice_get_read, Host, same_host, and_true, same_host-true, is_receive_socket, Name, own_request, receives, sends, Life}
+use Rattle.std.specs.Prelude.{IfSome, nat_le}
+use Rattle.book_judge.specs.Inside.Asked.{found_at, same_name, key}
+use Rattle.book_judge.specs.Inside.Chains.{AreChained, ExceedsAt, GrantedAt, HasGranted, IsLast, fits, is_granted, repeats, is_shown, same_amount, shown_of}
 use Rattle.std.specs.FinMap as map
 use Rattle.std.specs.List.{slice_get}
-use Rattle.std.specs.Prelude.{nat_le}
 use Rattle.promise.specs.declared.life.Amount.{Amount}
-use Rattle.book_judge.specs.Inside.Chains.{is_shown, same_amount, shown_of}
 use Rattle.book_judge.proofs.Identities.Known.{same_true}
 
 same_amounts : (a b : Amount) → same_amount a b ≡ true → a ≡ b

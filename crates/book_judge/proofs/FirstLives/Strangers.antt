@@ -1,10 +1,8 @@
 -- Lives toward strangers, one after the other.
-use Rattle.book_judge.proofs.Common.{◌≡◌, ℕ, zero, suc, ◌+◌, ◌≤◌, Bool, true, false, List, [], ◌∷◌, length, take}
-use Rattle.book_judge.proofs.Common.{MatchBool, Some, None, sym, subst, ◌∙◌, arith, Host, receives, sends, Life}
-use Rattle.book_judge.proofs.Common.{IsHanded, is_granted}
-use Rattle.std.proofs.Common.{slice_get, ◌%◌, ◌==◌}
+use Rattle.book_judge.proofs.Common.{Host, receives, sends, Life, eqb-true}
+use Rattle.std.proofs.Common.{◌≡◌, ℕ, zero, suc, ◌+◌, ◌≤◌, Bool, true, false, List, [], ◌∷◌, length, take, MatchBool, Some, None, sym, subst, ◌∙◌, arith, slice_get, ◌%◌, ◌==◌}
+use Rattle.book_judge.specs.Inside.Chains.{IsHanded, is_granted}
 use Rattle.book_judge.specs.Toward.{AreToward, IsToward, UntowardAt}
-use Rattle.std.proofs.lemmas.Bool.{eqb-true}
 use Rattle.std.proofs.lemmas.Option.{same_Some}
 use Rattle.book_judge.proofs.Peace.{granted_is, granted_true}
 

@@ -1,12 +1,14 @@
 -- The requests that stamps name, and where messages went out before they came in.
-use Rattle.book_judge.proofs.Common.{◌≡◌, ◌⊎◌, ℕ, zero, suc, ◌+◌, ◌<◌, ◌≤◌, Bool, true, false, not, if◌then◌else◌, List, [], ◌∷◌, ◌++◌, length, take, get_or, reverse, Option, Some, None, refl, ap, sym, subst, ◌∙◌, inl, inr, arith, IsSome, get-empty, length-reverse, length-take-le, reverse-append, take_more, slice_get_read, slice_get_within, flow_cmp, same_flow, Flow, Crossing, HostMessage, same_flow-true, IsStamped, AreStamped, EndsAt, Name, before, control_flow, last_out, named, partner_request, Life, AreNamed, AreOuts, found_at}
+use Rattle.book_judge.proofs.Common.{◌≡◌, ◌⊎◌, ℕ, zero, suc, ◌+◌, ◌<◌, ◌≤◌, Bool, true, false, not, if◌then◌else◌, List, [], ◌∷◌, ◌++◌, length, take, get_or, reverse, Option, Some, None, refl, ap, sym, subst, ◌∙◌, inl, inr, arith, IsSome, get-empty, length-reverse, length-take-le, reverse-append, take_more, slice_get_read, slice_get_within, flow_cmp, same_flow, Flow, Crossing, HostMessage, same_flow-true, Life}
+use Rattle.net_sim.specs.Audit.{IsStamped, Passes}
+use Rattle.net_sim.specs.Findings.{AreStamped, EndsAt}
+use Rattle.promise.specs.Safe.{Name, before, control_flow, last_out, named, partner_request}
+use Rattle.book_judge.specs.Inside.Asked.{AreNamed, AreOuts, found_at, noted, out_at, passes}
 use Rattle.book_judge.proofs.Crossed.TextsBy.{before_place}
 use Rattle.std.specs.List.{slice_get}
 use Rattle.std.specs.FinMap as map
 use Rattle.interface.specs.declared.crossing.Crossing.TheVariants as crossing
-use Rattle.net_sim.specs.Audit.{Passes}
 use Rattle.promise.specs.Formed.{coming, going}
-use Rattle.book_judge.specs.Inside.Asked.{noted, out_at, passes}
 use Rattle.book_judge.proofs.Elements.{contains_place, get_take, get_took, place_contains}
 use Rattle.book_judge.proofs.Crossed.Mailboxes.{get_set}
 use Rattle.book_judge.proofs.Identities.Named.{crossed_there, get_front, get_seam, got_there, same_flow_is}

@@ -1,11 +1,10 @@
 -- Which lives may be in one book, by what is noted of their requests.
-use Rattle.book_judge.proofs.Common.{◌≡◌, ◌⊎◌, ℕ, ◌+◌, ◌<◌, Bool, true, false, not, ◌&&◌, ◌==◌, List, Option, Some, None, refl, ap, sym, subst, ◌∙◌, inl, inr, arith, nat_cmp, eqb-true, cases_lt, and_true, Name, own_request, Life, same_name, AllApart, ApartFrom, HasPlace, apart_at}
-use Rattle.book_judge.specs.Inside.Asked.{key}
-use Rattle.std.proofs.Common.{eq-eqb}
+use Rattle.book_judge.proofs.Common.{nat_cmp, eqb-true, cases_lt, and_from, and_true, Name, own_request, Life}
+use Rattle.std.proofs.Common.{◌≡◌, ◌⊎◌, ℕ, ◌+◌, ◌<◌, Bool, true, false, not, ◌&&◌, ◌==◌, List, Option, Some, None, refl, ap, sym, subst, ◌∙◌, inl, inr, arith, eq-eqb}
+use Rattle.book_judge.specs.Inside.Asked.{same_name, key}
+use Rattle.book_judge.specs.Inside.Partners.{AllApart, ApartFrom, HasPlace, apart_at, AreKnown, alike, apart_of, are_apart, is_mate, is_new, is_none_at, mate_of}
 use Rattle.std.specs.List.{slice_get}
 use Rattle.std.specs.FinMap as map
-use Rattle.std.proofs.lemmas.Bool.{and_from}
-use Rattle.book_judge.specs.Inside.Partners.{AreKnown, alike, apart_of, are_apart, is_mate, is_new, is_none_at, mate_of}
 use Rattle.book_judge.proofs.Identities.Asked.{below_cases}
 use Rattle.book_judge.proofs.Elements.{not_is, not_true}
 use Rattle.book_judge.proofs.Identities.Placed.{has_more}

@@ -1,7 +1,8 @@
 -- What requests name, and the messages in which they crossed.
-use Rattle.book_judge.proofs.Common.{◌≡◌, ◌⊎◌, inl, inr, ℕ, zero, suc, ◌+◌, ◌-◌, ◌<◌, ◌≤◌, ◌==◌, Bool, true, false, if◌then◌else◌, List, [], ◌∷◌, ◌++◌, length, drop, reverse, Option, Some, None, is_some, refl, ap, sym, subst, ◌∙◌, arith, Contains, eqb-true, drop_all, length-drop, length-reverse, reverse-append, reverse-reverse, orders_within, same_flow, Flow, Crossing, same_flow-refl, CrossedAt, named_at, named_in, named_of, text_of, control_flow, Host}
-use Rattle.std.proofs.Common.{eq-eqb}
-use Rattle.std.specs.List.{slice_get, slice_index_or}
+use Rattle.book_judge.proofs.Common.{eqb-true, drop_all, length-drop, length-reverse, reverse-append, reverse-reverse, orders_within, same_flow, Flow, Crossing, same_flow-refl, control_flow, Host}
+use Rattle.std.proofs.Common.{◌≡◌, ◌⊎◌, inl, inr, ℕ, zero, suc, ◌+◌, ◌-◌, ◌<◌, ◌≤◌, ◌==◌, Bool, true, false, if◌then◌else◌, List, [], ◌∷◌, ◌++◌, length, drop, reverse, Option, Some, None, is_some, refl, ap, sym, subst, ◌∙◌, arith, eq-eqb}
+use Rattle.std.specs.List.{Contains, slice_get, slice_index_or}
+use Rattle.promise.specs.Formed.{CrossedAt, named_at, named_in, named_of, text_of}
 use Rattle.std.specs.Option.{option_or}
 
 -- ---- elements

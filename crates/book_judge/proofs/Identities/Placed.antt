@@ -1,5 +1,8 @@
 -- The map that a list of places by key makes.
-use Rattle.book_judge.proofs.Common.{◌≡◌, ℕ, ◌+◌, Bool, true, false, List, [], ◌∷◌, ◌⊎◌, inl, inr, Option, Some, refl, ap, sym, subst, ◌∙◌, cond, arith, eq_by_cmp, nat_cmp, is_eq, eq_by_cmp_equiv, nat_cmp_total, get-insert, FinMap, find, from_entries, get, insert, same_map, get-from_entries, Ordering, Less, Equal, Greater, HasPlace, lookup, is_at, exact_unsigned}
+use Rattle.book_judge.proofs.Common.{◌≡◌, ℕ, ◌+◌, Bool, true, false, List, [], ◌∷◌, ◌⊎◌, inl, inr, Option, Some, refl, ap, sym, subst, ◌∙◌, cond, arith, eq_by_cmp, nat_cmp, is_eq, get-insert, FinMap, find, from_entries, get, insert, same_map, get-from_entries, Ordering, Less, Equal, Greater, lookup, is_at}
+use Rattle.std.specs.Cmp.{eq_by_cmp_equiv, nat_cmp_total}
+use Rattle.book_judge.specs.Inside.Partners.{HasPlace}
+use Rattle.std.proofs.lemmas.Map.Lookups.{exact_unsigned}
 use Rattle.book_judge.proofs.Ends.Keys.{is_equal as order_equal}
 
 -- what a list of entries has at a key

@@ -1,9 +1,9 @@
 -- The lives of one own request, from the last to the first: whoever goes through them misses none.
-use Rattle.book_judge.proofs.Common.{◌≡◌, ℕ, ◌+◌, ◌<◌, ◌≤◌, true, ◌&&◌, List, [], ◌∷◌, ◌++◌, length, get_or, Option, Some, None, refl, ap, sym, subst, ◌∙◌, inl, inr, arith, nat_cmp, cases_lt, slice_get_read, slice_get_within, get-empty, same_host, and_true, Name, own_request, receives, sends, Life, found_at, same_name, AreChained, IsLast, SoughtAt, fits}
-use Rattle.book_judge.specs.Inside.Asked.{key}
+use Rattle.book_judge.proofs.Common.{◌≡◌, ℕ, ◌+◌, ◌<◌, ◌≤◌, true, ◌&&◌, List, [], ◌∷◌, ◌++◌, length, get_or, Option, Some, None, refl, ap, sym, subst, ◌∙◌, inl, inr, arith, nat_cmp, cases_lt, slice_get_read, slice_get_within, get-empty, same_host, and_true, Name, own_request, receives, sends, Life}
+use Rattle.book_judge.specs.Inside.Asked.{found_at, same_name, key}
+use Rattle.book_judge.specs.Inside.Chains.{AreChained, IsLast, SoughtAt, fits, NoneWith}
 use Rattle.std.specs.List.{slice_get}
 use Rattle.std.specs.FinMap as map
-use Rattle.book_judge.specs.Inside.Chains.{NoneWith}
 use Rattle.book_judge.specs.declared.sought.Sought.{Sought}
 use Rattle.book_judge.proofs.Identities.Asked.{below_cases, grown_get, grown_last, grown_length}
 use Rattle.book_judge.proofs.Elements.{read_at}

@@ -1,6 +1,5 @@
-use Rattle.book_judge.proofs.Common.{Crossing, List, Some, ap, false, get_or, length, refl, slice_get_read, subst, sym, true, ℕ, ◌<◌, ◌≡◌, ◌∙◌}
+use Rattle.book_judge.proofs.Common.{Crossing, List, Some, ap, false, get_or, length, refl, subst, sym, true, ℕ, ◌<◌, ◌≡◌, ◌∙◌, slice_get_read, AreArrivals}
 use Rattle.std.specs.List.{slice_get}
-use Rattle.book_judge.specs.Inside.Arrivals.{AreArrivals}
 use Rattle.book_judge.proofs.Crossed.Arrivals.{arrival_here, arrival_none}
 use Rattle.book_judge.proofs.arrivals.arrival_at.Goals as goal
 

@@ -1,5 +1,4 @@
-use Rattle.std.proofs.Common.{◌≤◌, length}
-use Rattle.book_judge.specs.Inside.Arrivals.{AreArrivals}
+use Rattle.book_judge.proofs.Common.{◌≤◌, length, AreArrivals}
 use Rattle.book_judge.proofs.arrivals.arrivals_of.Given as goal
 
 abbrev pub invariant-loop-place : goal.invariant-loop-place

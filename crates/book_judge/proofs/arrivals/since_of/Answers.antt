@@ -1,4 +1,4 @@
-use Rattle.book_judge.proofs.Common.{sym, ◌∙◌, length}
+use Rattle.std.proofs.Common.{sym, ◌∙◌, length}
 use Rattle.book_judge.proofs.Crossed.Arrivals.{steady_more, steady_none}
 use Rattle.book_judge.proofs.arrivals.since_of.Goals as goal
 

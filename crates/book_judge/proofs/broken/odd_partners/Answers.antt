@@ -1,4 +1,5 @@
-use Rattle.book_judge.proofs.Common.{ℕ, Option, subst, FoundOdds}
+use Rattle.std.proofs.Common.{ℕ, Option, subst}
+use Rattle.book_judge.specs.Inside.Partners.{FoundOdds}
 use Rattle.book_judge.proofs.Peace.{partners_odd, partners_safe}
 use Rattle.book_judge.proofs.broken.odd_partners.Goals as goal
 

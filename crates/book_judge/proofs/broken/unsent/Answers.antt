@@ -1,9 +1,4 @@
-use Rattle.book_judge.proofs.Common.{◌∙◌, ℕ, List, Option, ap, length, reverse, subst, sym, Crossing, FoundFirst}
-use Rattle.book_judge.specs.Inside.Arrivals.{AreArrivals}
-use Rattle.book_judge.specs.Inside.Sent.{SentAt}
-use Rattle.book_judge.specs.Inside.Starts.{AreStarts}
-use Rattle.book_judge.specs.declared.arrivals.Arrival.{Arrival}
-use Rattle.book_judge.specs.declared.starts.Start.{Start}
+use Rattle.book_judge.proofs.Common.{◌∙◌, ℕ, List, Option, ap, length, reverse, subst, sym, Crossing, FoundFirst, AreArrivals, SentAt, AreStarts, Arrival, Start}
 use Rattle.book_judge.proofs.Crossed.Counted.{sent_none, sent_some}
 use Rattle.book_judge.proofs.broken.unsent.Goals as goal
 

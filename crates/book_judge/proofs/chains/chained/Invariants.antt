@@ -1,4 +1,5 @@
-use Rattle.book_judge.proofs.Common.{◌≤◌, length, AreChained}
+use Rattle.std.proofs.Common.{◌≤◌, length}
+use Rattle.book_judge.specs.Inside.Chains.{AreChained}
 use Rattle.book_judge.proofs.chains.chained.Given as goal
 
 abbrev pub invariant-loop-place : goal.invariant-loop-place

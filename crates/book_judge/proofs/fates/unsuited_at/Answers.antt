@@ -1,6 +1,5 @@
-use Rattle.book_judge.proofs.Common.{Crossing, Fate, Life, List, Option, arith, ap, length, reverse, sym, take, ◌≡◌, ◌∙◌, deeds_in}
+use Rattle.book_judge.proofs.Common.{Crossing, Fate, Life, List, Option, arith, ap, length, reverse, sym, take, ◌≡◌, ◌∙◌, deeds_in, Said}
 use Rattle.book_judge.specs.Inside.Contacts.{agrees, noted, said_after}
-use Rattle.book_judge.specs.declared.fates.contacts.Said.{Said}
 use Rattle.book_judge.proofs.Ends.Noted.{disagrees, said_turned, seen_more, seen_none, seen_suit, unsuited_by}
 use Rattle.book_judge.proofs.Ends.Suited.{all_suited}
 use Rattle.book_judge.proofs.fates.unsuited_at.Goals as goal

@@ -1,4 +1,4 @@
-use Rattle.book_judge.proofs.Common.{reverse, take}
+use Rattle.std.proofs.Common.{reverse, take}
 use Rattle.book_judge.proofs.Ends.Noted.{AreSeen}
 use Rattle.book_judge.proofs.fates.unsuited_at.Given as goal
 

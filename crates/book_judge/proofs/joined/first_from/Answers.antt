@@ -1,6 +1,6 @@
+use Rattle.book_judge.proofs.Common.{Piece}
 use Rattle.std.proofs.Common.{nat_lt, rules}
 use Rattle.std.proofs.lemmas.List.Sorted.{IsPartitionPoint-from_clause}
-use Rattle.book_judge.specs.declared.joined.Piece.{Piece}
 use Rattle.book_judge.proofs.Crossed.Streamed.{first_by, parted}
 use Rattle.book_judge.proofs.joined.first_from.Goals as goal
 

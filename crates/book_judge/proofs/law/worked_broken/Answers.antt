@@ -1,6 +1,5 @@
-use Rattle.book_judge.proofs.Common.{◌≡◌, [], ◌∷◌, Some, None, refl, arith, inl, inr, AreTwo, Life}
+use Rattle.book_judge.proofs.Common.{◌≡◌, [], ◌∷◌, Some, None, refl, arith, inl, inr, AreTwo, Life, contains_none}
 use Rattle.book_judge.proofs.law.worked_broken.Goals as goal
-use Rattle.interface.proofs.lemmas.{contains_none}
 
 no_two : (x y : Life) → AreTwo [] x y → ⊥
 no_two x y ([], between, rest, e) = absurd (cc)

@@ -1,10 +1,10 @@
-use Rattle.book_judge.proofs.Common.{◌≡◌, ◌++◌, ◌∙◌, Bool, true, false, List, [], ◌∷◌, ap, refl, sym, subst, inl, inr, arith, Contains, IsBeside, ClosesWhole, Match, receives, sends, AreHanded, Fate, Life, gave, sent_log, took}
+use Rattle.book_judge.proofs.Common.{◌≡◌, ◌++◌, ◌∙◌, Bool, true, false, List, [], ◌∷◌, ap, refl, sym, subst, inl, inr, arith, Contains, IsBeside, ClosesWhole, Fate, Life, gave, sent_log, took, contains_none}
+use Rattle.promise.specs.Safe.{Match, receives, sends, AreHanded}
 use Rattle.net_sim.specs.Worked.{eight, four}
 use Rattle.promise.specs.declared.life.Fate.TheVariants as fate
 use Rattle.book_judge.proofs.Elements.{place_contains}
 use Rattle.book_judge.proofs.Identities.Named.{contains_cases}
 use Rattle.book_judge.proofs.law.worked_closes.Goals as goal
-use Rattle.interface.proofs.lemmas.{contains_none}
 
 -- the one receives, and the other sends: so it is the first that matches the second
 matched : Match sent_log took gave

@@ -1,17 +1,10 @@
-use Rattle.book_judge.proofs.Common.{◌≡◌, ◌≤◌, List, [], ◌∷◌, inl, inr, true, false, refl, ap, arith, sym, subst, ◌∙◌}
-use Rattle.book_judge.proofs.Common.{false≢true}
-use Rattle.book_judge.proofs.Common.{length, same_host, same_host-refl, Going, Asking, Closed, Over, Stage, Stopped}
-use Rattle.book_judge.proofs.Common.{Life, Fate, course, stage}
-use Rattle.book_judge.proofs.Common.{suits, is_begun, AreSuited, IsSuited, IsBeside, gave, sent_log, took}
+use Rattle.book_judge.proofs.Common.{◌≡◌, ◌≤◌, List, [], ◌∷◌, inl, inr, true, false, refl, ap, arith, sym, subst, ◌∙◌, length, false≢true, same_host, same_host-refl, Life, Fate, suits, is_begun, AreSuited, IsSuited, Outlasts, cut_at, over_at, was_contacted, IsBeside, gave, sent_log, took, Crossing}
+use Rattle.promise.specs.Ends.{Going, Asking, Closed, Over, Stage, Stopped, course, stage}
 use Rattle.bit_messages.specs.Octets.{octets_of}
 use Rattle.ncp_control.specs.Reading.{command_of, read_of}
 use Rattle.host_pairs.specs.Control.{orders_of}
-use Rattle.interface.specs.declared.crossing.Crossing.{Crossing}
 use Rattle.promise.specs.declared.life.Fate.TheVariants as fate
-use Rattle.book_judge.specs.Fates.{Outlasts, cut_at, over_at, was_contacted}
-use Rattle.book_judge.specs.WorkedLives.{again_log, down_log, reset_log, third_down_log, third_log, took_after}
-use Rattle.book_judge.specs.WorkedLives.{took_again}
-use Rattle.book_judge.specs.WorkedLives.{took_from_third, took_nothing, unasked}
+use Rattle.book_judge.specs.WorkedLives.{again_log, down_log, reset_log, third_down_log, third_log, took_after, took_again, took_from_third, took_nothing, unasked}
 use Rattle.book_judge.proofs.Worked.{gave_goes, took_goes}
 use Rattle.book_judge.proofs.law.worked_contacts.Goals as goal
 

@@ -1,4 +1,7 @@
-use Rattle.book_judge.proofs.Common.{◌≡◌, ◌≤◌, [], ◌∷◌, false, length, inl, inr, sym, subst, ◌∙◌, refl, arith, Life, Going, Over, Stopped, stage, before, IsFormed, link_of, texts_on, IsMade, gave, sent_log, took}
+use Rattle.book_judge.proofs.Common.{◌≡◌, ◌≤◌, [], ◌∷◌, false, length, inl, inr, sym, subst, ◌∙◌, refl, arith, Life, before, gave, sent_log, took}
+use Rattle.promise.specs.Ends.{Going, Over, Stopped, stage}
+use Rattle.promise.specs.Formed.{IsFormed, link_of, texts_on}
+use Rattle.book_judge.specs.Lives.{IsMade}
 use Rattle.bit_messages.specs.Octets.{octets_of}
 use Rattle.ncp_control.specs.Reading.{command_of, read_of}
 use Rattle.host_pairs.specs.Control.{orders_of}

@@ -1,5 +1,4 @@
-use Rattle.book_judge.proofs.Common.{◌≤◌, ◌+◌, true, false, [], ◌∷◌, refl, arith, append-nil}
-use Rattle.promise.specs.Safe.{IsPrefix}
+use Rattle.book_judge.proofs.Common.{◌≤◌, ◌+◌, true, false, [], ◌∷◌, refl, arith, append-nil, IsPrefix}
 use Rattle.book_judge.proofs.FirstLives.Strangers.{of_stranger, untoward_here, with_program}
 use Rattle.book_judge.proofs.law.worked_toward.Goals as goal
 

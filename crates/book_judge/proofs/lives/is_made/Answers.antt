@@ -1,6 +1,5 @@
-use Rattle.book_judge.proofs.Common.{Bool, Crossing, List, MatchBool, false, reverse, subst, sym, true, ℕ, ◌≡◌, ◌∙◌}
+use Rattle.book_judge.proofs.Common.{Bool, List, MatchBool, false, reverse, subst, sym, true, ℕ, ◌≡◌, ◌∙◌, Crossing, Life}
 use Rattle.book_judge.specs.Inside.Made.{IsMadeBy}
-use Rattle.promise.specs.declared.life.Life.{Life}
 use Rattle.book_judge.proofs.Crossed.Made.{made_by, partner_unnamed}
 use Rattle.book_judge.proofs.lives.is_made.Goals as goal
 

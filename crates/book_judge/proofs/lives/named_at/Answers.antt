@@ -1,5 +1,4 @@
-use Rattle.book_judge.proofs.Common.{◌≡◌, ◌==◌, Bool, true, false, List, refl, ap, sym, subst, ◌∙◌, same_flow, same_host, Flow, same_flow-true, orders_of, named_in}
-use Rattle.std.proofs.lemmas.Option.{slice_get_past}
+use Rattle.book_judge.proofs.Common.{◌≡◌, ◌==◌, Bool, true, false, List, refl, ap, sym, subst, ◌∙◌, same_flow, same_host, Flow, same_flow-true, orders_of, named_in, slice_get_past}
 use Rattle.book_judge.proofs.Crossed.Streamed.{named_message, nested, past_end, piece_there, unnamed_flow, unnamed_message, unnamed_place}
 use Rattle.book_judge.proofs.lives.named_at.Goals as goal
 

@@ -1,4 +1,4 @@
-use Rattle.book_judge.proofs.Common.{Crossing, List, ap, arith, deeds_in, end_after, length, reverse, ◌∙◌}
+use Rattle.book_judge.proofs.Common.{Crossing, List, ap, arith, length, reverse, ◌∙◌, deeds_in, end_after}
 use Rattle.book_judge.proofs.Crossed.Made.{all_made, made_more, made_until, none_yet, unmade_here, until_made}
 use Rattle.book_judge.proofs.lives.unmade_at.Goals as goal
 

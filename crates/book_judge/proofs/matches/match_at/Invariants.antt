@@ -1,4 +1,5 @@
-use Rattle.book_judge.proofs.Common.{◌≡◌, ◌<◌, ℕ, false, fits_at}
+use Rattle.std.proofs.Common.{◌≡◌, ◌<◌, ℕ, false}
+use Rattle.book_judge.specs.Inside.Chains.{fits_at}
 use Rattle.book_judge.proofs.matches.match_at.Given as goal
 
 abbrev pub invariant-loop-place : goal.invariant-loop-place

@@ -1,4 +1,5 @@
-use Rattle.book_judge.proofs.Common.{reverse, take, SafeMessages}
+use Rattle.std.proofs.Common.{reverse, take}
+use Rattle.interface.specs.Messages.{SafeMessages}
 use Rattle.book_judge.proofs.Crossed.Taken.{AreNoted}
 use Rattle.book_judge.proofs.messages.broken_message.Given as goal
 

@@ -1,4 +1,4 @@
-use Rattle.book_judge.proofs.Common.{arith}
+use Rattle.std.proofs.Common.{arith}
 use Rattle.book_judge.proofs.Elements.{when_false, when_true}
 use Rattle.book_judge.proofs.Crossed.Numbered.{fewer_sent, more_sent, none_sent}
 use Rattle.book_judge.proofs.sent.each_sent.Goals as goal

@@ -1,4 +1,4 @@
-use Rattle.book_judge.proofs.Common.{◌∙◌, sym}
+use Rattle.std.proofs.Common.{◌∙◌, sym}
 use Rattle.book_judge.proofs.Crossed.Numbered.{sender_sent, sent_told, unlinked_sent}
 use Rattle.book_judge.proofs.sent.is_sent.Goals as goal
 

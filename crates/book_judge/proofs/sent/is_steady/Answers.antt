@@ -1,6 +1,4 @@
-use Rattle.book_judge.proofs.Common.{Option, refl, subst}
-use Rattle.book_judge.specs.Inside.Arrivals.{ArrivalOf}
-use Rattle.book_judge.specs.declared.arrivals.Arrival.{Arrival}
+use Rattle.book_judge.proofs.Common.{Option, refl, subst, ArrivalOf, Arrival}
 use Rattle.book_judge.proofs.Crossed.Numbered.{steady_told}
 use Rattle.book_judge.proofs.sent.is_steady.Goals as goal
 

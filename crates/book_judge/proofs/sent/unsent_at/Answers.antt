@@ -1,6 +1,5 @@
-use Rattle.book_judge.proofs.Common.{arith, length}
+use Rattle.book_judge.proofs.Common.{arith, length, SentAt}
 use Rattle.book_judge.proofs.Elements.{first_all, first_more, when_false, when_true}
-use Rattle.book_judge.specs.Inside.Sent.{SentAt}
 use Rattle.book_judge.proofs.sent.unsent_at.Goals as goal
 
 pub loop-place-init : goal.loop-place-init

@@ -1,6 +1,4 @@
-use Rattle.book_judge.proofs.Common.{Option, subst, Flow, flow_of}
-use Rattle.book_judge.specs.Inside.Arrivals.{ArrivalOf}
-use Rattle.book_judge.specs.declared.arrivals.Arrival.{Arrival}
+use Rattle.book_judge.proofs.Common.{Option, subst, Flow, flow_of, ArrivalOf, Arrival}
 use Rattle.book_judge.proofs.Crossed.Numbered.{nth_answered, nth_none}
 use Rattle.book_judge.proofs.sent.was_sent.Goals as goal
 

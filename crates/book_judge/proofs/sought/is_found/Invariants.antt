@@ -1,5 +1,5 @@
+use Rattle.book_judge.proofs.Common.{SoughtAt}
 use Rattle.book_judge.specs.Inside.Asked.{key}
-use Rattle.book_judge.specs.Inside.Chains.{SoughtAt}
 use Rattle.book_judge.proofs.Identities.Walks.{HasWalked, left_at}
 use Rattle.book_judge.proofs.sought.is_found.Given as goal
 

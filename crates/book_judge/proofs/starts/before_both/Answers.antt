@@ -1,5 +1,4 @@
-use Rattle.book_judge.proofs.Common.{Bool, Crossing, Flow, Life, List, ap, false, flow_of, length, receives, subst, sym, take, texts_by, true, ℕ, ◌≡◌, ◌∙◌}
-use Rattle.book_judge.specs.Inside.Made.{since}
+use Rattle.book_judge.proofs.Common.{Bool, List, ap, false, length, subst, sym, take, true, ℕ, ◌≡◌, ◌∙◌, Crossing, Flow, Life, flow_of, receives, texts_by, since}
 use Rattle.book_judge.proofs.starts.before_both.Goals as goal
 
 counted : (crossed log : List Crossing) → crossed ≡ log → (x : Life) (link until n : ℕ) (comes : Bool) (f : Flow)

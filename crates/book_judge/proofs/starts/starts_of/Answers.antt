@@ -1,4 +1,4 @@
-use Rattle.book_judge.proofs.Common.{arith}
+use Rattle.std.proofs.Common.{arith}
 use Rattle.book_judge.proofs.Crossed.Numbered.{all_starts, starts_none}
 use Rattle.book_judge.proofs.starts.starts_of.Goals as goal
 

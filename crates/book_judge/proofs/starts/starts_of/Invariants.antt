@@ -1,5 +1,4 @@
-use Rattle.std.proofs.Common.{◌≤◌, length}
-use Rattle.book_judge.specs.Inside.Starts.{AreStarts}
+use Rattle.book_judge.proofs.Common.{◌≤◌, length, AreStarts}
 use Rattle.book_judge.proofs.starts.starts_of.Given as goal
 
 abbrev pub invariant-loop-place : goal.invariant-loop-place

@@ -1,5 +1,5 @@
-use Rattle.book_judge.proofs.Common.{ap, sym, ◌∙◌, is_granted}
-use Rattle.interface.specs.Host.{is_host}
+use Rattle.book_judge.proofs.Common.{ap, sym, ◌∙◌, is_host}
+use Rattle.book_judge.specs.Inside.Chains.{is_granted}
 use Rattle.book_judge.proofs.FirstLives.Strangers.{of_stranger, toward_sent, toward_taken, with_program}
 use Rattle.book_judge.proofs.toward.is_toward.Goals as goal
 

@@ -1,6 +1,4 @@
-use Rattle.book_judge.proofs.Common.{arith, length, refl, slice_get_read}
-use Rattle.interface.specs.Host.{is_host}
-use Rattle.std.proofs.lemmas.Option.{slice_get_past}
+use Rattle.book_judge.proofs.Common.{arith, length, refl, slice_get_read, slice_get_past, is_host}
 use Rattle.book_judge.proofs.Crossed.Streamed.{past_end, piece_there}
 use Rattle.book_judge.proofs.FirstLives.Strangers.{toward_lists, toward_lives, toward_more, untoward_here}
 use Rattle.book_judge.proofs.toward.untoward_at.Goals as goal

@@ -1,5 +1,4 @@
-use Rattle.book_judge.proofs.Common.{take}
-use Rattle.interface.specs.Host.{is_host}
+use Rattle.book_judge.proofs.Common.{take, is_host}
 use Rattle.book_judge.specs.Toward.{AreToward}
 use Rattle.book_judge.proofs.toward.untoward_at.Given as goal
 

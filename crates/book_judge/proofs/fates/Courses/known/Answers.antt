@@ -1,4 +1,5 @@
-use Rattle.book_judge.proofs.Common.{ap, ◌∙◌, begin_at}
+use Rattle.std.proofs.Common.{ap, ◌∙◌}
+use Rattle.book_judge.specs.Inside.Begins.{begin_at}
 use Rattle.book_judge.proofs.Ends.Begun.{known_after}
 use Rattle.book_judge.proofs.fates.Courses.known.Goals as goal
 

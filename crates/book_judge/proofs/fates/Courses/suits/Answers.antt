@@ -1,4 +1,5 @@
-use Rattle.book_judge.proofs.Common.{Option, ap, sym, ◌∙◌, suits_after, Pace, suits_begun, place_at, changes_in, owes_never}
+use Rattle.book_judge.proofs.Common.{Option, ap, sym, ◌∙◌, suits_after, Pace, suits_begun, changes_in, owes_never}
+use Rattle.book_judge.specs.Inside.Begins.{place_at}
 use Rattle.book_judge.proofs.fates.Courses.suits.Goals as goal
 
 pub returns-in-Some : goal.returns-in-Some

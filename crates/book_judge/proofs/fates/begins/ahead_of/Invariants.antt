@@ -1,4 +1,5 @@
-use Rattle.book_judge.proofs.Common.{◌≤◌, drop, length, IsAhead}
+use Rattle.std.proofs.Common.{◌≤◌, drop, length}
+use Rattle.book_judge.specs.Inside.Begins.{IsAhead}
 use Rattle.book_judge.proofs.fates.begins.ahead_of.Given as goal
 
 abbrev pub invariant-changes : goal.invariant-changes

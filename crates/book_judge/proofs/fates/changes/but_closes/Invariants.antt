@@ -1,5 +1,4 @@
-use Rattle.book_judge.proofs.Common.{◌≡◌, take}
-use Rattle.std.specs.List.{filter}
+use Rattle.book_judge.proofs.Common.{◌≡◌, take, filter}
 use Rattle.book_judge.specs.Inside.Changes.{opens}
 use Rattle.book_judge.proofs.fates.changes.but_closes.Given as goal
 

@@ -1,4 +1,4 @@
-use Rattle.book_judge.specs.Inside.Changes.{changes_in, owes_never}
+use Rattle.book_judge.proofs.Common.{changes_in, owes_never}
 use Rattle.book_judge.proofs.Ends.Changed.{changes_first, changes_last, changes_next}
 use Rattle.book_judge.proofs.Ends.Owed.{before_last}
 use Rattle.book_judge.proofs.fates.changes.changes_of.Goals as goal

@@ -1,4 +1,5 @@
-use Rattle.book_judge.proofs.Common.{◌≡◌, ◌++◌, drop, changes_in, owes, owes_never}
+use Rattle.std.proofs.Common.{◌≡◌, ◌++◌, drop}
+use Rattle.book_judge.specs.Inside.Changes.{changes_in, owes, owes_never}
 use Rattle.book_judge.proofs.Ends.Owed.{AreBefore}
 use Rattle.book_judge.proofs.fates.changes.changes_of.Given as goal
 

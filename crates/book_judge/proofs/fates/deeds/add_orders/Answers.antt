@@ -1,5 +1,5 @@
-use Rattle.book_judge.proofs.Common.{◌++◌, ◌<◌, length, orders_of, deeds_by}
-use Rattle.std.proofs.Common.{rules}
+use Rattle.book_judge.proofs.Common.{orders_of, deeds_by}
+use Rattle.std.proofs.Common.{◌++◌, ◌<◌, length, rules}
 use Rattle.book_judge.proofs.Ends.Suited.{added_next}
 use Rattle.book_judge.proofs.fates.deeds.add_orders.Goals as goal
 

@@ -1,4 +1,5 @@
-use Rattle.book_judge.proofs.Common.{ℕ, Option, None, sym, subst, ◌∙◌, ◌≡◌, NumberBy}
+use Rattle.std.proofs.Common.{ℕ, Option, None, sym, subst, ◌∙◌, ◌≡◌}
+use Rattle.book_judge.specs.Inside.Joined.{NumberBy}
 use Rattle.std.specs.FinMap as map
 use Rattle.book_judge.proofs.joined.Joined.number.Goals as goal
 

@@ -1,4 +1,4 @@
-use Rattle.book_judge.proofs.Common.{List, length, ap, arith}
+use Rattle.std.proofs.Common.{List, length, ap, arith}
 use Rattle.book_judge.proofs.Crossed.Streamed.{no_stream, none_after, past_end, piece_there, stream_there}
 use Rattle.book_judge.proofs.joined.Joined.place.Goals as goal
 

@@ -1,4 +1,6 @@
-use Rattle.book_judge.proofs.Common.{◌≡◌, ℕ, ◌+◌, List, [], ◌∷◌, ◌++◌, Bool, Option, None, Some, drop, take, length, ap, sym, ◌∙◌, append-nil, arith, length-append, data_in, bits_in, one_unread, Piece}
+use Rattle.book_judge.proofs.Common.{◌≡◌, ℕ, ◌+◌, List, [], ◌∷◌, ◌++◌, Bool, Option, None, Some, drop, take, length, ap, sym, ◌∙◌, append-nil, arith, length-append, Piece}
+use Rattle.promise.specs.Formed.{data_in}
+use Rattle.book_judge.specs.Inside.Joined.{bits_in, one_unread}
 use Rattle.book_judge.proofs.Crossed.Streamed.{cut_at, data_none, data_some, stream_more}
 use Rattle.book_judge.proofs.joined.Stream.append.Goals as goal
 

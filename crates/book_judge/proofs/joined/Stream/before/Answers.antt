@@ -1,4 +1,5 @@
-use Rattle.book_judge.proofs.Common.{ℕ, length, ap, ◌∙◌, pair}
+use Rattle.std.proofs.Common.{ℕ, length, ap, ◌∙◌}
+use Rattle.book_judge.specs.Inside.Joined.{pair}
 use Rattle.book_judge.proofs.Crossed.Streamed.{mark_found, mark_last, past_end, piece_there}
 use Rattle.book_judge.proofs.joined.Stream.before.Goals as goal
 

@@ -1,4 +1,5 @@
-use Rattle.book_judge.proofs.Common.{List, subst, IsFirstFrom, Piece}
+use Rattle.book_judge.proofs.Common.{List, subst, Piece}
+use Rattle.book_judge.specs.Inside.Joined.{IsFirstFrom}
 use Rattle.book_judge.proofs.Crossed.Streamed.{counted, counted_none}
 use Rattle.book_judge.proofs.joined.Stream.between.Goals as goal
 

@@ -1,4 +1,5 @@
-use Rattle.book_judge.proofs.Common.{ℕ, ◌+◌, List, take, ap, ◌∙◌, subst, arith, IsFirstFrom, marked, texts_by, Piece}
+use Rattle.book_judge.proofs.Common.{ℕ, ◌+◌, List, take, ap, ◌∙◌, subst, arith, Piece}
+use Rattle.book_judge.specs.Inside.Joined.{IsFirstFrom, marked, texts_by}
 use Rattle.book_judge.proofs.Crossed.Streamed.{answered, not_below, too_few, unlike}
 use Rattle.book_judge.proofs.joined.Stream.has.Goals as goal
 
