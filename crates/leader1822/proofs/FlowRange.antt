@@ -1,16 +1,9 @@
 -- The flows from a host are together in the order of flows.
+use Rattle.leader1822.proofs.Common.{is_at, Ordering, Less, Equal, Greater, eq_by_cmp_equiv, Host, host_cmp, flow_cmp, IsNamed, Flow}
 use Rattle.std.proofs.Common.{◌≡◌, ℕ, ◌≤◌, ◌==◌, nat_lt, Bool, true, false, not, ◌&&◌, List, [], ◌∷◌, filter, cond, Option, Some, None, IsSome, is_some, refl, ap, sym, ◌∙◌, arith}
 use Rattle.std.specs.Option.{MatchOption}
-use Rattle.std.specs.BTreeMap.{is_at}
-use Rattle.std.specs.declared.cmp.Ordering.{Ordering}
-use Rattle.std.specs.declared.cmp.Ordering.TheVariants.{Less, Equal, Greater}
 use Rattle.std.specs.Ordering.{nat_cmp, ordering_then, is_lt, is_le, eq_by_cmp}
-use Rattle.std.specs.Cmp.{eq_by_cmp_equiv}
 use Rattle.std.proofs.lemmas.Bool.Decides.{nat_tests}
-use Rattle.interface.specs.Host.{Host, host_cmp}
-use Rattle.interface.specs.Flow.{flow_cmp}
-use Rattle.leader1822.specs.Inside.Named.{IsNamed}
-use Rattle.interface.specs.declared.address.Flow.{Flow}
 use Rattle.interface.proofs.lemmas.{and_true, eq_flow, exact_hosts, flows_total, hosts_total, same_flow-true, value_at}
 
 -- ---- what lies between the lowest and the highest flow from a host

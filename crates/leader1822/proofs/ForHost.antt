@@ -1,22 +1,11 @@
 -- What waits for each host, when one queue changes.
+use Rattle.leader1822.proofs.Common.{append-nil, eq_by_cmp_equiv, Ordering, Less, Equal, Greater, empty, get, get-empty, get-insert, get-remove, Host, host_cmp, same_host, same_flow, texts_of, kinds_of, AreTo, AreToldTo, Flow, Answer, HostMessage}
 use Rattle.std.proofs.Common.{◌≡◌, Bool, true, false, List, [], ◌∷◌, ◌++◌, Option, Some, None, unwrap_or, filter, map, cond, refl, ap, sym, subst, ◌∙◌, if◌then◌else◌, append_assoc}
-use Rattle.std.proofs.lemmas.List.{append-nil}
-use Rattle.std.specs.Cmp.{eq_by_cmp_equiv}
 use Rattle.std.specs.Ordering.{eq_by_cmp, is_eq}
-use Rattle.std.specs.declared.cmp.Ordering.{Ordering}
-use Rattle.std.specs.declared.cmp.Ordering.TheVariants.{Less, Equal, Greater}
-use Rattle.std.specs.FinMap.{empty, get, get-empty, get-insert, get-remove}
-use Rattle.interface.specs.Host.{Host, host_cmp, same_host}
-use Rattle.interface.specs.Mailboxes.{same_flow}
 use Rattle.leader1822.specs.Boxes.{Queues, WaitingAnswer, for_host, with_queue, queued_if, rest, is_told_to, is_of, is_about, is_running, one_if, told_dead}
-use Rattle.leader1822.specs.Inside.Soundness.{texts_of, kinds_of, AreTo, AreToldTo}
-use Rattle.interface.specs.declared.address.Flow.{Flow}
-use Rattle.interface.specs.declared.crossing.Answer.{Answer}
 use Rattle.interface.specs.declared.crossing.Answer.TheVariants as answer
-use Rattle.interface.specs.declared.message.HostMessage.{HostMessage}
-use Rattle.interface.proofs.lemmas.{both_ways, exact_hosts, hosts_total, same_flow-refl, same_flow-true, same_host-refl, same_host-true}
+use Rattle.interface.proofs.lemmas.{both_ways, exact_hosts, hosts_total, same_flow-refl, same_flow-true, same_host-refl, same_host-true, is_equal}
 use Rattle.leader1822.proofs.Waiting.{texts_of-append, kinds_of-append, texts_one_same, texts_one_other, kinds_one_same, kinds_one_other, if_same}
-use Rattle.interface.proofs.lemmas.{is_equal}
 
 -- ---- one queue
 

@@ -1,18 +1,11 @@
 -- What a giving up finds, and what a taking leaves.
+use Rattle.leader1822.proofs.Common.{false≢true, list_any, get, Host, is_host, texts_of, kinds_of, texts_for, kinds_for, Matches, IsSound, Flow, Answer, HostMessage}
 use Rattle.std.proofs.Common.{◌≡◌, suc, Bool, true, false, not, ◌&&◌, ◌||◌, List, [], ◌∷◌, length, filter, Option, Some, None, IsSome, is_some, refl, ap, sym, ◌∙◌, inl, inr}
-use Rattle.std.proofs.lemmas.Bool.{false≢true}
-use Rattle.std.specs.List.{list_any}
-use Rattle.std.specs.FinMap.{get}
-use Rattle.interface.specs.Host.{Host, is_host}
 use Rattle.leader1822.specs.Boxes.{Boxes, WaitingAnswer, for_host, with_queue, queued_if, first_of_list, rest, is_of, is_about, is_rfnm, is_rfnm_about, is_running, give_up_refusal, next_for, answer_first}
 use Rattle.leader1822.specs.Inside.Held.{Held, pending_of, is_message, IsIndexed, put, answer_if, held_taken}
-use Rattle.leader1822.specs.Inside.Soundness.{texts_of, kinds_of, texts_for, kinds_for, Matches, IsSound}
-use Rattle.interface.specs.declared.address.Flow.{Flow}
-use Rattle.interface.specs.declared.crossing.Answer.{Answer}
 use Rattle.interface.specs.declared.crossing.Answer.TheVariants as answer
 use Rattle.interface.specs.declared.crossing.Crossing.TheVariants as crossing
 use Rattle.interface.specs.declared.crossing.Inbound.TheVariants as inbound
-use Rattle.interface.specs.declared.message.HostMessage.{HostMessage}
 use Rattle.interface.proofs.lemmas.{or_false}
 use Rattle.leader1822.proofs.Waiting.{has_any, any_of, any_rfnm, none_waits}
 use Rattle.leader1822.proofs.SoundEvents.{Outstanding, outstanding}

@@ -1,24 +1,14 @@
 -- The map by flow says what waits, and continues to do so.
+use Rattle.leader1822.proofs.Common.{append-nil, false≢true, list_any, empty, get, get-empty, get-insert, get-remove, flow_cmp, IsNamed, texts_of, kinds_of, texts_for, kinds_for, FitsBox, AreTo, AreToldTo, Matches, IsSound, Flow, Answer, Inbound, HostMessage}
 use Rattle.std.proofs.Common.{◌≡◌, Bool, true, false, not, ◌&&◌, ◌||◌, List, [], ◌∷◌, ◌++◌, cond, Option, Some, None, IsSome, is_some, refl, ap, sym, subst, ◌∙◌, if◌then◌else◌, inl, inr}
-use Rattle.std.proofs.lemmas.List.{append-nil}
-use Rattle.std.proofs.lemmas.Bool.{false≢true}
-use Rattle.std.specs.List.{list_any}
-use Rattle.std.specs.FinMap.{empty, get, get-empty, get-insert, get-remove}
 use Rattle.interface.specs.Host.{Host, same_host, is_host, InOrder}
-use Rattle.interface.specs.Flow.{flow_cmp}
 use Rattle.interface.specs.Mailboxes.{Box, same_flow}
 use Rattle.leader1822.specs.Boxes.{Boxes, WaitingAnswer, for_host, first_of_list, rest, is_of, is_about, is_rfnm, is_from, is_running, is_busy, is_outstanding, is_unsettled, one_if, offer_refusal, host_refusal, give_up_refusal, next_for, answer_first, inbound_of, inbound_taken, given_up, opening_boxes}
 use Rattle.leader1822.specs.Inside.Held.{Flows, Held, pending_of, IsIndexed, IsKept, is_unanswered, put, answer_if, cleared, flows_dead, held_offered, held_taken, held_given_up, held_stopped, held_started}
-use Rattle.leader1822.specs.Inside.Named.{IsNamed}
-use Rattle.leader1822.specs.Inside.Soundness.{texts_of, kinds_of, texts_for, kinds_for, FitsBox, AreTo, AreToldTo, Matches, IsSound}
-use Rattle.interface.specs.declared.address.Flow.{Flow}
-use Rattle.interface.specs.declared.crossing.Answer.{Answer}
 use Rattle.interface.specs.declared.crossing.Answer.TheVariants as answer
-use Rattle.interface.specs.declared.crossing.Inbound.{Inbound}
 use Rattle.interface.specs.declared.crossing.Inbound.TheVariants as inbound
 use Rattle.leader1822.specs.declared.flows.Pending.{Pending}
 use Rattle.leader1822.specs.declared.flows.Pending.TheVariants as pending
-use Rattle.interface.specs.declared.message.HostMessage.{HostMessage}
 use Rattle.interface.proofs.lemmas.{and_true, eq_flow, flows_total, same_flow-refl, same_flow-true, same_host-refl, same_host-true}
 use Rattle.leader1822.proofs.Waiting.{has_any, any_of, any_about, any_rfnm, none_from, if_same}
 use Rattle.leader1822.proofs.ForHost.{for_none}

@@ -1,15 +1,11 @@
 -- What the kept queues show.
+use Rattle.leader1822.proofs.Common.{is_at, eq_by_cmp_equiv, Host, host_cmp, Queues, for_host, with_queue, first_of_list, rest, shown, waiting_in}
 use Rattle.std.proofs.Common.{◌≡◌, Bool, true, false, List, [], ◌∷◌, Option, Some, None, ◌++◌, unwrap_or, cond, drop, length, option_to_list, refl, ap, sym, ◌∙◌, arith}
-use Rattle.std.specs.BTreeMap.{is_at}
 use Rattle.std.specs.Map.{lookup}
 use Rattle.std.specs.declared.collections.VecDeque.{VecDeque}
 use Rattle.std.specs.VecDeque.{deque_items}
-use Rattle.std.specs.Cmp.{eq_by_cmp_equiv}
 use Rattle.std.specs.Ordering.{eq_by_cmp}
 use Rattle.std.specs.FinMap.{get, get-empty, get-insert, get-remove, same_map}
-use Rattle.interface.specs.Host.{Host, host_cmp}
-use Rattle.leader1822.specs.Boxes.{Queues, for_host, with_queue, first_of_list, rest}
-use Rattle.leader1822.specs.Inside.Shown.{shown, waiting_in}
 use Rattle.interface.proofs.lemmas.{exact_hosts, hosts_total, same_host-true}
 use Rattle.leader1822.proofs.ForHost.{eq_host}
 

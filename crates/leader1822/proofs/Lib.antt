@@ -1,3 +1,4 @@
+pub mod Common
 pub mod Waiting
 pub mod ForHost
 pub mod Kept

@@ -1,17 +1,10 @@
 -- Plain boxes rest while their map by flow is empty.
+use Rattle.leader1822.proofs.Common.{empty, get, get-empty, Host, is_host, flow_cmp, AllAnswered, Boxes, BoxesRound, BoxesTake, WaitingAnswer, for_host, first_of_list, next_for, answer_first, texts_of, kinds_of, texts_for, kinds_for, AreTo, AreToldTo, Matches, Flow, HostMessage}
 use Rattle.std.proofs.Common.{◌≡◌, inl, inr, Bool, true, false, ◌||◌, List, [], ◌∷◌, Option, Some, None, is_some, Ok, Err, refl, ap, sym, ◌∙◌}
-use Rattle.std.specs.FinMap.{empty, get, get-empty}
 use Rattle.std.proofs.lemmas.Bool.{or_right, or_left}
-use Rattle.interface.specs.Host.{Host, is_host}
-use Rattle.interface.specs.Flow.{flow_cmp}
 use Rattle.interface.specs.Rest.{Rests, TakesNothing}
-use Rattle.leader1822.specs.Answered.{AllAnswered}
-use Rattle.leader1822.specs.Boxes.{Boxes, BoxesRound, BoxesTake, WaitingAnswer, for_host, first_of_list, next_for, answer_first}
 use Rattle.leader1822.specs.Inside.Held.{Flows, Held, IsIndexed, IsKept}
-use Rattle.leader1822.specs.Inside.Soundness.{texts_of, kinds_of, texts_for, kinds_for, AreTo, AreToldTo, Matches}
-use Rattle.interface.specs.declared.address.Flow.{Flow}
 use Rattle.interface.specs.declared.carrier.CarrierFault.TheVariants as fault
-use Rattle.interface.specs.declared.message.HostMessage.{HostMessage}
 use Rattle.interface.proofs.lemmas.{same_flow-refl, same_host-true}
 use Rattle.leader1822.proofs.Waiting.{has_any}
 use Rattle.leader1822.proofs.Index.{some_pending}

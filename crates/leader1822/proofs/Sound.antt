@@ -1,17 +1,12 @@
 -- Each call of the plain boxes leaves what waits fitting the mailboxes.
+use Rattle.leader1822.proofs.Common.{list_any, Host, is_host, same_host, texts_of, kinds_of, texts_for, kinds_for, FitsBox, FlowFits, AreTo, AreToldTo, Matches, IsSound, Flow, Answer, HostMessage}
 use Rattle.std.proofs.Common.{◌≡◌, ℕ, Bool, true, false, not, List, [], ◌∷◌, ◌++◌, length, refl, ap, sym, subst, ◌∙◌, Some, None, inl, inr}
-use Rattle.std.specs.List.{list_any}
-use Rattle.interface.specs.Host.{Host, is_host, same_host}
 use Rattle.interface.specs.Mailboxes.{Box, Empty, Waiting, Taken, WaitsWith, Fits, fetched, same_flow, box_of}
 use Rattle.leader1822.specs.Boxes.{Boxes, WaitingAnswer, for_host, with_queue, rest, is_of, is_about, is_running, is_busy, one_if, offer_refusal, offered, host_refusal, inbound_taken, inbound_of}
-use Rattle.leader1822.specs.Inside.Soundness.{texts_of, kinds_of, texts_for, kinds_for, FitsBox, FlowFits, AreTo, AreToldTo, Matches, IsSound}
-use Rattle.interface.specs.declared.address.Flow.{Flow}
 use Rattle.interface.specs.declared.carrier.CarrierFault.TheVariants as fault
-use Rattle.interface.specs.declared.crossing.Answer.{Answer}
 use Rattle.interface.specs.declared.crossing.Answer.TheVariants as answer
 use Rattle.interface.specs.declared.crossing.Crossing.TheVariants as crossing
 use Rattle.interface.specs.declared.crossing.Inbound.TheVariants as inbound
-use Rattle.interface.specs.declared.message.HostMessage.{HostMessage}
 use Rattle.interface.proofs.lemmas.{guard, not_false, or_false, same_flow-refl, same_flow-true, same_host-true}
 use Rattle.leader1822.proofs.Waiting.{any_of, any_about, none_waits}
 use Rattle.leader1822.proofs.ForHost.{for_with_here, for_with_other, texts_queued_same, texts_queued_other, kinds_queued_same, kinds_queued_other, AreTo-rest, AreToldTo-rest, sent_with, told_with, sent_queued, told_queued}

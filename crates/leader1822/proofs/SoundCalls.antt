@@ -1,12 +1,8 @@
 -- What a taking gives and leaves.
+use Rattle.leader1822.proofs.Common.{Host, Boxes, WaitingAnswer, for_host, first_of_list, rest, host_refusal, next_for, answer_first, seen_of, inbound_taken, Matches, IsSound, Inbound, HostMessage}
 use Rattle.std.proofs.Common.{◌≡◌, List, [], ◌∷◌, refl, ap, sym, subst, Option, Some, None, Result, Ok, Err, OnOk, OnErr}
-use Rattle.interface.specs.Host.{Host}
 use Rattle.interface.specs.Calls.{ShowsTake, IsFor}
-use Rattle.leader1822.specs.Boxes.{Boxes, WaitingAnswer, for_host, first_of_list, rest, host_refusal, next_for, answer_first, seen_of, inbound_taken}
-use Rattle.leader1822.specs.Inside.Soundness.{Matches, IsSound}
-use Rattle.interface.specs.declared.crossing.Inbound.{Inbound}
 use Rattle.interface.specs.declared.crossing.Inbound.TheVariants as inbound
-use Rattle.interface.specs.declared.message.HostMessage.{HostMessage}
 use Rattle.leader1822.proofs.Sound.{Runs, runs_here, TakesAnswer, takes_answer, TakesMessage, takes_message, answer_sound, message_sound}
 
 -- a queue with a first element is that and the rest

@@ -1,17 +1,11 @@
 -- The events of the plain boxes leave what waits fitting the mailboxes.
+use Rattle.leader1822.proofs.Common.{list_any, append-nil, Host, same_host, is_host, texts_of, kinds_of, texts_for, kinds_for, FitsBox, FlowFits, Matches, IsSound, Flow, Answer, HostMessage}
 use Rattle.std.proofs.Common.{◌≡◌, Bool, true, false, not, ◌&&◌, ◌||◌, List, [], ◌∷◌, ◌++◌, filter, map, refl, ap, sym, subst, ◌∙◌, if◌then◌else◌, None, inl, inr}
-use Rattle.std.specs.List.{list_any}
-use Rattle.std.proofs.lemmas.List.{append-nil}
 use Rattle.std.proofs.lemmas.List.Folds.{list_any-append}
-use Rattle.interface.specs.Host.{Host, same_host, is_host}
 use Rattle.interface.specs.Mailboxes.{Box, Empty, Waiting, Taken, WaitsWith, Fits, same_flow, box_of}
 use Rattle.leader1822.specs.Boxes.{Boxes, WaitingAnswer, Queues, for_host, with_queue, is_of, is_rfnm, is_rfnm_about, is_running, is_from, is_outstanding, is_unsettled, one_if, host_refusal, give_up_refusal, given_up, host_stopped, host_up_refusal, host_started}
-use Rattle.leader1822.specs.Inside.Soundness.{texts_of, kinds_of, texts_for, kinds_for, FitsBox, FlowFits, Matches, IsSound}
-use Rattle.interface.specs.declared.address.Flow.{Flow}
 use Rattle.interface.specs.declared.carrier.CarrierFault.TheVariants as fault
-use Rattle.interface.specs.declared.crossing.Answer.{Answer}
 use Rattle.interface.specs.declared.crossing.Answer.TheVariants as answer
-use Rattle.interface.specs.declared.message.HostMessage.{HostMessage}
 use Rattle.interface.proofs.lemmas.{and_true, guard, not_false, or_false, or_nothing, same_flow-refl, same_flow-sym, same_flow-true, same_host-refl, same_host-true}
 use Rattle.leader1822.proofs.Waiting.{kinds_of-append, kinds_one_same, kinds_one_other, texts_of-filter, kinds_of-filter, filter_all, any_of, any_rfnm, none_from, has_any, if_same}
 use Rattle.leader1822.proofs.ForHost.{for_with, for_with_here, for_with_other, AreTo-filter, AreToldTo-filter, AreToldTo-append, AreToldTo-one, sent_with, told_with, texts_elsewhere, kinds_elsewhere, told_told, kinds_told, deads}

@@ -1,8 +1,8 @@
 -- The boxes after some messages were answered Dead.
+use Rattle.leader1822.proofs.Common.{HostMessage}
 use Rattle.std.proofs.Common.{List}
 use Rattle.leader1822.specs.Boxes.{told_dead}
 use Rattle.leader1822.specs.Inside.Held.{Held, flows_dead}
-use Rattle.interface.specs.declared.message.HostMessage.{HostMessage}
 
 abbrev pub all_told : Held → List HostMessage → Held
 all_told c ms = record {

@@ -1,13 +1,7 @@
 -- What waits of one flow, when the queue and the answers change.
+use Rattle.leader1822.proofs.Common.{list_any, same_host, same_flow, texts_of, kinds_of, Flow, Answer, HostMessage}
 use Rattle.std.proofs.Common.{◌≡◌, Bool, true, false, ◌||◌, List, [], ◌∷◌, ◌++◌, filter, refl, ap, sym, ◌∙◌, if◌then◌else◌, append_assoc}
-use Rattle.std.specs.List.{list_any}
-use Rattle.interface.specs.Host.{same_host}
-use Rattle.interface.specs.Mailboxes.{same_flow}
 use Rattle.leader1822.specs.Boxes.{WaitingAnswer, is_of, is_about, is_rfnm, is_rfnm_about, is_from, one_if}
-use Rattle.leader1822.specs.Inside.Soundness.{texts_of, kinds_of}
-use Rattle.interface.specs.declared.address.Flow.{Flow}
-use Rattle.interface.specs.declared.crossing.Answer.{Answer}
-use Rattle.interface.specs.declared.message.HostMessage.{HostMessage}
 use Rattle.interface.proofs.lemmas.{or_false, same_flow-refl, same_flow-true, same_host-refl}
 
 -- ---- one after another

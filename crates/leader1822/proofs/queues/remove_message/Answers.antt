@@ -1,7 +1,5 @@
-use Rattle.std.proofs.Common.{◌≡◌, ◌-◌, ◌<◌, ◌≤◌, true, false, not, Some, length, drop, filter, rules, refl, ap, sym, ◌∙◌, arith, ℕ}
+use Rattle.leader1822.proofs.Common.{◌≡◌, ◌-◌, ◌<◌, ◌≤◌, true, false, not, Some, length, drop, filter, rules, refl, ap, sym, ◌∙◌, arith, ℕ, slice_get_read, is_of}
 use Rattle.std.specs.List.{list_any, slice_get}
-use Rattle.std.proofs.lemmas.Option.{slice_get_read}
-use Rattle.leader1822.specs.Boxes.{is_of}
 use Rattle.leader1822.proofs.Newest.{remove_only, on_some, never_none}
 use Rattle.leader1822.proofs.queues.remove_message.Goals as goal
 

@@ -1,6 +1,4 @@
-use Rattle.std.proofs.Common.{◌≡◌, ◌≤◌, false, length, drop}
-use Rattle.std.specs.List.{list_any}
-use Rattle.leader1822.specs.Boxes.{is_rfnm_about}
+use Rattle.leader1822.proofs.Common.{◌≡◌, ◌≤◌, false, length, drop, list_any, is_rfnm_about}
 use Rattle.leader1822.proofs.queues.remove_rfnm.Given as goal
 
 abbrev pub invariant-places : goal.invariant-places

@@ -1,9 +1,8 @@
+use Rattle.leader1822.proofs.Common.{is_host, HostMessage}
 use Rattle.std.proofs.Common.{◌++◌, List, Bool, true, not, filter, refl, ap, sym, ◌∙◌}
-use Rattle.interface.specs.Host.{is_host}
 use Rattle.leader1822.specs.Boxes.{WaitingAnswer, for_host, with_queue, is_of, is_rfnm_about, one_if}
 use Rattle.leader1822.specs.Inside.Held.{Held, put, answer_if}
 use Rattle.interface.specs.declared.crossing.Answer.TheVariants as answer
-use Rattle.interface.specs.declared.message.HostMessage.{HostMessage}
 use Rattle.leader1822.proofs.Giving.{ByMessage, by_message, ByRfnm, by_rfnm}
 use Rattle.leader1822.proofs.SoundCalls.{on_ok, on_err}
 use Rattle.leader1822.proofs.SoundEvents.{Outstanding, outstanding}

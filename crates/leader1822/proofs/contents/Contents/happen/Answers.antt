@@ -1,6 +1,5 @@
-use Rattle.std.proofs.Common.{◌≡◌, None, subst, sym}
+use Rattle.leader1822.proofs.Common.{◌≡◌, None, subst, sym, Held, IsKept}
 use Rattle.leader1822.specs.Boxes.{give_up_refusal, host_refusal, host_up_refusal}
-use Rattle.leader1822.specs.Inside.Held.{Held, IsKept}
 use Rattle.leader1822.proofs.SoundCalls.{on_ok}
 use Rattle.leader1822.proofs.SoundEvents.{given_sound, started_sound, stopped_sound}
 use Rattle.leader1822.proofs.Index.{given_indexed, started_indexed, stopped_indexed}

@@ -1,6 +1,5 @@
-use Rattle.std.proofs.Common.{ap, ◌∙◌, is_some}
+use Rattle.leader1822.proofs.Common.{ap, ◌∙◌, is_some, Held}
 use Rattle.std.specs.FinMap as map
-use Rattle.leader1822.specs.Inside.Held.{Held}
 use Rattle.leader1822.proofs.Index.{busy}
 use Rattle.leader1822.proofs.contents.Contents.is_busy.Goals as goal
 

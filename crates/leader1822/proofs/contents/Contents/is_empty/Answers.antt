@@ -1,5 +1,4 @@
-use Rattle.std.proofs.Common.{ap, sym, ◌∙◌}
-use Rattle.leader1822.specs.Inside.Held.{Held}
+use Rattle.leader1822.proofs.Common.{ap, sym, ◌∙◌, Held}
 use Rattle.leader1822.proofs.Resting.{none_waits}
 use Rattle.leader1822.proofs.contents.Contents.is_empty.Goals as goal
 

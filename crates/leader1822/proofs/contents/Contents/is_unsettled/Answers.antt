@@ -1,8 +1,6 @@
+use Rattle.leader1822.proofs.Common.{Held, IsNamed, Flow}
 use Rattle.std.proofs.Common.{◌≡◌, true, false, None, IsSome, subst}
 use Rattle.std.specs.FinMap as map
-use Rattle.leader1822.specs.Inside.Held.{Held}
-use Rattle.leader1822.specs.Inside.Named.{IsNamed}
-use Rattle.interface.specs.declared.address.Flow.{Flow}
 use Rattle.leader1822.proofs.Index.{unsettles}
 use Rattle.leader1822.proofs.contents.Contents.is_unsettled.Goals as goal
 

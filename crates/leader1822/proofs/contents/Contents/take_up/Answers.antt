@@ -1,7 +1,6 @@
+use Rattle.leader1822.proofs.Common.{Host, same_host, Held}
 use Rattle.std.proofs.Common.{◌≡◌, List, rules, not, filter, reverse, ap, ◌∙◌}
 use Rattle.std.proofs.lemmas.Fn.{filter_same}
-use Rattle.interface.specs.Host.{Host, same_host}
-use Rattle.leader1822.specs.Inside.Held.{Held}
 use Rattle.leader1822.proofs.contents.Contents.take_up.Goals as goal
 
 pub returns : goal.returns

@@ -1,6 +1,5 @@
-use Rattle.std.proofs.Common.{ap, sym, ◌∙◌}
+use Rattle.leader1822.proofs.Common.{ap, sym, ◌∙◌, get_flow}
 use Rattle.std.specs.FinMap as map
-use Rattle.interface.proofs.lemmas.{get_flow}
 use Rattle.leader1822.proofs.flows.Flows.get.Goals as goal
 
 pub returns : goal.returns

@@ -1,7 +1,6 @@
-use Rattle.std.proofs.Common.{◌≡◌, filter, ap, sym, ◌∙◌, is_some}
+use Rattle.leader1822.proofs.Common.{◌≡◌, filter, ap, sym, ◌∙◌, is_some, get_flow}
 use Rattle.std.specs.FinMap as map
 use Rattle.std.specs.Range.{range_inclusive_end}
-use Rattle.interface.proofs.lemmas.{get_flow}
 use Rattle.leader1822.proofs.FlowRange.{lowest, highest, is_between, between_source, named_between, none_between, some_between, IsThere, is_one, is_no}
 use Rattle.leader1822.proofs.flows.Flows.has_from.Goals as goal
 

@@ -1,6 +1,4 @@
-use Rattle.std.proofs.Common.{◌≡◌, false, subst, rules}
-use Rattle.leader1822.specs.Answered.{AllAnswered}
-use Rattle.leader1822.specs.Boxes.{Boxes}
+use Rattle.leader1822.proofs.Common.{◌≡◌, false, subst, rules, AllAnswered, Boxes}
 use Rattle.leader1822.proofs.Resting.{all_answered}
 use Rattle.leader1822.proofs.plain_boxes.PlainBoxes.is_empty.Goals as goal
 

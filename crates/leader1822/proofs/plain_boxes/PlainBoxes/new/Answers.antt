@@ -1,5 +1,4 @@
-use Rattle.std.proofs.Common.{sym, subst}
-use Rattle.leader1822.specs.Inside.Held.{IsKept}
+use Rattle.leader1822.proofs.Common.{sym, subst, IsKept}
 use Rattle.leader1822.proofs.Index.{opening_kept}
 use Rattle.leader1822.proofs.plain_boxes.PlainBoxes.new.Goals as goal
 

@@ -1,6 +1,5 @@
-use Rattle.std.proofs.Common.{◌≡◌, None, rules, subst, sym}
+use Rattle.leader1822.proofs.Common.{◌≡◌, None, rules, subst, sym, Held, IsKept}
 use Rattle.leader1822.specs.Boxes.{offer_refusal}
-use Rattle.leader1822.specs.Inside.Held.{Held, IsKept}
 use Rattle.leader1822.proofs.Sound.{offered_sound}
 use Rattle.leader1822.proofs.Index.{offered_indexed}
 use Rattle.leader1822.proofs.plain_boxes.PlainBoxesCarrier.offer_out.Goals as goal

@@ -1,5 +1,4 @@
-use Rattle.std.proofs.Common.{◌≡◌, false, subst, rules}
-use Rattle.leader1822.specs.Boxes.{BoxesRound, BoxesTake}
+use Rattle.leader1822.proofs.Common.{◌≡◌, false, subst, rules, BoxesRound, BoxesTake}
 use Rattle.interface.specs.Rest.{Rests}
 use Rattle.leader1822.proofs.Resting.{boxes_rest}
 use Rattle.leader1822.proofs.plain_boxes.PlainBoxesCarrier.rests.Goals as goal

@@ -1,7 +1,6 @@
+use Rattle.leader1822.proofs.Common.{Boxes, host_refusal, next_for, inbound_taken, seen_of, Held, IsKept}
 use Rattle.std.proofs.Common.{◌≡◌, None, Ok, rules, subst, sym, ap, ◌∙◌}
-use Rattle.leader1822.specs.Boxes.{Boxes, host_refusal, next_for, inbound_taken, seen_of}
 use Rattle.interface.specs.Calls.{ShowsTake}
-use Rattle.leader1822.specs.Inside.Held.{Held, IsKept}
 use Rattle.leader1822.proofs.SoundCalls.{shows_taking}
 use Rattle.leader1822.proofs.Index.{taken_kept, same_boxes}
 use Rattle.leader1822.proofs.plain_boxes.PlainBoxesCarrier.take_in.Goals as goal

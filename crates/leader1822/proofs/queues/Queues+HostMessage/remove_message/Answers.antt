@@ -1,6 +1,4 @@
-use Rattle.std.proofs.Common.{◌≡◌, [], Some, is_some, not, length, filter, ap, sym, ◌∙◌, arith}
-use Rattle.leader1822.specs.Boxes.{for_host, with_queue, is_of}
-use Rattle.leader1822.specs.Inside.Shown.{waiting_in}
+use Rattle.leader1822.proofs.Common.{◌≡◌, [], Some, is_some, not, length, filter, ap, sym, ◌∙◌, arith, for_host, with_queue, is_of, waiting_in}
 use Rattle.leader1822.proofs.Kept.{for_shown, shown_with}
 use Rattle.leader1822.proofs.queues.Queues+HostMessage.remove_message.Goals as goal
 

@@ -1,6 +1,5 @@
+use Rattle.leader1822.proofs.Common.{for_host, waiting_in}
 use Rattle.std.proofs.Common.{◌≡◌, slice_get, sym, ap, ◌∙◌}
-use Rattle.leader1822.specs.Boxes.{for_host}
-use Rattle.leader1822.specs.Inside.Shown.{waiting_in}
 use Rattle.leader1822.proofs.Kept.{for_shown}
 use Rattle.interface.proofs.lemmas.{read_at}
 use Rattle.leader1822.proofs.queues.Queues.at.Goals as goal

@@ -1,6 +1,5 @@
+use Rattle.leader1822.proofs.Common.{for_host, waiting_in}
 use Rattle.std.proofs.Common.{◌≡◌, deque_len, length, rules, sym, ap, ◌∙◌}
-use Rattle.leader1822.specs.Boxes.{for_host}
-use Rattle.leader1822.specs.Inside.Shown.{waiting_in}
 use Rattle.leader1822.proofs.Kept.{for_shown}
 use Rattle.leader1822.proofs.queues.Queues.count.Goals as goal
 

@@ -1,6 +1,4 @@
-use Rattle.std.proofs.Common.{◌≡◌, [], Some, is_some, ap, sym, ◌∙◌}
-use Rattle.leader1822.specs.Boxes.{for_host, with_queue, first_of_list, rest}
-use Rattle.leader1822.specs.Inside.Shown.{waiting_in, shown}
+use Rattle.leader1822.proofs.Common.{◌≡◌, [], Some, is_some, ap, sym, ◌∙◌, for_host, with_queue, first_of_list, rest, waiting_in, shown}
 use Rattle.leader1822.proofs.Kept.{for_shown, shown_with, shown_same, popped}
 use Rattle.leader1822.proofs.SoundCalls.{none_first}
 use Rattle.leader1822.proofs.queues.Queues.pop.Goals as goal

@@ -1,6 +1,4 @@
-use Rattle.std.proofs.Common.{◌≡◌, [], ◌∷◌, ◌++◌, Some, is_some, ap, sym, ◌∙◌}
-use Rattle.leader1822.specs.Boxes.{for_host, with_queue}
-use Rattle.leader1822.specs.Inside.Shown.{waiting_in, shown}
+use Rattle.leader1822.proofs.Common.{◌≡◌, [], ◌∷◌, ◌++◌, Some, is_some, ap, sym, ◌∙◌, for_host, with_queue, waiting_in, shown}
 use Rattle.leader1822.proofs.Kept.{for_shown, shown_with}
 use Rattle.leader1822.proofs.queues.Queues.push.Goals as goal
 

@@ -1,6 +1,4 @@
-use Rattle.std.proofs.Common.{◌≡◌, sym, subst}
-use Rattle.leader1822.specs.Boxes.{Queues, for_host, with_queue}
-use Rattle.leader1822.specs.Inside.Shown.{shown}
+use Rattle.leader1822.proofs.Common.{◌≡◌, sym, subst, Queues, for_host, with_queue, shown}
 use Rattle.leader1822.proofs.Kept.{for_shown, shown_same}
 use Rattle.leader1822.proofs.queues.Queues.stays.Goals as goal
 

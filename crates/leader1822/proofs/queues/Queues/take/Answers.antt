@@ -1,6 +1,4 @@
-use Rattle.std.proofs.Common.{None, [], refl, ap, sym, ◌∙◌}
-use Rattle.leader1822.specs.Boxes.{for_host, with_queue}
-use Rattle.leader1822.specs.Inside.Shown.{waiting_in}
+use Rattle.leader1822.proofs.Common.{None, [], refl, ap, sym, ◌∙◌, for_host, with_queue, waiting_in}
 use Rattle.leader1822.proofs.Kept.{for_shown, shown_with}
 use Rattle.leader1822.proofs.queues.Queues.take.Goals as goal
 
