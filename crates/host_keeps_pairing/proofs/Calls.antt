@@ -1,5 +1,5 @@
 -- Each call of a host's program, at one pair of its sockets with one peer.
-use Rattle.host_keeps_pairing.proofs.Common.{◌≡◌, ℕ, ◌≤◌, Bool, true, false, ◌==◌, if◌then◌else◌, cond, List, [], ◌∷◌, Some, refl, ap, sym, subst, ◌∙◌, Host, same_host, Flow, Answer, HostMessage, same_host-refl, End, nothing, TurnState, answered_turn, if_ready, message_taken, orders_taken, accepted_answer, turn_of, Legal, Order, orders_of, data_taken, is_busy, commands_of, PairState, NcpState, pair_with, with_pair, desk_of, AreInOrder, is_ready, Parcel, pair_after, parcel_gone, next_in, Peer, next_pair, pair_changed, AllFit, MayAllGo, all_gone, marks, marks_in, HasEnd, kept_in, AreFree, AreJoint}
+use Rattle.host_keeps_pairing.proofs.Common.{◌≡◌, ℕ, ◌≤◌, Bool, true, false, ◌==◌, if◌then◌else◌, cond, List, [], ◌∷◌, Some, refl, ap, sym, subst, ◌∙◌, Host, same_host, Flow, Answer, HostMessage, same_host-refl, End, nothing, TurnState, if_ready, message_taken, orders_taken, accepted_answer, turn_of, Legal, Order, orders_of, data_taken, is_busy, commands_of, PairState, NcpState, pair_with, with_pair, desk_of, AreInOrder, is_ready, Parcel, pair_after, parcel_gone, next_in, Peer, next_pair, pair_changed, AllFit, MayAllGo, all_gone, marks, marks_in, HasEnd, kept_in, AreFree, AreJoint}
 use Rattle.interface.specs.declared.crossing.Inbound.TheVariants as inbound
 use Rattle.ncp_control.specs.declared.command.Command.TheVariants as command
 use Rattle.sockets.specs.Accepting.{accepted, accepted_message}
@@ -25,7 +25,7 @@ message_pair : (s : NcpState) (m : HostMessage) (stamp : ℕ) → same_host s.ow
 unfolding accepted
 message_pair s m stamp own = by (same_host s.own m.flow.destination) refl where
   by : (b : Bool) → same_host s.own m.flow.destination ≡ b → pair_with m.flow.source (accepted_message s m stamp).0.peers ≡ taken_by s m stamp
-  by true e = rw e (put m.flow.source (taken_by s m stamp) s.peers)
+  by true e = rw e (put _ _ s.peers)
   by false e = absurd (let r : true ≡ false = sym own ∙ e in cc)
 
 on_control : (s : NcpState) (m : HostMessage) (stamp : ℕ) → (m.flow.link.0 == 0) ≡ true
@@ -45,13 +45,13 @@ module _ (origin : ℕ → ℕ) (own foreign : ℕ) where
       → HasEnd origin own foreign (pair_with m.flow.source s.peers) x
       → HasEnd origin own foreign (pair_with m.flow.source (accepted s (inbound.Message m) stamp).0.peers) (all_taken (marks_in (origin stamp) foreign own (orders_of m.text)) x)
   message_hears s m stamp x mine zero ready joint free fit h =
-      at_pair s m stamp (all_taken (marks_in (origin stamp) foreign own (orders_of m.text)) x) (orders_taken m.flow.source stamp (orders_of m.text) (turn_of s m.flow.source)).pair mine (on_control s m stamp zero)
-      (orders_ready origin own foreign m.flow.source stamp (orders_of m.text) (turn_of s m.flow.source) x joint free fit ready h)
+      at_pair s m stamp _ _ mine (on_control s m stamp zero)
+      (orders_ready origin own foreign _ stamp _ _ x joint free fit ready h)
 
   pub message_idle : (s : NcpState) (m : HostMessage) (stamp : ℕ) (x : End) → same_host s.own m.flow.destination ≡ true → (m.flow.link.0 == 0) ≡ true → is_ready (pair_with m.flow.source s.peers).phase ≡ false
       → AreJoint (orders_of m.text) → HasEnd origin own foreign (pair_with m.flow.source s.peers) x → HasEnd origin own foreign (pair_with m.flow.source (accepted s (inbound.Message m) stamp).0.peers) x
   message_idle s m stamp x mine zero idle joint h =
-      at_pair s m stamp x (pair_with m.flow.source s.peers) mine (on_control s m stamp zero ∙ ap (λ (t : TurnState). t.pair) (orders_idle m.flow.source stamp (orders_of m.text) (turn_of s m.flow.source) joint idle)) h
+      at_pair s m stamp x _ mine (on_control s m stamp zero ∙ ap (λ (t : TurnState). t.pair) (orders_idle _ stamp _ _ joint idle)) h
 
   one_order : (s : NcpState) (m : HostMessage) (stamp : ℕ) (o : Order) → (m.flow.link.0 == 0) ≡ true → orders_of m.text ≡ o ∷ []
       → taken_by s m stamp ≡ (orders_taken m.flow.source stamp (o ∷ []) (turn_of s m.flow.source)).pair
@@ -60,41 +60,41 @@ module _ (origin : ℕ → ℕ) (own foreign : ℕ) where
   pub message_resets : (s : NcpState) (m : HostMessage) (stamp : ℕ) → same_host s.own m.flow.destination ≡ true → (m.flow.link.0 == 0) ≡ true → orders_of m.text ≡ Legal command.Rst ∷ []
       → HasEnd origin own foreign (pair_with m.flow.source (accepted s (inbound.Message m) stamp).0.peers) nothing
   message_resets s m stamp mine zero is =
-      at_pair s m stamp nothing (orders_taken m.flow.source stamp (Legal command.Rst ∷ []) (turn_of s m.flow.source)).pair mine (one_order s m stamp (Legal command.Rst) zero is) (after_reset origin own foreign m.flow.source (turn_of s m.flow.source))
+      at_pair s m stamp nothing _ mine (one_order s m stamp _ zero is) (after_reset origin own foreign m.flow.source (turn_of s m.flow.source))
 
   pub message_replies : (s : NcpState) (m : HostMessage) (stamp : ℕ) (x : End) → same_host s.own m.flow.destination ≡ true → (m.flow.link.0 == 0) ≡ true → orders_of m.text ≡ Legal command.Rrp ∷ []
       → HasEnd origin own foreign (pair_with m.flow.source s.peers) x → HasEnd origin own foreign (pair_with m.flow.source (accepted s (inbound.Message m) stamp).0.peers) x
   message_replies s m stamp x mine zero is h =
-      at_pair s m stamp x (orders_taken m.flow.source stamp (Legal command.Rrp ∷ []) (turn_of s m.flow.source)).pair mine (one_order s m stamp (Legal command.Rrp) zero is) (after_reply origin own foreign m.flow.source (turn_of s m.flow.source) x h)
+      at_pair s m stamp x _ mine (one_order s m stamp _ zero is) (after_reply origin own foreign m.flow.source (turn_of s m.flow.source) x h)
 
   pub message_data : (s : NcpState) (m : HostMessage) (stamp : ℕ) (x : End) → same_host s.own m.flow.destination ≡ true → (m.flow.link.0 == 0) ≡ false
       → HasEnd origin own foreign (pair_with m.flow.source s.peers) x → HasEnd origin own foreign (pair_with m.flow.source (accepted s (inbound.Message m) stamp).0.peers) x
   message_data s m stamp x mine away h =
       let is : taken_by s m stamp ≡ (if_ready (data_taken m.flow.link.0 m.text) (turn_of s m.flow.source)).pair =
       ap (λ (b : Bool). (if b then orders_taken m.flow.source stamp (orders_of m.text) (turn_of s m.flow.source) else if_ready (data_taken m.flow.link.0 m.text) (turn_of s m.flow.source)).pair) away in
-      at_pair s m stamp x (if_ready (data_taken m.flow.link.0 m.text) (turn_of s m.flow.source)).pair mine is (after_data origin own foreign m.flow.link.0 m.text (turn_of s m.flow.source) x h)
+      at_pair s m stamp x _ mine is (after_data origin own foreign _ m.text (turn_of s m.flow.source) x h)
 
   -- ---- an answer
 
   answer_by : (s : NcpState) (kind : Answer) (f : Flow) (x : End) → HasEnd origin own foreign (pair_with f.destination s.peers) x → (b c : Bool) → same_host s.own f.source ≡ b → is_busy (pair_with f.destination s.peers).busy f.link.0 ≡ c
       → HasEnd origin own foreign (pair_with f.destination (accepted_answer s kind f).0.peers) (kept_in (pair_with f.destination (accepted_answer s kind f).0.peers) x)
   answer_by s kind f x h true true e g =
-      rw (e, g) (subst (λ (p : PairState). HasEnd origin own foreign p (kept_in p x)) (sym (put f.destination (answered_turn f.destination kind f.link.0 (turn_of s f.destination)).pair s.peers))
-      (after_answer origin own foreign f.destination kind f.link.0 (turn_of s f.destination) x h))
-  answer_by s kind f x h true false e g = rw (e, g) (same_kept origin own foreign (pair_with f.destination s.peers) x h)
-  answer_by s kind f x h false c e g = rw e (same_kept origin own foreign (pair_with f.destination s.peers) x h)
+      rw (e, g) (subst (λ (p : PairState). HasEnd origin own foreign p (kept_in p x)) (sym (put f.destination _ s.peers))
+      (after_answer origin own foreign _ kind _ _ x h))
+  answer_by s kind f x h true false e g = rw (e, g) (same_kept origin own foreign _ x h)
+  answer_by s kind f x h false c e g = rw e (same_kept origin own foreign _ x h)
 
   pub answer_keeps : (s : NcpState) (kind : Answer) (f : Flow) (stamp : ℕ) (x : End) → HasEnd origin own foreign (pair_with f.destination s.peers) x
       → HasEnd origin own foreign (pair_with f.destination (accepted s (inbound.Answer kind f) stamp).0.peers) (kept_in (pair_with f.destination (accepted s (inbound.Answer kind f) stamp).0.peers) x)
   unfolding accepted
-  answer_keeps s kind f stamp x h = answer_by s kind f x h (same_host s.own f.source) (is_busy (pair_with f.destination s.peers).busy f.link.0) refl refl
+  answer_keeps s kind f stamp x h = answer_by s kind f x h _ _ refl refl
 
   -- ---- what goes out
 
   pub offer_may : (s : NcpState) (stamp : ℕ) (g : Peer) (parcel : Parcel) (x : End) (next : ℕ) → AreInOrder s.peers → next_in s.peers ≡ Some (g, parcel) → next ≤ stamp → HasEnd origin own foreign (pair_with g.host s.peers) x
       → MayAllGo (marks stamp own foreign (commands_of g.pair parcel)) x next
   offer_may s stamp g parcel x next order is below h =
-      parcel_may origin own foreign stamp g.pair parcel x next below (subst (λ (q : PairState). HasEnd origin own foreign q x) (next_pair s.peers g parcel order is) h)
+      parcel_may origin own foreign stamp g.pair parcel x next below (subst (λ (q : PairState). HasEnd origin own foreign q x) (next_pair _ g parcel order is) h)
 
   pub offer_says : (s : NcpState) (stamp : ℕ) (g : Peer) (parcel : Parcel) (x : End) → AreInOrder s.peers → next_in s.peers ≡ Some (g, parcel) → HasEnd origin own foreign (pair_with g.host s.peers) x
       → HasEnd origin own foreign (pair_with g.host (offered s stamp).0.peers) (all_gone (marks stamp own foreign (commands_of g.pair parcel)) x)
@@ -102,5 +102,5 @@ module _ (origin : ℕ → ℕ) (own foreign : ℕ) where
   offer_says s stamp g parcel x order is h =
       let after : PairState = pair_after parcel g.pair (parcel_gone g.host stamp g.pair.busy parcel (desk_of g.pair s.listening)) in
       let gone : HasEnd origin own foreign after (all_gone (marks stamp own foreign (commands_of g.pair parcel)) x) =
-      parcel_goes origin own foreign stamp g.host s.listening g.pair parcel x (what_goes g.pair parcel (next_is g parcel s.peers is)) (subst (λ (q : PairState). HasEnd origin own foreign q x) (next_pair s.peers g parcel order is) h) in
+      parcel_goes origin own foreign stamp g.host _ g.pair parcel x (what_goes g.pair parcel (next_is g parcel s.peers is)) (subst (λ (q : PairState). HasEnd origin own foreign q x) (next_pair _ g parcel order is) h) in
       rw is (subst (λ (q : PairState). HasEnd origin own foreign q (all_gone (marks stamp own foreign (commands_of g.pair parcel)) x)) (sym (put g.host after s.peers)) gone)

@@ -1,6 +1,6 @@
 -- What is done to the connections of a pair, at one pair of sockets: ends that are joined, changed, settled and swept, and
 -- commands that are queued.
-use Rattle.host_keeps_pairing.proofs.Common.{◌≡◌, ℕ, Bool, true, false, not, ◌==◌, if◌then◌else◌, List, [], ◌∷◌, ◌++◌, map, filter, Some, None, refl, ap, sym, subst, ◌∙◌, eqb-true, append-nil, Command, End, nothing, Mark, Close, changed, entry_joined, changed_first, changed_at, cls_of, closed_when, entry_at, is_at, is_due, is_over, must_close, DeskState, command_queued, settled, swept, Entry, mark_of, marks, Standing, standing, at, end_of, due, IsSound, Stand}
+use Rattle.host_keeps_pairing.proofs.Common.{◌≡◌, ℕ, Bool, true, false, not, ◌==◌, if◌then◌else◌, List, [], ◌∷◌, ◌++◌, map, filter, Some, None, refl, ap, sym, subst, ◌∙◌, eqb-true, append-nil, Command, End, nothing, Mark, Close, changed, entry_joined, changed_at, cls_of, closed_when, entry_at, is_at, is_due, is_over, must_close, DeskState, command_queued, settled, swept, Entry, mark_of, marks, Standing, standing, at, end_of, due, IsSound, Stand}
 use Rattle.host_pairs.specs.Entries.{is_drained}
 use Rattle.host_pairs.proofs.lemmas.{both}
 use Rattle.host_keeps_pairing.proofs.Lists.{IsQuiet, Is, Found, are, at_append, at_changed, at_one, at_quiet, first, found_at, marks_append, marks_more, marks_quiet, none_at}
@@ -37,12 +37,12 @@ module _ (origin : ℕ → ℕ) (own foreign place : ℕ) where
 
   -- a command that says nothing of these sockets
   pub on_queued : (done : Bool) (c : Command) (d : DeskState) (x : End) → mark_of place own foreign c ≡ [] → On done d x → On done (command_queued c d) x
-  on_queued done c d x none h = stand_same done (at own foreign d.entries) (at own foreign d.entries) (marks place own foreign d.queue) (marks place own foreign (d.queue ++ c ∷ [])) x refl (marks_quiet place own foreign d.queue c none) h
+  on_queued done c d x none h = stand_same done _ _ _ _ x refl (marks_quiet place own foreign d.queue c none) h
 
   -- a change of what doesn't matter
   pub on_quiet : (done : Bool) (test : Entry → Bool) (change : Entry → Entry) (d : DeskState) (x : End) → IsQuiet change → On done d x → On done (changed test change d) x
   on_quiet done test change d x q h =
-      stand_same done (at own foreign d.entries) (at own foreign (changed_first test change d.entries)) (marks place own foreign d.queue) (marks place own foreign d.queue) x (at_quiet own foreign test change d.entries q) refl h
+      stand_same done _ _ _ _ x (at_quiet own foreign test change _ q) refl h
 
   -- ---- the end of two sockets is changed
 
@@ -51,7 +51,7 @@ module _ (origin : ℕ → ℕ) (own foreign place : ℕ) where
       → Stand done origin place (at own foreign xs) words x → Stand done origin place (at own foreign (changed_at a b change xs)) words x
   change_away done a b to change xs words x is t h =
       let e : at own foreign (changed_at a b change xs) ≡ at own foreign xs = at_changed a b own foreign to change xs is ∙ ap (λ (v : Bool). if v then first to (at own foreign xs) else at own foreign xs) t in
-      stand_same done (at own foreign xs) (at own foreign (changed_at a b change xs)) words words x e refl h
+      stand_same done _ _ words words x e refl h
 
   -- here there is one end, and it is changed
   pub change_here : (done : Bool) (a b : ℕ) (to : Standing → Standing) (change : Entry → Entry) (xs : List Entry) (words next : List Mark) (x y : End) → Is to change → are a b own foreign ≡ true
@@ -61,7 +61,7 @@ module _ (origin : ℕ → ℕ) (own foreign place : ℕ) where
   change_here done a b to change xs words next x y is t h work s [] same =
       let e : at own foreign (changed_at a b change xs) ≡ to s ∷ [] = at_changed a b own foreign to change xs is ∙ ap (λ (v : Bool). if v then first to (at own foreign xs) else at own foreign xs) t ∙ ap (λ (ss : List Standing). first to ss) same in
       let k : Stand true origin place (s ∷ []) words x = subst (λ (ss : List Standing). Stand true origin place ss words x) same h in
-      stand_same done (to s ∷ []) (at own foreign (changed_at a b change xs)) next next y e refl (work s [] same k)
+      stand_same done _ _ next next y e refl (work s [] same k)
   change_here done a b to change xs words next x y is t h work s (r ∷ rest) same = absurd (subst (λ (ss : List Standing). Stand true origin place ss words x) same h)
 
   -- ---- a new end
@@ -75,18 +75,18 @@ module _ (origin : ℕ → ℕ) (own foreign place : ℕ) where
 
     by : (t : Bool) → are a b own foreign ≡ t → On true (command_queued c (entry_joined e d)) y
     by true t =
-        let empty : at own foreign d.entries ≡ [] = none_here a b own foreign d.entries t none in
+        let empty : at own foreign d.entries ≡ [] = none_here a b own foreign _ t none in
         let was : (marks place own foreign d.queue ≡ []) × (x ≡ nothing) = subst (λ (ss : List Standing). Stand true origin place ss (marks place own foreign d.queue) x) empty h in
-        let ends : at own foreign (d.entries ++ e ∷ []) ≡ standing e ∷ [] = at_append own foreign d.entries (e ∷ []) ∙ ap (λ (ss : List Standing). ss ++ at own foreign (e ∷ [])) empty ∙ at_one own foreign e [] true (there ∙ t) in
+        let ends : at own foreign (d.entries ++ e ∷ []) ≡ standing e ∷ [] = at_append own foreign _ _ ∙ ap (λ (ss : List Standing). ss ++ at own foreign (e ∷ [])) empty ∙ at_one own foreign e [] true (there ∙ t) in
         let said : marks place own foreign (d.queue ++ c ∷ []) ≡ due place (standing e) =
         words ∙ ap (λ (l : List Mark). l ++ (if are a b own foreign then due place (standing e) else [])) was.0 ∙ ap (λ (v : Bool). if v then due place (standing e) else []) t in
-        stand_same true (standing e ∷ []) (at own foreign (d.entries ++ e ∷ [])) (due place (standing e)) (marks place own foreign (d.queue ++ c ∷ [])) y ends said (sound, refl, here t was.1)
+        stand_same true (standing e ∷ []) (at own foreign (d.entries ++ e ∷ [])) _ _ y ends said (sound, refl, here t was.1)
     by false t =
         let ends : at own foreign (d.entries ++ e ∷ []) ≡ at own foreign d.entries =
-        at_append own foreign d.entries (e ∷ []) ∙ ap (λ (ss : List Standing). at own foreign d.entries ++ ss) (at_one own foreign e [] false (there ∙ t)) ∙ append-nil (at own foreign d.entries) in
+        at_append own foreign _ _ ∙ ap (λ (ss : List Standing). at own foreign d.entries ++ ss) (at_one own foreign e [] false (there ∙ t)) ∙ append-nil (at own foreign d.entries) in
         let said : marks place own foreign (d.queue ++ c ∷ []) ≡ marks place own foreign d.queue =
         words ∙ ap (λ (v : Bool). marks place own foreign d.queue ++ (if v then due place (standing e) else [])) t ∙ append-nil (marks place own foreign d.queue) in
-        stand_same true (at own foreign d.entries) (at own foreign (d.entries ++ e ∷ [])) (marks place own foreign d.queue) (marks place own foreign (d.queue ++ c ∷ [])) y ends said
+        stand_same true _ _ _ _ y ends said
         (subst (λ (z : End). Stand true origin place (at own foreign d.entries) (marks place own foreign d.queue) z) (sym (away t)) h)
 
   -- ---- ends that have to close queue their CLS
@@ -105,7 +105,7 @@ module _ (origin : ℕ → ℕ) (own foreign place : ℕ) where
 
   pub closed_ends : (busy : List ℕ) (es : List Entry) → filter (is_at own foreign) (map (close_one busy) es) ≡ map (close_one busy) (filter (is_at own foreign) es)
   closed_ends busy [] = refl
-  closed_ends busy (e ∷ es) = closed_step busy e es (closed_ends busy es) (is_at own foreign e) refl
+  closed_ends busy (e ∷ es) = closed_step busy e es (closed_ends busy es) _ refl
 
   closing_step : (busy : List ℕ) (e : Entry) (es : List Entry) → marks place own foreign (map cls_of (filter (must_close busy) es)) ≡ closes busy (filter (is_at own foreign) es)
       → (b c : Bool) → is_at own foreign e ≡ b → must_close busy e ≡ c
@@ -117,28 +117,28 @@ module _ (origin : ℕ → ℕ) (own foreign place : ℕ) where
 
   closing_marks : (busy : List ℕ) (es : List Entry) → marks place own foreign (map cls_of (filter (must_close busy) es)) ≡ closes busy (filter (is_at own foreign) es)
   closing_marks busy [] = refl
-  closing_marks busy (e ∷ es) = closing_step busy e es (closing_marks busy es) (is_at own foreign e) (must_close busy e) refl refl
+  closing_marks busy (e ∷ es) = closing_step busy e es (closing_marks busy es) _ _ refl refl
 
   one_settled : (done : Bool) (busy : List ℕ) (e : Entry) (words : List Mark) (x : End) → Stand done origin place (standing e ∷ []) words x → (b : Bool) → must_close busy e ≡ b
       → Stand done origin place (standing (closed_when b e) ∷ []) (words ++ ((if b then Close ∷ [] else []) ++ [])) x
   one_settled done busy e words x h true f =
       let parts : (is_due e.closing ≡ true) × (is_drained busy e ≡ true) = both (is_due e.closing) (is_drained busy e) f in
-      stand_queued done origin place e.mine e.asked e.partner e.closing e.partner_closed words x parts.0 h
+      stand_queued done origin place e.mine _ _ _ _ words x parts.0 h
   one_settled done busy e words x h false f =
-      stand_same done (standing e ∷ []) (standing (closed_when false e) ∷ []) words (words ++ []) x refl (append-nil words) h
+      stand_same done (standing e ∷ []) _ words _ x refl (append-nil words) h
 
   all_settled : (done : Bool) (busy : List ℕ) (es : List Entry) (words : List Mark) (x : End) → Stand done origin place (map standing es) words x → Stand done origin place (map standing (map (close_one busy) es)) (words ++ closes busy es) x
   all_settled done busy [] words x h = (append-nil words ∙ h.0, h.1)
-  all_settled done busy (e ∷ []) words x h = one_settled done busy e words x h (must_close busy e) refl
+  all_settled done busy (e ∷ []) words x h = one_settled done busy e words x h _ refl
   all_settled done busy (e ∷ f ∷ es) words x h = absurd h
 
   pub on_settled : (done : Bool) (busy : List ℕ) (d : DeskState) (x : End) → On done d x → On done (settled busy d) x
   on_settled done busy d x h =
-      stand_same done (map standing (map (close_one busy) (filter (is_at own foreign) d.entries))) (at own foreign (map (close_one busy) d.entries))
-      (marks place own foreign d.queue ++ closes busy (filter (is_at own foreign) d.entries)) (marks place own foreign (d.queue ++ map cls_of (filter (must_close busy) d.entries))) x
-      (ap (λ (es : List Entry). map standing es) (closed_ends busy d.entries))
-      (marks_append place own foreign d.queue (map cls_of (filter (must_close busy) d.entries)) ∙ ap (λ (l : List Mark). marks place own foreign d.queue ++ l) (closing_marks busy d.entries))
-      (all_settled done busy (filter (is_at own foreign) d.entries) (marks place own foreign d.queue) x h)
+      stand_same done _ _
+      _ _ x
+      (ap (λ (es : List Entry). map standing es) (closed_ends busy _))
+      (marks_append place own foreign d.queue (map cls_of (filter (must_close busy) d.entries)) ∙ ap (λ (l : List Mark). marks place own foreign d.queue ++ l) (closing_marks busy _))
+      (all_settled done busy _ _ x h)
 
   -- ---- ends that are over go
 
@@ -154,21 +154,21 @@ module _ (origin : ℕ → ℕ) (own foreign place : ℕ) where
 
   swept_ends : (es : List Entry) → filter (is_at own foreign) (filter stays es) ≡ filter stays (filter (is_at own foreign) es)
   swept_ends [] = refl
-  swept_ends (e ∷ es) = swept_step e es (swept_ends es) (is_at own foreign e) (stays e) refl refl
+  swept_ends (e ∷ es) = swept_step e es (swept_ends es) _ _ refl refl
 
   one_swept : (e : Entry) (words : List Mark) (x : End) → Stand false origin place (standing e ∷ []) words x → (b : Bool) → is_over e ≡ b → Stand true origin place (map standing (filter stays (e ∷ []))) words x
-  one_swept e words x h true f = rw f (stand_past origin place (standing e) words x h f)
-  one_swept e words x h false f = rw f (stand_live origin place (standing e) words x h f)
+  one_swept e words x h true f = rw f (stand_past origin place _ words x h f)
+  one_swept e words x h false f = rw f (stand_live origin place _ words x h f)
 
   all_swept : (es : List Entry) (words : List Mark) (x : End) → Stand false origin place (map standing es) words x → Stand true origin place (map standing (filter stays es)) words x
   all_swept [] words x h = h
-  all_swept (e ∷ []) words x h = one_swept e words x h (is_over e) refl
+  all_swept (e ∷ []) words x h = one_swept e words x h _ refl
   all_swept (e ∷ f ∷ es) words x h = absurd h
 
   pub ends_swept : (es : List Entry) (words : List Mark) (x : End) → Stand false origin place (at own foreign es) words x → Stand true origin place (at own foreign (filter stays es)) words x
   ends_swept es words x h =
-      stand_same true (map standing (filter stays (filter (is_at own foreign) es))) (at own foreign (filter stays es)) words words x (ap (λ (xs : List Entry). map standing xs) (swept_ends es)) refl
-      (all_swept (filter (is_at own foreign) es) words x h)
+      stand_same true _ _ words words x (ap (λ (xs : List Entry). map standing xs) (swept_ends es)) refl
+      (all_swept _ words x h)
 
   -- an end that isn't over is as well one that isn't swept
   pub loose : (ss : List Standing) (ws : List Mark) (x : End) → Stand true origin place ss ws x → Stand false origin place ss ws x

@@ -1,5 +1,5 @@
 -- What each call reports of an end: what is known of it stays so.
-use Rattle.host_keeps_pairing.proofs.Common.{◌≡◌, ℕ, Bool, true, false, not, ◌||◌, ◌==◌, if◌then◌else◌, List, [], ◌∷◌, ◌++◌, take, drop, Some, refl, ap, sym, subst, ◌∙◌, Host, same_host, Flow, Answer, HostMessage, same_host-refl, same_host-true, End, nothing, Mark, Life, TurnState, answered_turn, failed, failed_by, freed, if_ready, is_gone, order_taken, orders_taken, reply_notices, reset_notices, settled_turn, with_desk, accepted_answer, turn_of, Legal, Order, Wrong, orders_of, data_taken, is_busy, commands_of, PairState, DeskState, desk_of, NcpState, pair_with, AreInOrder, is_ready, Parcel, parcel_gone, next_in, Listener, Notice, Peer, Phase, Request, next_pair, AllFit, all_gone, mark_in, marks, marks_in, HasEnd, Stand, at, kept_in, AreFree, AreJoint, after_request, Knows, all_known, known_after}
+use Rattle.host_keeps_pairing.proofs.Common.{◌≡◌, ℕ, Bool, true, false, not, ◌||◌, ◌==◌, if◌then◌else◌, List, [], ◌∷◌, ◌++◌, take, drop, Some, refl, ap, sym, subst, ◌∙◌, Host, same_host, Flow, Answer, HostMessage, same_host-refl, same_host-true, End, nothing, Mark, Life, TurnState, answered_turn, failed, failed_by, if_ready, is_gone, order_taken, orders_taken, reply_notices, reset_notices, settled_turn, with_desk, accepted_answer, turn_of, Legal, Order, Wrong, orders_of, data_taken, is_busy, commands_of, PairState, DeskState, desk_of, NcpState, pair_with, AreInOrder, is_ready, Parcel, parcel_gone, next_in, Listener, Notice, Peer, Phase, Request, next_pair, AllFit, all_gone, mark_in, marks, marks_in, HasEnd, Stand, at, kept_in, AreFree, AreJoint, after_request, Knows, all_known, known_after}
 use Rattle.interface.specs.declared.crossing.Answer.TheVariants as answer
 use Rattle.interface.specs.declared.crossing.Inbound.TheVariants as inbound
 use Rattle.ncp_control.specs.declared.command.Command.TheVariants as command
@@ -34,7 +34,7 @@ module _ (origin : ℕ → ℕ) (own foreign : ℕ) where
 
   work_learns : (peer : Host) (stamp : ℕ) (o : Order) (t : TurnState) (x : End) → AllFit (mark_in (origin stamp) foreign own o) x → HasEnd origin own foreign t.pair x
       → Learns origin peer own foreign [] (work_of peer t.pair.busy stamp o (desk_of t.pair t.listening)).notices x (all_taken (mark_in (origin stamp) foreign own o) x)
-  work_learns peer stamp (Legal c) t x fit h = taken_learns origin peer own foreign 0 t.pair.busy stamp c (desk_of t.pair t.listening) x fit (h.ends 0)
+  work_learns peer stamp (Legal c) t x fit h = taken_learns origin peer own foreign 0 _ stamp c _ x fit (h.ends 0)
   work_learns peer stamp (Wrong code octets) t x fit h = λ k knows. knows
 
   orders_learn : (peer : Host) (stamp : ℕ) (os : List Order) (t : TurnState) (x : End) → AreJoint os → AreFree peer stamp os t → AllFit (marks_in (origin stamp) foreign own os) x → is_ready t.pair.phase ≡ true
@@ -42,7 +42,7 @@ module _ (origin : ℕ → ℕ) (own foreign : ℕ) where
   orders_learn peer stamp [] t x joint free fit ready h k knows = knows
   orders_learn peer stamp (o ∷ os) t x joint free fit ready h k knows =
       let parts : AllFit (mark_in (origin stamp) foreign own o) x × AllFit (marks_in (origin stamp) foreign own os) (all_taken (mark_in (origin stamp) foreign own o) x) =
-      fit_first origin own foreign (mark_in (origin stamp) foreign own o) (marks_in (origin stamp) foreign own os) x fit in
+      fit_first origin own foreign _ _ x fit in
       let d : DeskState = work_of peer t.pair.busy stamp o (desk_of t.pair t.listening) in
       let next : order_taken peer stamp o t ≡ with_desk t d = ready_when peer stamp o t joint.0 ready in
       let one : HasEnd origin own foreign (order_taken peer stamp o t).pair (all_taken (mark_in (origin stamp) foreign own o) x) =
@@ -72,23 +72,23 @@ module _ (origin : ℕ → ℕ) (own foreign : ℕ) where
       → Knows (all_known origin peer own foreign (failed_by peer ph t).notices k) (kept_in (failed_by peer ph t).pair x)
   failed_knows peer phase.Closed t x k e none idle h = subst (λ (ns : List Notice). Knows (all_known origin peer own foreign ns k) (kept_in t.pair x)) (sym none) (knows_kept t.pair x k idle h)
   failed_knows peer phase.Want t x k e none idle h = subst (λ (ns : List Notice). Knows (all_known origin peer own foreign ns k) (kept_in t.pair x)) (sym none) (knows_kept t.pair x k idle h)
-  failed_knows peer (phase.Gone early) t x k e none idle h = after_none peer t.notices (notice.ContactFailed peer ∷ []) k nothing none (knows_nothing t.pair x k idle (ap is_ready e) h)
-  failed_knows peer phase.Heard t x k e none idle h = after_none peer t.notices (notice.ContactFailed peer ∷ []) k nothing none (knows_nothing t.pair x k idle (ap is_ready e) h)
+  failed_knows peer (phase.Gone early) t x k e none idle h = after_none peer _ _ k nothing none (knows_nothing t.pair x k idle (ap is_ready e) h)
+  failed_knows peer phase.Heard t x k e none idle h = after_none peer _ _ k nothing none (knows_nothing t.pair x k idle (ap is_ready e) h)
   failed_knows peer phase.Ready t x k e none idle h =
-      after_none peer t.notices (notice.PairReset peer ∷ []) k nothing none (let same : same_host peer peer ≡ true = same_host-refl peer in rw same tt)
+      after_none peer _ _ k nothing none (let same : same_host peer peer ≡ true = same_host-refl peer in rw same tt)
 
   failing_knows : (peer : Host) (t : TurnState) (x : End) (k : List Life) → t.notices ≡ [] → (is_ready t.pair.phase ≡ false → x ≡ nothing) → Knows k x → Knows (all_known origin peer own foreign (failed peer t).notices k) (kept_in (failed peer t).pair x)
   failing_knows peer t x k none idle h = by (is_gone t.pair.phase || not t.pair.owed) where
     by : (b : Bool) → Knows (all_known origin peer own foreign (if b then failed_by peer t.pair.phase t else settled_turn t).notices k) (kept_in (if b then failed_by peer t.pair.phase t else settled_turn t).pair x)
     by true = failed_knows peer t.pair.phase t x k refl none idle h
-    by false = after_none peer t.notices [] k (kept_in (settled_turn t).pair x) none (knows_kept (settled_turn t).pair x k idle h)
+    by false = after_none peer _ [] k _ none (knows_kept (settled_turn t).pair x k idle h)
 
   answered_knows : (peer : Host) (kind : Answer) (link : ℕ) (t : TurnState) (x : End) (k : List Life) → t.notices ≡ [] → HasEnd origin own foreign t.pair x → Knows k x
       → Knows (all_known origin peer own foreign (answered_turn peer kind link t).notices k) (kept_in (answered_turn peer kind link t).pair x)
   answered_knows peer answer.Rfnm link t x k none h knows =
-      after_none peer t.notices [] k (kept_in (answered_turn peer answer.Rfnm link t).pair x) none
-      (knows_kept (answered_turn peer answer.Rfnm link t).pair x k (λ e. h.idle (rfnm_idle (link == 0) t.pair.phase e)) knows)
-  answered_knows peer kind link t x k none h knows = failing_knows peer (record t { pair = freed link t.pair }) x k none h.idle knows
+      after_none peer _ [] k _ none
+      (knows_kept (answered_turn peer answer.Rfnm link t).pair x k (λ e. h.idle (rfnm_idle _ _ e)) knows)
+  answered_knows peer kind link t x k none h knows = failing_knows peer _ x k none h.idle knows
 
   -- ---- a host
 
@@ -98,7 +98,7 @@ module _ (origin : ℕ → ℕ) (own foreign : ℕ) where
       → Knows k x → Knows (all_known origin m.flow.source own foreign (accepted s (inbound.Message m) stamp).1 k) (all_taken (marks_in (origin stamp) foreign own (orders_of m.text)) x)
   message_knows s m stamp x k mine zero ready joint free fit h knows =
       subst (λ (ns : List Notice). Knows (all_known origin m.flow.source own foreign ns k) (all_taken (marks_in (origin stamp) foreign own (orders_of m.text)) x)) (sym (control_notices origin own foreign s m stamp mine zero))
-      (orders_learn m.flow.source stamp (orders_of m.text) (turn_of s m.flow.source) x joint free fit ready h k knows)
+      (orders_learn m.flow.source stamp _ _ x joint free fit ready h k knows)
 
   one_notices : (s : NcpState) (m : HostMessage) (stamp : ℕ) (o : Order) → same_host s.own m.flow.destination ≡ true → (m.flow.link.0 == 0) ≡ true → orders_of m.text ≡ o ∷ []
       → (accepted s (inbound.Message m) stamp).1 ≡ (orders_taken m.flow.source stamp (o ∷ []) (turn_of s m.flow.source)).notices
@@ -107,19 +107,19 @@ module _ (origin : ℕ → ℕ) (own foreign : ℕ) where
   pub rst_knows : (s : NcpState) (m : HostMessage) (stamp : ℕ) (x : End) (k : List Life) → same_host s.own m.flow.destination ≡ true → (m.flow.link.0 == 0) ≡ true → orders_of m.text ≡ Legal command.Rst ∷ []
       → HasEnd origin own foreign (pair_with m.flow.source s.peers) x → Knows k x → Knows (all_known origin m.flow.source own foreign (accepted s (inbound.Message m) stamp).1 k) nothing
   rst_knows s m stamp x k mine zero is h knows =
-      subst (λ (ns : List Notice). Knows (all_known origin m.flow.source own foreign ns k) nothing) (sym (one_notices s m stamp (Legal command.Rst) mine zero is))
-      (reset_knows m.flow.source (pair_with m.flow.source s.peers) (pair_with m.flow.source s.peers).phase x k refl h.idle knows)
+      subst (λ (ns : List Notice). Knows (all_known origin m.flow.source own foreign ns k) nothing) (sym (one_notices s m stamp _ mine zero is))
+      (reset_knows _ (pair_with m.flow.source s.peers) _ x k refl h.idle knows)
 
   pub rrp_leaves : (s : NcpState) (m : HostMessage) (stamp : ℕ) (k : List Life) → same_host s.own m.flow.destination ≡ true → (m.flow.link.0 == 0) ≡ true → orders_of m.text ≡ Legal command.Rrp ∷ []
       → all_known origin m.flow.source own foreign (accepted s (inbound.Message m) stamp).1 k ≡ k
   rrp_leaves s m stamp k mine zero is =
-      ap (λ (ns : List Notice). all_known origin m.flow.source own foreign ns k) (one_notices s m stamp (Legal command.Rrp) mine zero is) ∙ reply_same m.flow.source (pair_with m.flow.source s.peers).phase k
+      ap (λ (ns : List Notice). all_known origin m.flow.source own foreign ns k) (one_notices s m stamp _ mine zero is) ∙ reply_same _ _ k
 
   pub idle_leaves : (s : NcpState) (m : HostMessage) (stamp : ℕ) (k : List Life) → same_host s.own m.flow.destination ≡ true → (m.flow.link.0 == 0) ≡ true → is_ready (pair_with m.flow.source s.peers).phase ≡ false → AreJoint (orders_of m.text)
       → all_known origin m.flow.source own foreign (accepted s (inbound.Message m) stamp).1 k ≡ k
   idle_leaves s m stamp k mine zero idle joint =
       ap (λ (ns : List Notice). all_known origin m.flow.source own foreign ns k)
-      (control_notices origin own foreign s m stamp mine zero ∙ ap (λ (t : TurnState). t.notices) (orders_idle m.flow.source stamp (orders_of m.text) (turn_of s m.flow.source) joint idle))
+      (control_notices origin own foreign s m stamp mine zero ∙ ap (λ (t : TurnState). t.notices) (orders_idle _ stamp _ _ joint idle))
 
   -- data
   data_same : (peer : Host) (link : ℕ) (text : List Bool) (t : TurnState) (k : List Life) → t.notices ≡ [] → all_known origin peer own foreign (if_ready (data_taken link text) t).notices k ≡ k
@@ -138,15 +138,15 @@ module _ (origin : ℕ → ℕ) (own foreign : ℕ) where
   answer_step : (s : NcpState) (kind : Answer) (f : Flow) (x : End) (k : List Life) → HasEnd origin own foreign (pair_with f.destination s.peers) x → Knows k x → (b c : Bool) → same_host s.own f.source ≡ b → is_busy (pair_with f.destination s.peers).busy f.link.0 ≡ c
       → Knows (all_known origin f.destination own foreign (accepted_answer s kind f).1 k) (kept_in (pair_with f.destination (accepted_answer s kind f).0.peers) x)
   answer_step s kind f x k h knows true true e g =
-      rw (e, g) (subst (λ (q : PairState). Knows (all_known origin f.destination own foreign (answered_turn f.destination kind f.link.0 (turn_of s f.destination)).notices k) (kept_in q x)) (sym (put f.destination (answered_turn f.destination kind f.link.0 (turn_of s f.destination)).pair s.peers))
-      (answered_knows f.destination kind f.link.0 (turn_of s f.destination) x k refl h knows))
+      rw (e, g) (subst (λ (q : PairState). Knows (all_known origin f.destination own foreign (answered_turn f.destination kind f.link.0 (turn_of s f.destination)).notices k) (kept_in q x)) (sym (put f.destination _ s.peers))
+      (answered_knows _ kind _ _ x k refl h knows))
   answer_step s kind f x k h knows true false e g = rw (e, g) (knows_kept (pair_with f.destination s.peers) x k h.idle knows)
   answer_step s kind f x k h knows false c e g = rw e (knows_kept (pair_with f.destination s.peers) x k h.idle knows)
 
   pub answer_knows : (s : NcpState) (kind : Answer) (f : Flow) (stamp : ℕ) (x : End) (k : List Life) → HasEnd origin own foreign (pair_with f.destination s.peers) x → Knows k x
       → Knows (all_known origin f.destination own foreign (accepted s (inbound.Answer kind f) stamp).1 k) (kept_in (pair_with f.destination (accepted s (inbound.Answer kind f) stamp).0.peers) x)
   unfolding accepted
-  answer_knows s kind f stamp x k h knows = answer_step s kind f x k h knows (same_host s.own f.source) (is_busy (pair_with f.destination s.peers).busy f.link.0) refl refl
+  answer_knows s kind f stamp x k h knows = answer_step s kind f x k h knows _ (is_busy (pair_with f.destination s.peers).busy f.link.0) refl refl
 
   -- what a user asks for
   contact_knows : (s : NcpState) (contacted peer : Host) (x : End) (k : List Life) → HasEnd origin own foreign (pair_with peer s.peers) x → Knows k x → (b c : Bool) → same_host peer contacted ≡ b → is_ready (pair_with contacted s.peers).phase ≡ c
@@ -160,7 +160,7 @@ module _ (origin : ℕ → ℕ) (own foreign : ℕ) where
   pub request_knows : (s : NcpState) (r : Request) (peer : Host) (x : End) (k : List Life) → HasEnd origin own foreign (pair_with peer s.peers) x → Knows k x
       → Knows (all_known origin peer own foreign (served_notices s r) k) (after_request peer r x)
   unfolding served_notices
-  request_knows s (request.Contact contacted) peer x k h knows = contact_knows s contacted peer x k h knows (same_host peer contacted) (is_ready (pair_with contacted s.peers).phase) refl refl
+  request_knows s (request.Contact contacted) peer x k h knows = contact_knows s contacted peer x k h knows _ _ refl refl
   request_knows s r peer x k h knows = knows
 
   -- what goes out
@@ -175,7 +175,7 @@ module _ (origin : ℕ → ℕ) (own foreign : ℕ) where
       → Knows k x → Knows (all_known origin g.host own foreign (offered s stamp).1 k) (all_gone (marks stamp own foreign (commands_of g.pair p)) x)
   unfolding offered
   offer_knows s stamp g p x k order is h knows =
-      rw is (parcel_knows stamp g.host s.listening g.pair p x (subst (λ (q : PairState). HasEnd origin own foreign q x) (next_pair s.peers g p order is) h) k knows)
+      rw is (parcel_knows stamp g.host _ g.pair p x (subst (λ (q : PairState). HasEnd origin own foreign q x) (next_pair _ g p order is) h) k knows)
 
   -- ---- what is reported of another peer
 

@@ -41,8 +41,8 @@ spoken_append own foreign (x ∷ xs) ys word = spoken_append own foreign xs ys (
 -- a prefix of texts says a prefix of what they say
 front_spoken : (own foreign : ℕ) (xs ys : List (List Bool)) → stays.IsPrefix xs ys → IsOlder (spoken_upon own foreign xs []) (spoken_upon own foreign ys [])
 front_spoken own foreign xs ys front =
-    let above : Above (spoken_upon own foreign front.0 (spoken_upon own foreign xs [])) (spoken_upon own foreign xs []) = spoken_above own foreign front.0 (spoken_upon own foreign xs []) in
-    (above.new, ap (λ (texts : List (List Bool)). spoken_upon own foreign texts []) (sym front.1) ∙ spoken_append own foreign xs front.0 [] ∙ above.is)
+    let above : Above (spoken_upon own foreign front.0 (spoken_upon own foreign xs [])) (spoken_upon own foreign xs []) = spoken_above own foreign front.0 _ in
+    (above.new, ap (λ (texts : List (List Bool)). spoken_upon own foreign texts []) (sym front.1) ∙ spoken_append own foreign xs _ [] ∙ above.is)
 
 pub heard_older : (hosts : Network) (events : List Event) → IsRun hosts events → (a b : Host) → AreOurs hosts a b → IsHeardAsSaid a b events
 heard_older hosts events run a b ours own foreign = front_spoken own foreign _ _ (placed_front hosts events run a b ours 0)

@@ -1,5 +1,5 @@
 -- What is known of an end stays so while commands are taken and go out.
-use Rattle.host_keeps_pairing.proofs.Common.{◌≡◌, ℕ, Bool, true, false, not, ◌&&◌, ◌==◌, if◌then◌else◌, nat_le, List, [], ◌∷◌, ◌++◌, map, filter, Option, Some, None, is_some, refl, ap, sym, subst, ◌∙◌, append_assoc, flat_map, list_any, Host, same_host, same_host-refl, header_of, Command, DataHeader, End, nothing, gone, mark_taken, fits, Mark, Ask, Close, Life, at_end, closed_once, cls_taken_by, Unconnected, Ending, Open, gvb_taken, interrupted, matched_once, ret_taken, rts_heard, rts_taken, rts_taken_by, sender_on, receiver_on, str_heard, str_linked, str_taken_by, asked_on_link, asked_with_size, ERRONEOUS, arrived_if, data_found, data_taken, is_acceptable, changed_at, closed_by_partner, closed_when, ending, entry_at, free_link, is_at, is_ending, is_over, must_close, opening_notices, opening_by, sends_on, DeskState, listener_on, settled, swept, cls_sent, command_gone, commands_gone, request_gone, Entry, Listener, Notice, AllFit, all_gone, mark_of, marks, IsSound, Standing, standing, at, came_from, is_past, Stand, Knows, all_known, known_after}
+use Rattle.host_keeps_pairing.proofs.Common.{◌≡◌, ℕ, Bool, true, false, not, ◌&&◌, ◌==◌, if◌then◌else◌, nat_le, List, [], ◌∷◌, ◌++◌, map, filter, Option, Some, None, is_some, refl, ap, sym, subst, ◌∙◌, append_assoc, flat_map, list_any, Host, same_host, same_host-refl, Command, DataHeader, End, nothing, gone, mark_taken, fits, Mark, Ask, Close, Life, at_end, closed_once, cls_taken_by, Unconnected, Ending, Open, gvb_taken, interrupted, matched_once, ret_taken, rts_heard, rts_taken, rts_taken_by, sender_on, receiver_on, str_heard, str_linked, str_taken_by, asked_on_link, asked_with_size, ERRONEOUS, arrived_if, data_found, data_taken, is_acceptable, changed_at, closed_by_partner, closed_when, ending, entry_at, is_at, is_ending, is_over, must_close, opening_notices, opening_by, sends_on, DeskState, settled, swept, cls_sent, command_gone, commands_gone, request_gone, Entry, Listener, Notice, AllFit, all_gone, mark_of, marks, IsSound, Standing, standing, at, came_from, is_past, Stand, Knows, all_known, known_after}
 use Rattle.ncp_control.specs.DataHeader.{data_bits}
 use Rattle.ncp_control.specs.declared.command.Command.TheVariants as command
 use Rattle.host_pairs.specs.Commands as commands
@@ -95,11 +95,11 @@ module _ (origin : ℕ → ℕ) (peer : Host) (own foreign : ℕ) where
   opens_here place a b es ws x t h (Some e) f k knows =
       let g : Found own foreign es e = found_here a b own foreign es e t f in
       let is : x ≡ plain origin (standing e) = one_end origin own foreign place e g.rest ws x (subst (λ (ss : List Standing). Stand true origin place ss ws x) g.first h) in
-      here e e.asked e.partner k x (sockets_are origin own foreign a b e (found_is a b es e f) ∙ t) (ap (λ (y : End). y.asked) is) (ap (λ (y : End). y.partner) is) knows
+      here e _ _ k x (sockets_are origin own foreign a b e (found_is a b es e f) ∙ t) (ap (λ (y : End). y.asked) is) (ap (λ (y : End). y.partner) is) knows
 
   opens_away : (a b : ℕ) (es : List Entry) → are a b own foreign ≡ false → (o : Option Entry) → entry_at a b es ≡ o → (k : List Life) → tells (opening_notices peer o) k ≡ k
   opens_away a b es t None f k = refl
-  opens_away a b es t (Some e) f k = away e e.asked e.partner k (sockets_are origin own foreign a b e (found_is a b es e f) ∙ t)
+  opens_away a b es t (Some e) f k = away e _ e.partner k (sockets_are origin own foreign a b e (found_is a b es e f) ∙ t)
 
   -- ---- ends that are over
 
@@ -119,7 +119,7 @@ module _ (origin : ℕ → ℕ) (peer : Host) (own foreign : ℕ) where
 
   ended : (es : List Entry) (k : List Life) → tells (flat_map (ending peer) (filter is_over es)) k ≡ swept_known (at own foreign es) k
   ended [] k = refl
-  ended (e ∷ es) k = ended_step e es (ended es) k (is_over e) (is_at own foreign e) e.mine refl refl refl
+  ended (e ∷ es) k = ended_step e es (ended es) k _ _ e.mine refl refl refl
 
   -- what was known of the ends before they are swept
   abbrev Knew : List Life → List Standing → Type 0
@@ -140,7 +140,7 @@ module _ (origin : ℕ → ℕ) (peer : Host) (own foreign : ℕ) where
   swept_knows place (s ∷ t ∷ ss) ws x k h knew = absurd h
 
   ended_knows : (place : ℕ) (es : List Entry) (ws : List Mark) (x : End) (k : List Life) → Stand false origin place (at own foreign es) ws x → Knew k (at own foreign es) → Knows (tells (flat_map (ending peer) (filter is_over es)) k) x
-  ended_knows place es ws x k h knew = subst (λ (j : List Life). Knows j x) (sym (ended es k)) (swept_knows place (at own foreign es) ws x k h knew)
+  ended_knows place es ws x k h knew = subst (λ (j : List Life). Knows j x) (sym (ended es k)) (swept_knows place _ ws x k h knew)
 
   knew_of : (place : ℕ) (ss : List Standing) (ws : List Mark) (x : End) (k : List Life) → Stand true origin place ss ws x → Knows k x → Knew k ss
   knew_of place [] ws x k h knows = unasked k x knows (ap (λ (y : End). y.asked) h.1)
@@ -154,18 +154,18 @@ module _ (origin : ℕ → ℕ) (peer : Host) (own foreign : ℕ) where
   knew_first : (to : Standing → Standing) (k : List Life) (ss : List Standing) → LeavesRequests to → (t : Bool) → Knew k ss → Knew k (if t then first to ss else ss)
   knew_first to k ss same false h = h
   knew_first to k [] same true h = h
-  knew_first to k (s ∷ ss) same true h = knows_requests k (plain origin s) (plain origin (to s)) (same s).0 (ap (came_from origin) (same s).1) h
+  knew_first to k (s ∷ ss) same true h = knows_requests k _ _ (same s).0 (ap (came_from origin) (same s).1) h
 
   knew_changed : (a b : ℕ) (to : Standing → Standing) (change : Entry → Entry) (es : List Entry) (k : List Life) → Is to change → LeavesRequests to → Knew k (at own foreign es) → Knew k (at own foreign (changed_at a b change es))
-  knew_changed a b to change es k is same h = subst (λ (ss : List Standing). Knew k ss) (sym (at_changed a b own foreign to change es is)) (knew_first to k (at own foreign es) same (are a b own foreign) h)
+  knew_changed a b to change es k is same h = subst (λ (ss : List Standing). Knew k ss) (sym (at_changed a b own foreign to change es is)) (knew_first to k _ same _ h)
 
   knew_closed : (busy : List ℕ) (k : List Life) (es : List Entry) → Knew k (map standing es) → Knew k (map standing (map (λ e. closed_when (must_close busy e) e) es))
   knew_closed busy k [] h = h
-  knew_closed busy k (e ∷ es) h = knows_requests k (plain origin (standing e)) (plain origin (standing (closed_when (must_close busy e) e))) refl refl h
+  knew_closed busy k (e ∷ es) h = knows_requests k _ _ refl refl h
 
   knew_settled : (busy : List ℕ) (d : DeskState) (k : List Life) → Knew k (at own foreign d.entries) → Knew k (at own foreign (settled busy d).entries)
   knew_settled busy d k h =
-      subst (λ (es : List Entry). Knew k (map standing es)) (sym (closed_ends origin own foreign 0 busy d.entries)) (knew_closed busy k (filter (is_at own foreign) d.entries) h)
+      subst (λ (es : List Entry). Knew k (map standing es)) (sym (closed_ends origin own foreign 0 busy _)) (knew_closed busy k _ h)
 
   -- ---- what is heard
 
@@ -173,7 +173,7 @@ module _ (origin : ℕ → ℕ) (peer : Host) (own foreign : ℕ) where
   learns_ask : (place : ℕ) (old : List Notice) (a b stamp : ℕ) (x : End) → Fits origin own foreign place a b (Ask (origin stamp)) x → Learns old old x (after origin own foreign place a b (Ask (origin stamp)) x)
   learns_ask place old a b stamp x fit k h = by (are a b own foreign) refl where
     by : (t : Bool) → are a b own foreign ≡ t → Knows (tells old k) (if t then mark_taken (Ask (origin stamp)) x else x)
-    by true t = known_none (tells old k) (mark_taken (Ask (origin stamp)) x) (unpartnered (tells old k) x h (no_partner origin stamp x (fit t)))
+    by true t = known_none (tells old k) (mark_taken (Ask (origin stamp)) x) (unpartnered _ x h (no_partner origin stamp x (fit t)))
     by false t = h
 
   matched_learns : (place a b stamp : ℕ) (c : Command) (e : Entry) (change : Entry → Entry) (d : DeskState) (x : End)
@@ -186,16 +186,16 @@ module _ (origin : ℕ → ℕ) (peer : Host) (own foreign : ℕ) where
     told : (t : Bool) → are a b own foreign ≡ t → On origin own foreign place true new (if t then mark_taken (Ask (origin stamp)) x else x) → (k : List Life) → Knows k x
         → Knows (tells (opening_notices peer (entry_at a b new.entries)) k) (if t then mark_taken (Ask (origin stamp)) x else x)
     told true t there k knows =
-        opens_here place a b new.entries (marks place own foreign new.queue) (mark_taken (Ask (origin stamp)) x) t there (entry_at a b new.entries) refl k
-        (known_none k (mark_taken (Ask (origin stamp)) x) (unpartnered k x knows (no_partner origin stamp x (fit t))))
-    told false t there k knows = subst (λ (j : List Life). Knows j x) (sym (opens_away a b new.entries t (entry_at a b new.entries) refl k)) knows
+        opens_here place a b new.entries _ _ t there _ refl k
+        (known_none k _ (unpartnered k x knows (no_partner origin stamp x (fit t))))
+    told false t there k knows = subst (λ (j : List Life). Knows j x) (sym (opens_away a b _ t (entry_at a b new.entries) refl k)) knows
 
     by : (v : Bool) → is_some e.partner ≡ v → Learns d.notices (if v then commands.faulted ERRONEOUS c d else new).notices x (after origin own foreign place a b (Ask (origin stamp)) x)
     by true g = learns_ask place d.notices a b stamp x fit
     by false g =
         let there : On origin own foreign place true new (after origin own foreign place a b (Ask (origin stamp)) x) =
         subst (λ (v : Bool). On origin own foreign place true (if v then commands.faulted ERRONEOUS c d else new) (after origin own foreign place a b (Ask (origin stamp)) x)) g (on_matched origin own foreign place peer a b stamp c e change d x is f fit h) in
-        learns_on d.notices (opening_notices peer (entry_at a b new.entries)) x (after origin own foreign place a b (Ask (origin stamp)) x) (told (are a b own foreign) refl there)
+        learns_on d.notices _ x _ (told _ refl there)
 
   rts_heard_learns : (place a b link stamp : ℕ) (l : Option Listener) (d : DeskState) (x : End) → Fits origin own foreign place a b (Ask (origin stamp)) x
       → Learns d.notices (rts_heard a b link stamp l d).notices x (after origin own foreign place a b (Ask (origin stamp)) x)
@@ -204,14 +204,14 @@ module _ (origin : ℕ → ℕ) (peer : Host) (own foreign : ℕ) where
 
   rts_by_learns : (place a b link stamp : ℕ) (o : Option Entry) (d : DeskState) (x : End) → entry_at a b d.entries ≡ o → Fits origin own foreign place a b (Ask (origin stamp)) x → On origin own foreign place true d x
       → Learns d.notices (rts_taken_by peer a b link stamp o d).notices x (after origin own foreign place a b (Ask (origin stamp)) x)
-  rts_by_learns place a b link stamp None d x f fit h = rts_heard_learns place a b link stamp (listener_on a d.listening) d x fit
+  rts_by_learns place a b link stamp None d x f fit h = rts_heard_learns place a b link stamp _ d x fit
   rts_by_learns place a b link stamp (Some e) d x f fit h = matched_learns place a b stamp (command.Rts b a link) e (asked_on_link stamp link) d x (λ y. (refl, refl, refl)) f fit h
 
   rts_learns : (place a b link stamp : ℕ) (d : DeskState) (x : End) → Fits origin own foreign place a b (Ask (origin stamp)) x → On origin own foreign place true d x
       → Learns d.notices (rts_taken peer a b link stamp d).notices x (after origin own foreign place a b (Ask (origin stamp)) x)
   rts_learns place a b link stamp d x fit h =
       learns_if (list_any (sends_on link) d.entries) d.notices (commands.faulted ERRONEOUS (command.Rts b a link) d) (rts_taken_by peer a b link stamp (entry_at a b d.entries) d) x (after origin own foreign place a b (Ask (origin stamp)) x)
-      (learns_ask place d.notices a b stamp x fit) (rts_by_learns place a b link stamp (entry_at a b d.entries) d x refl fit h)
+      (learns_ask place d.notices a b stamp x fit) (rts_by_learns place a b link stamp _ d x refl fit h)
 
   str_linked_learns : (place a b size stamp : ℕ) (l : Option ℕ) (d : DeskState) (x : End) → Fits origin own foreign place a b (Ask (origin stamp)) x
       → Learns d.notices (str_linked a b size stamp l d).notices x (after origin own foreign place a b (Ask (origin stamp)) x)
@@ -221,11 +221,11 @@ module _ (origin : ℕ → ℕ) (peer : Host) (own foreign : ℕ) where
   str_heard_learns : (place a b size stamp : ℕ) (l : Option Listener) (d : DeskState) (x : End) → Fits origin own foreign place a b (Ask (origin stamp)) x
       → Learns d.notices (str_heard a b size stamp l d).notices x (after origin own foreign place a b (Ask (origin stamp)) x)
   str_heard_learns place a b size stamp None d x fit = learns_ask place d.notices a b stamp x fit
-  str_heard_learns place a b size stamp (Some l) d x fit = str_linked_learns place a b size stamp (free_link d.entries) d x fit
+  str_heard_learns place a b size stamp (Some l) d x fit = str_linked_learns place a b size stamp _ d x fit
 
   str_learns : (place a b size stamp : ℕ) (o : Option Entry) (d : DeskState) (x : End) → entry_at a b d.entries ≡ o → Fits origin own foreign place a b (Ask (origin stamp)) x → On origin own foreign place true d x
       → Learns d.notices (str_taken_by peer a b size stamp o d).notices x (after origin own foreign place a b (Ask (origin stamp)) x)
-  str_learns place a b size stamp None d x f fit h = str_heard_learns place a b size stamp (listener_on a d.listening) d x fit
+  str_learns place a b size stamp None d x f fit h = str_heard_learns place a b size stamp _ d x fit
   str_learns place a b size stamp (Some e) d x f fit h = matched_learns place a b stamp (command.Str b a size) e (asked_with_size stamp size) d x (λ y. (refl, refl, refl)) f fit h
 
   -- a CLS: an end that is over by it is reported
@@ -236,14 +236,14 @@ module _ (origin : ℕ → ℕ) (peer : Host) (own foreign : ℕ) where
       learns_on d.notices (flat_map (ending peer) (filter is_over next.entries)) x (after origin own foreign place a b Close x)
       (λ k knows. ended_knows place next.entries (marks place own foreign next.queue) (after origin own foreign place a b Close x) k (on_shut origin own foreign place busy a b e d x f fit h).1
       (knew_settled busy (commands.changed (is_at a b) closed_by_partner d) k
-      (knew_changed a b closed_by closed_by_partner d.entries k (λ y. (refl, refl, refl)) (λ s. (refl, refl)) (knew_of place (at own foreign d.entries) (marks place own foreign d.queue) x k h knows))))
+      (knew_changed a b closed_by closed_by_partner _ k (λ y. (refl, refl, refl)) (λ s. (refl, refl)) (knew_of place _ _ x k h knows))))
 
   cls_learns : (place : ℕ) (busy : List ℕ) (a b : ℕ) (o : Option Entry) (d : DeskState) (x : End) → entry_at a b d.entries ≡ o → Fits origin own foreign place a b Close x → On origin own foreign place true d x
       → Learns d.notices (cls_taken_by peer busy a b o d).notices x (after origin own foreign place a b Close x)
   cls_learns place busy a b None d x f fit h = by (are a b own foreign) refl where
     by : (t : Bool) → are a b own foreign ≡ t → Learns d.notices d.notices x (if t then mark_taken Close x else x)
     by true t =
-        let was : (marks place own foreign d.queue ≡ []) × (x ≡ nothing) = subst (λ (ss : List Standing). Stand true origin place ss (marks place own foreign d.queue) x) (none_here a b own foreign d.entries t f) h in
+        let was : (marks place own foreign d.queue ≡ []) × (x ≡ nothing) = subst (λ (ss : List Standing). Stand true origin place ss (marks place own foreign d.queue) x) (none_here a b own foreign _ t f) h in
         absurd (let r : fits Close nothing ≡ true = subst (λ (y : End). fits Close y ≡ true) was.1 (fit t) in cc)
     by false t = learns_none d.notices x
   cls_learns place busy a b (Some e) d x f fit h = by e.partner_closed refl where
@@ -277,31 +277,31 @@ module _ (origin : ℕ → ℕ) (peer : Host) (own foreign : ℕ) where
   found_leaves : (link : ℕ) (text : List Bool) (f : commands.Found) (d : DeskState) (k : List Life) → tells (data_found link text f d).notices k ≡ tells d.notices k
   found_leaves link text Unconnected d k = refl
   found_leaves link text Ending d k = refl
-  found_leaves link text (Open e) d k = arrived_leaves link e text (header_of text) d k
+  found_leaves link text (Open e) d k = arrived_leaves link e text _ d k
 
   pub data_leaves : (link : ℕ) (text : List Bool) (d : DeskState) (k : List Life) → tells (data_taken link text d).notices k ≡ tells d.notices k
-  data_leaves link text d k = found_leaves link text (receiver_on link d) d k
+  data_leaves link text d k = found_leaves link text _ d k
 
   -- ---- all commands
 
   -- a mark of these sockets, or of others
   to_all : (s : Bool) (place a b : ℕ) (m : Mark) (x : End) (old new : List Notice) → s ≡ are a b own foreign → Learns old new x (after origin own foreign place a b m x) → Learns old new x (words.all_taken (when s m) x)
-  to_all s place a b m x old new e h = subst (λ (y : End). Learns old new x y) (one_mark origin own foreign place s (are a b own foreign) m x e) h
+  to_all s place a b m x old new e h = subst (λ (y : End). Learns old new x y) (one_mark origin own foreign place s _ m x e) h
 
   pub taken_learns : (place : ℕ) (busy : List ℕ) (stamp : ℕ) (c : Command) (d : DeskState) (x : End) → AllFit (mark_of (origin stamp) foreign own c) x → On origin own foreign place true d x
       → Learns d.notices (commands.desk_taken peer busy stamp c d).notices x (words.all_taken (mark_of (origin stamp) foreign own c) x)
   taken_learns place busy stamp (command.Rts receive send link) d x fit h =
       let e : (receive == foreign && send == own) ≡ are send receive own foreign = and_turned (receive == foreign) (send == own) in
-      to_all (receive == foreign && send == own) place send receive (Ask (origin stamp)) x d.notices (commands.desk_taken peer busy stamp (command.Rts receive send link) d).notices e
-      (rts_learns place send receive link stamp d x (one_fits origin own foreign place (receive == foreign && send == own) (are send receive own foreign) (Ask (origin stamp)) x e fit) h)
+      to_all _ place send receive (Ask (origin stamp)) x d.notices (commands.desk_taken peer busy stamp (command.Rts receive send link) d).notices e
+      (rts_learns place send receive link stamp d x (one_fits origin own foreign place _ _ _ x e fit) h)
   taken_learns place busy stamp (command.Str send receive size) d x fit h =
       let e : (send == foreign && receive == own) ≡ are receive send own foreign = and_turned (send == foreign) (receive == own) in
-      to_all (send == foreign && receive == own) place receive send (Ask (origin stamp)) x d.notices (commands.desk_taken peer busy stamp (command.Str send receive size) d).notices e
-      (str_learns place receive send size stamp (entry_at receive send d.entries) d x refl (one_fits origin own foreign place (send == foreign && receive == own) (are receive send own foreign) (Ask (origin stamp)) x e fit) h)
+      to_all _ place receive send (Ask (origin stamp)) x d.notices (commands.desk_taken peer busy stamp (command.Str send receive size) d).notices e
+      (str_learns place receive send size stamp _ d x refl (one_fits origin own foreign place _ _ _ x e fit) h)
   taken_learns place busy stamp (command.Cls mine yours) d x fit h =
       let e : (mine == foreign && yours == own) ≡ are yours mine own foreign = and_turned (mine == foreign) (yours == own) in
-      to_all (mine == foreign && yours == own) place yours mine Close x d.notices (commands.desk_taken peer busy stamp (command.Cls mine yours) d).notices e
-      (cls_learns place busy yours mine (entry_at yours mine d.entries) d x refl (one_fits origin own foreign place (mine == foreign && yours == own) (are yours mine own foreign) Close x e fit) h)
+      to_all _ place yours mine Close x d.notices (commands.desk_taken peer busy stamp (command.Cls mine yours) d).notices e
+      (cls_learns place busy yours mine _ d x refl (one_fits origin own foreign place _ _ Close x e fit) h)
   taken_learns place busy stamp (command.All link messages bits) d x fit h = found_learns (command.All link messages bits) (all_taken link messages bits) (sender_on link d) d x (λ e. learns_none d.notices x)
   taken_learns place busy stamp (command.Gvb link messages bits) d x fit h = found_learns (command.Gvb link messages bits) (gvb_taken link messages bits) (sender_on link d) d x (λ e. learns_none d.notices x)
   taken_learns place busy stamp (command.Ret link messages bits) d x fit h = found_learns (command.Ret link messages bits) (ret_taken link messages bits) (receiver_on link d) d x (λ e. ret_learns link messages bits e d x)
@@ -325,22 +325,22 @@ module _ (origin : ℕ → ℕ) (peer : Host) (own foreign : ℕ) where
       let there : Stand true origin place (at own foreign (request_gone peer stamp a b d).entries) ws (gone (Ask stamp) x) = request_by origin own foreign place peer stamp a b d ws x true t h in
       learns_on d.notices (opening_notices peer (entry_at a b (request_gone peer stamp a b d).entries)) x (gone (Ask stamp) x)
       (λ k knows. opens_here place a b (request_gone peer stamp a b d).entries ws (gone (Ask stamp) x) t there (entry_at a b (request_gone peer stamp a b d).entries) refl k
-      (known_none k (gone (Ask stamp) x) (unasked k x knows (not_asked place (at own foreign d.entries) ws x h))))
+      (known_none k _ (unasked k x knows (not_asked place _ ws x h))))
   request_learns place stamp a b d ws x false t h =
-      learns_more d.notices (opening_notices peer (entry_at a b (request_gone peer stamp a b d).entries)) x (opens_away a b (request_gone peer stamp a b d).entries t (entry_at a b (request_gone peer stamp a b d).entries) refl)
+      learns_more d.notices (opening_notices peer (entry_at a b (request_gone peer stamp a b d).entries)) x (opens_away a b _ t (entry_at a b (request_gone peer stamp a b d).entries) refl)
 
   closes_learns : (place stamp a b : ℕ) (d : DeskState) (ws : List Mark) (x : End) (t : Bool) → are a b own foreign ≡ t → Stand true origin place (at own foreign d.entries) ((if t then Close ∷ [] else []) ++ ws) x
       → Learns d.notices (command_gone peer stamp (command.Cls a b) d).notices x (all_gone (if t then Close ∷ [] else []) x)
   closes_learns place stamp a b d ws x t e h =
       learns_on d.notices (flat_map (ending peer) (filter is_over (changed_at a b cls_sent d.entries))) x (all_gone (if t then Close ∷ [] else []) x)
       (λ k knows. ended_knows place (changed_at a b cls_sent d.entries) ws (all_gone (if t then Close ∷ [] else []) x) k (cls_unswept origin own foreign place a b d ws x t e h)
-      (knew_changed a b closes_now cls_sent d.entries k (λ y. (refl, refl, refl)) (λ s. (refl, refl)) (knew_of place (at own foreign d.entries) ((if t then Close ∷ [] else []) ++ ws) x k h knows)))
+      (knew_changed a b closes_now cls_sent _ k (λ y. (refl, refl, refl)) (λ s. (refl, refl)) (knew_of place _ _ x k h knows)))
 
   gone_learns : (place stamp : ℕ) (c : Command) (d : DeskState) (ws : List Mark) (x : End) → Stand true origin place (at own foreign d.entries) (mark_of place own foreign c ++ ws) x
       → Learns d.notices (command_gone peer stamp c d).notices x (all_gone (mark_of stamp own foreign c) x)
-  gone_learns place stamp (command.Rts receive send link) d ws x h = request_learns place stamp receive send d ws x (are receive send own foreign) refl h
-  gone_learns place stamp (command.Str send receive size) d ws x h = request_learns place stamp send receive d ws x (are send receive own foreign) refl h
-  gone_learns place stamp (command.Cls mine yours) d ws x h = closes_learns place stamp mine yours d ws x (are mine yours own foreign) refl h
+  gone_learns place stamp (command.Rts receive send link) d ws x h = request_learns place stamp receive send d ws x _ refl h
+  gone_learns place stamp (command.Str send receive size) d ws x h = request_learns place stamp send receive d ws x _ refl h
+  gone_learns place stamp (command.Cls mine yours) d ws x h = closes_learns place stamp mine yours d ws x _ refl h
   gone_learns place stamp c d ws x h = learns_none d.notices x
 
   pub all_gone_learns : (place stamp : ℕ) (cs : List Command) (d : DeskState) (ws : List Mark) (x : End) → Stand true origin place (at own foreign d.entries) (marks place own foreign cs ++ ws) x
@@ -349,6 +349,6 @@ module _ (origin : ℕ → ℕ) (peer : Host) (own foreign : ℕ) where
   all_gone_learns place stamp (c ∷ cs) d ws x h =
       let front : Stand true origin place (at own foreign d.entries) (mark_of place own foreign c ++ (marks place own foreign cs ++ ws)) x =
       subst (λ (l : List Mark). Stand true origin place (at own foreign d.entries) l x) (append_assoc (mark_of place own foreign c) (marks place own foreign cs) ws) h in
-      let next : Stand true origin place (at own foreign (command_gone peer stamp c d).entries) (marks place own foreign cs ++ ws) (all_gone (mark_of stamp own foreign c) x) = one_gone origin own foreign place peer stamp c d (marks place own foreign cs ++ ws) x front in
+      let next : Stand true origin place (at own foreign (command_gone peer stamp c d).entries) (marks place own foreign cs ++ ws) (all_gone (mark_of stamp own foreign c) x) = one_gone origin own foreign place peer stamp c d _ x front in
       subst (λ (y : End). Learns d.notices (commands_gone peer stamp (c ∷ cs) d).notices x y) (sym (all_gone_append (mark_of stamp own foreign c) (marks stamp own foreign cs) x))
-      (λ k knows. all_gone_learns place stamp cs (command_gone peer stamp c d) ws (all_gone (mark_of stamp own foreign c) x) next k (gone_learns place stamp c d (marks place own foreign cs ++ ws) x front k knows))
+      (λ k knows. all_gone_learns place stamp cs (command_gone peer stamp c d) ws (all_gone (mark_of stamp own foreign c) x) next k (gone_learns place stamp c d _ x front k knows))

@@ -18,7 +18,7 @@ marks_append place own foreign (x ∷ xs) ys = by (mark_of place own foreign x) 
 
 -- one command more
 pub marks_more : (place own foreign : ℕ) (xs : List Command) (c : Command) → marks place own foreign (xs ++ c ∷ []) ≡ marks place own foreign xs ++ mark_of place own foreign c
-marks_more place own foreign xs c = marks_append place own foreign xs (c ∷ []) ∙ ap (λ (l : List Mark). marks place own foreign xs ++ l) (append-nil (mark_of place own foreign c))
+marks_more place own foreign xs c = marks_append place own foreign xs _ ∙ ap (λ (l : List Mark). marks place own foreign xs ++ l) (append-nil (mark_of place own foreign c))
 
 -- one that says nothing
 pub marks_quiet : (place own foreign : ℕ) (xs : List Command) (c : Command) → mark_of place own foreign c ≡ [] → marks place own foreign (xs ++ c ∷ []) ≡ marks place own foreign xs
@@ -55,7 +55,7 @@ quiet_step own foreign test change x xs q rest false false e f = rw (e, f) rest
 
 pub at_quiet : (own foreign : ℕ) (test : Entry → Bool) (change : Entry → Entry) (xs : List Entry) → IsQuiet change → at own foreign (changed_first test change xs) ≡ at own foreign xs
 at_quiet own foreign test change [] q = refl
-at_quiet own foreign test change (x ∷ xs) q = quiet_step own foreign test change x xs q (at_quiet own foreign test change xs q) (test x) (is_at own foreign x) refl refl
+at_quiet own foreign test change (x ∷ xs) q = quiet_step own foreign test change x xs q (at_quiet own foreign test change xs q) _ _ refl refl
 
 -- ---- the end of two sockets is changed
 
@@ -79,7 +79,7 @@ turned a b true false e f = absurd (let r : true ≡ false = sym (eq-eqb b a (sy
 turned a b false true e f = absurd (let r : true ≡ false = sym (eq-eqb a b (sym (eqb-true b a f))) ∙ e in cc)
 
 pub eqb-sym : (a b : ℕ) → (a == b) ≡ (b == a)
-eqb-sym a b = turned a b (a == b) (b == a) refl refl
+eqb-sym a b = turned a b _ _ refl refl
 
 -- which pairs of sockets are one
 abbrev pub are : ℕ → ℕ → ℕ → ℕ → Bool
@@ -124,7 +124,7 @@ at_changed a b own foreign to change [] is = none (are a b own foreign) where
   none true = refl
   none false = refl
 at_changed a b own foreign to change (x ∷ xs) is =
-    change_step a b own foreign to change x xs is (at_changed a b own foreign to change xs is) (is_at a b x) (is_at own foreign x) (are a b own foreign) refl refl refl
+    change_step a b own foreign to change x xs is (at_changed a b own foreign to change xs is) _ _ _ refl refl refl
 
 -- ---- what is found
 
@@ -134,7 +134,7 @@ none_step own foreign x xs rest false f e = at_one own foreign x xs false f ∙ 
 
 pub none_at : (own foreign : ℕ) (xs : List Entry) → entry_at own foreign xs ≡ None → at own foreign xs ≡ []
 none_at own foreign [] e = refl
-none_at own foreign (x ∷ xs) e = none_step own foreign x xs (none_at own foreign xs) (is_at own foreign x) refl e
+none_at own foreign (x ∷ xs) e = none_step own foreign x xs (none_at own foreign xs) _ refl e
 
 pub record Found (own foreign : ℕ) (xs : List Entry) (e : Entry) : Type 0 where
   pub rest : List Standing
@@ -148,4 +148,4 @@ found_step own foreign x e xs rest false f is = let r : Found own foreign xs e =
 
 pub found_at : (own foreign : ℕ) (xs : List Entry) (e : Entry) → entry_at own foreign xs ≡ Some e → Found own foreign xs e
 found_at own foreign [] e is = absurd (cc)
-found_at own foreign (x ∷ xs) e is = found_step own foreign x e xs (found_at own foreign xs e) (is_at own foreign x) refl is
+found_at own foreign (x ∷ xs) e is = found_step own foreign x e xs (found_at own foreign xs e) _ refl is

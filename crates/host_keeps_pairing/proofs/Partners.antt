@@ -12,4 +12,4 @@ known_open x (l ∷ known) e (inr i) h = known_open x known e i h.1
 
 pub known_match : (events : List Event) (known others : List Life) (x y : Life) → IsRun events → Knows known (both events).one.end → Knows others (both events).two.end → IsIn x known → IsIn y others → ArePartners x y
 known_match events known others x y run k j i l =
-    open_match (both events).one (both events).two x.own x.partner y.own y.partner (joined_run events run) (known_open x known (both events).one.end i k) (known_open y others (both events).two.end l j)
+    open_match _ _ x.own _ y.own _ (joined_run events run) (known_open x known _ i k) (known_open y others _ l j)

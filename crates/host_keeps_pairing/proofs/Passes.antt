@@ -26,20 +26,20 @@ module _ (origin : ℕ → ℕ) (own foreign place : ℕ) where
   request_here : (peer : Host) (stamp a b : ℕ) (d : DeskState) (words : List Mark) (x : End) → are a b own foreign ≡ true → Stand true origin place (at own foreign d.entries) (Ask place ∷ words) x
       → Stand true origin place (at own foreign (request_gone peer stamp a b d).entries) words (gone (Ask stamp) x)
   request_here peer stamp a b d words x t h =
-      one_there true (at own foreign d.entries) (Ask place) words x h (Stand true origin place (at own foreign (request_gone peer stamp a b d).entries) words (gone (Ask stamp) x))
+      one_there true _ _ words x h _
       (λ s rest same. change_here origin own foreign place true a b (asks_at stamp) (asked_at stamp) d.entries (Ask place ∷ words) words x (gone (Ask stamp) x) (λ y. (refl, refl, refl)) t h
       (λ r more there j. stand_asks origin place stamp r words x j) s rest same)
 
   pub request_by : (peer : Host) (stamp a b : ℕ) (d : DeskState) (words : List Mark) (x : End) (t : Bool) → are a b own foreign ≡ t → Stand true origin place (at own foreign d.entries) ((if t then Ask place ∷ [] else []) ++ words) x
       → Stand true origin place (at own foreign (request_gone peer stamp a b d).entries) words (all_gone (if t then Ask stamp ∷ [] else []) x)
   request_by peer stamp a b d words x true t h = request_here peer stamp a b d words x t h
-  request_by peer stamp a b d words x false t h = change_away origin own foreign place true a b (asks_at stamp) (asked_at stamp) d.entries words x (λ y. (refl, refl, refl)) t h
+  request_by peer stamp a b d words x false t h = change_away origin own foreign place true a b (asks_at stamp) _ _ words x (λ y. (refl, refl, refl)) t h
 
   -- a CLS
   cls_here : (a b : ℕ) (d : DeskState) (words : List Mark) (x : End) → are a b own foreign ≡ true → Stand true origin place (at own foreign d.entries) (Close ∷ words) x
       → Stand false origin place (at own foreign (changed_at a b cls_sent d.entries)) words (gone Close x)
   cls_here a b d words x t h =
-      one_there true (at own foreign d.entries) Close words x h (Stand false origin place (at own foreign (changed_at a b cls_sent d.entries)) words (gone Close x))
+      one_there true _ Close words x h _
       (λ s rest same. change_here origin own foreign place false a b closes_now cls_sent d.entries (Close ∷ words) words x (gone Close x) (λ y. (refl, refl, refl)) t h
       (λ r more there j. stand_closes origin place r words x j) s rest same)
 
@@ -48,17 +48,17 @@ module _ (origin : ℕ → ℕ) (own foreign place : ℕ) where
       → Stand false origin place (at own foreign (changed_at a b cls_sent d.entries)) words (all_gone (if t then Close ∷ [] else []) x)
   cls_unswept a b d words x true t h = cls_here a b d words x t h
   cls_unswept a b d words x false t h =
-      loose origin own foreign place (at own foreign (changed_at a b cls_sent d.entries)) words x (change_away origin own foreign place true a b closes_now cls_sent d.entries words x (λ y. (refl, refl, refl)) t h)
+      loose origin own foreign place _ words x (change_away origin own foreign place true a b closes_now cls_sent _ words x (λ y. (refl, refl, refl)) t h)
 
   cls_by : (peer : Host) (stamp a b : ℕ) (d : DeskState) (words : List Mark) (x : End) (t : Bool) → are a b own foreign ≡ t → Stand true origin place (at own foreign d.entries) ((if t then Close ∷ [] else []) ++ words) x
       → Stand true origin place (at own foreign (command_gone peer stamp (command.Cls a b) d).entries) words (all_gone (if t then Close ∷ [] else []) x)
-  cls_by peer stamp a b d words x t e h = ends_swept origin own foreign place (changed_at a b cls_sent d.entries) words (all_gone (if t then Close ∷ [] else []) x) (cls_unswept a b d words x t e h)
+  cls_by peer stamp a b d words x t e h = ends_swept origin own foreign place _ words _ (cls_unswept a b d words x t e h)
 
   pub one_gone : (peer : Host) (stamp : ℕ) (c : Command) (d : DeskState) (words : List Mark) (x : End) → Stand true origin place (at own foreign d.entries) (mark_of place own foreign c ++ words) x
       → Stand true origin place (at own foreign (command_gone peer stamp c d).entries) words (all_gone (mark_of stamp own foreign c) x)
-  one_gone peer stamp (command.Rts receive send link) d words x h = request_by peer stamp receive send d words x (are receive send own foreign) refl h
-  one_gone peer stamp (command.Str send receive size) d words x h = request_by peer stamp send receive d words x (are send receive own foreign) refl h
-  one_gone peer stamp (command.Cls mine yours) d words x h = cls_by peer stamp mine yours d words x (are mine yours own foreign) refl h
+  one_gone peer stamp (command.Rts receive send link) d words x h = request_by peer stamp receive send d words x _ refl h
+  one_gone peer stamp (command.Str send receive size) d words x h = request_by peer stamp send receive d words x _ refl h
+  one_gone peer stamp (command.Cls mine yours) d words x h = cls_by peer stamp mine yours d words x _ refl h
   one_gone peer stamp c d words x h = h
 
   all_go : (peer : Host) (stamp : ℕ) (cs : List Command) (d : DeskState) (words : List Mark) (x : End) → Stand true origin place (at own foreign d.entries) (marks place own foreign cs ++ words) x
@@ -67,7 +67,7 @@ module _ (origin : ℕ → ℕ) (own foreign place : ℕ) where
   all_go peer stamp (c ∷ cs) d words x h =
       let first : Stand true origin place (at own foreign d.entries) (mark_of place own foreign c ++ (marks place own foreign cs ++ words)) x =
       subst (λ (l : List Mark). Stand true origin place (at own foreign d.entries) l x) (append_assoc (mark_of place own foreign c) (marks place own foreign cs) words) h in
-      let next : Stand true origin place (at own foreign (command_gone peer stamp c d).entries) (marks place own foreign cs ++ words) (all_gone (mark_of stamp own foreign c) x) = one_gone peer stamp c d (marks place own foreign cs ++ words) x first in
+      let next : Stand true origin place (at own foreign (command_gone peer stamp c d).entries) (marks place own foreign cs ++ words) (all_gone (mark_of stamp own foreign c) x) = one_gone peer stamp c d _ x first in
       subst (λ (y : End). Stand true origin place (at own foreign (commands_gone peer stamp (c ∷ cs) d).entries) words y) (sym (all_gone_append (mark_of stamp own foreign c) (marks stamp own foreign cs) x))
       (all_go peer stamp cs (command_gone peer stamp c d) words (all_gone (mark_of stamp own foreign c) x) next)
 
@@ -79,7 +79,7 @@ module _ (origin : ℕ → ℕ) (own foreign place : ℕ) where
       → Stand true origin place (at own foreign (commands_gone peer stamp (take n d.queue) d).entries) (marks place own foreign (drop n (commands_gone peer stamp (take n d.queue) d).queue)) (all_gone (marks stamp own foreign (take n d.queue)) x)
   commands_out peer stamp n d x h =
       let parts : Stand true origin place (at own foreign d.entries) (marks place own foreign (take n d.queue) ++ marks place own foreign (drop n d.queue)) x =
-      subst (λ (l : List Mark). Stand true origin place (at own foreign d.entries) l x) (parted n d.queue) h in
+      subst (λ (l : List Mark). Stand true origin place (at own foreign d.entries) l x) (parted n _) h in
       subst (λ (cs : List Command). Stand true origin place (at own foreign (commands_gone peer stamp (take n d.queue) d).entries) (marks place own foreign (drop n cs)) (all_gone (marks stamp own foreign (take n d.queue)) x))
       (sym (all_gone_queue peer stamp (take n d.queue) d)) (all_go peer stamp (take n d.queue) d (marks place own foreign (drop n d.queue)) x parts)
 
@@ -92,12 +92,12 @@ module _ (origin : ℕ → ℕ) (own foreign place : ℕ) where
 
   commands_may : (n : ℕ) (entries : List Entry) (queue : List Command) (x : End) (next : ℕ) → next ≤ place → Stand true origin place (at own foreign entries) (marks place own foreign queue) x → MayAllGo (marks place own foreign (take n queue)) x next
   commands_may n entries queue x next below h =
-      may_by (at own foreign entries) (marks place own foreign (take n queue)) (marks place own foreign (drop n queue)) x next below (subst (λ (l : List Mark). Stand true origin place (at own foreign entries) l x) (parted n queue) h)
+      may_by _ _ _ x next below (subst (λ (l : List Mark). Stand true origin place (at own foreign entries) l x) (parted n queue) h)
 
 -- ---- a parcel
 
 pub parcel_may : (origin : ℕ → ℕ) (own foreign stamp : ℕ) (q : PairState) (x : Parcel) (e : End) (next : ℕ) → next ≤ stamp → HasEnd origin own foreign q e → MayAllGo (marks stamp own foreign (commands_of q x)) e next
-parcel_may origin own foreign stamp q (parcel.Commands count) e next below h = commands_may origin own foreign stamp count q.entries q.queue e next below (h.ends stamp)
+parcel_may origin own foreign stamp q (parcel.Commands count) e next below h = commands_may origin own foreign stamp count _ _ e next below (h.ends stamp)
 parcel_may origin own foreign stamp q x e next below h = tt
 
 -- a pair that speaks is ready
@@ -112,6 +112,6 @@ parcel_goes origin own foreign stamp peer listening q (parcel.Commands count) e 
     record { ends = λ place. commands_out origin own foreign place peer stamp count (desk_of q listening) e (h.ends place); idle = λ i. not_idle q _ may.0.ready i }
 parcel_goes origin own foreign stamp peer listening q (parcel.Bytes b size count) e may h = record {
   ends = λ place. stand_same origin own foreign place true (at own foreign q.entries) (at own foreign (changed_first (may_send_on q.busy (link_of b.link)) (bits_gone (size * count)) q.entries)) (marks place own foreign q.queue) (marks place own foreign q.queue) e
-      (at_quiet own foreign (may_send_on q.busy (link_of b.link)) (bits_gone (size * count)) q.entries (λ y. (refl, refl, refl))) refl (h.ends place);
+      (at_quiet own foreign _ _ _ (λ y. (refl, refl, refl))) refl (h.ends place);
   idle = h.idle;
 }

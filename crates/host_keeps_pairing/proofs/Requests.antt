@@ -1,11 +1,10 @@
 -- What a user asks for, at one pair of sockets.
-use Rattle.host_keeps_pairing.proofs.Common.{◌≡◌, ◌⊎◌, inl, inr, ℕ, Bool, true, false, not, ◌&&◌, if◌then◌else◌, cond, List, [], ◌∷◌, Option, Some, None, is_some, refl, sym, subst, Host, same_host, same_host-true, Command, End, nothing, Mark, changed_first, close_due, entry_at, free_link, is_at, receiving_end, sending_end, PairState, NcpState, pair_with, with_pair, desk_of, is_ready, link_of, Closing, Entry, Peer, Request, pair_changed, mark_of, marks, Standing, at, HasEnd, Stand, after_request}
+use Rattle.host_keeps_pairing.proofs.Common.{◌≡◌, ◌⊎◌, inl, inr, ℕ, Bool, true, false, not, ◌&&◌, if◌then◌else◌, cond, List, [], ◌∷◌, Option, Some, None, is_some, refl, sym, subst, Host, same_host, same_host-true, Command, End, nothing, Mark, changed_first, close_due, entry_at, free_link, is_at, sending_end, PairState, NcpState, pair_with, with_pair, desk_of, is_ready, link_of, Closing, Entry, Peer, Request, pair_changed, mark_of, marks, Standing, at, HasEnd, Stand, after_request}
 use Rattle.interface.proofs.lemmas.{or_false}
 use Rattle.ncp_control.specs.Numbers.{is_receive_socket, is_send_socket}
 use Rattle.ncp_control.specs.declared.command.Command.TheVariants as command
 use Rattle.host_pairs.specs.Commands.{granted}
-use Rattle.host_pairs.specs.Entries.{called_off, is_mine_on, is_receiving}
-use Rattle.sockets.specs.Pairs.{owner_of}
+use Rattle.host_pairs.specs.Entries.{called_off, is_receiving}
 use Rattle.host_pairs.specs.Desk.{listens_on}
 use Rattle.sockets.specs.Requests.{at_owner, closed_socket, is_taken, is_used, open_receive_refusal, open_send_refusal, refusal, served}
 use Rattle.host_pairs.specs.Asked.{closed_end, commanded, contacted, interrupt_of, receiver_requested, requested, with_end, with_more_bits}
@@ -27,7 +26,7 @@ kept_by P g h q peers p work true e = peer_here P g h q peers e (work (subst (λ
 kept_by P g h q peers p work false e = subst P (sym (others_stay g h q peers e)) p
 
 kept : (P : PairState → Type 0) (g h : Host) (q : PairState) (peers : List Peer) → P (pair_with h peers) → (P (pair_with g peers) → P q) → P (pair_with h (with_pair g q peers))
-kept P g h q peers p work = kept_by P g h q peers p work (same_host h g) refl
+kept P g h q peers p work = kept_by P g h q peers p work _ refl
 
 -- ---- no refusal
 
@@ -61,18 +60,18 @@ module _ (origin : ℕ → ℕ) (own foreign place : ℕ) where
   touch_step : (test : Entry → Bool) (e : Entry) (es : List Entry) → Touched (at own foreign es) (at own foreign (changed_first test called_off es)) → (b c : Bool) → test e ≡ b → is_at own foreign e ≡ c
       → Touched (at own foreign (e ∷ es)) (at own foreign (changed_first test called_off (e ∷ es)))
   unfolding called
-  touch_step test e es rest true true f g = rw (f, g) (inr refl, untouched (at own foreign es))
-  touch_step test e es rest true false f g = rw (f, g) (untouched (at own foreign es))
+  touch_step test e es rest true true f g = rw (f, g) (inr refl, untouched _)
+  touch_step test e es rest true false f g = rw (f, g) (untouched _)
   touch_step test e es rest false true f g = rw (f, g) (inl refl, rest)
   touch_step test e es rest false false f g = rw (f, g) rest
 
   touched : (test : Entry → Bool) (es : List Entry) → Touched (at own foreign es) (at own foreign (changed_first test called_off es))
   touched test [] = refl
-  touched test (e ∷ es) = touch_step test e es (touched test es) (test e) (is_at own foreign e) refl refl
+  touched test (e ∷ es) = touch_step test e es (touched test es) _ _ refl refl
 
   one_touched : (s t : Standing) (words : List Mark) (x : End) → (t ≡ s) ⊎ (t ≡ called s) → Stand true origin place (s ∷ []) words x → Stand true origin place (t ∷ []) words x
   one_touched s t words x (inl same) h = subst (λ (u : Standing). Stand true origin place (u ∷ []) words x) (sym same) h
-  one_touched s t words x (inr same) h = subst (λ (u : Standing). Stand true origin place (u ∷ []) words x) (sym same) (stand_called s.mine s.asked s.partner s.closing s.partner_closed words x h)
+  one_touched s t words x (inr same) h = subst (λ (u : Standing). Stand true origin place (u ∷ []) words x) (sym same) (stand_called s.mine _ _ _ _ words x h)
 
   stand_touched : (ss ts : List Standing) (words : List Mark) (x : End) → Touched ss ts → Stand true origin place ss words x → Stand true origin place ts words x
   stand_touched [] ts words x t h = subst (λ (us : List Standing). Stand true origin place us words x) (sym t) h
@@ -84,14 +83,14 @@ module _ (origin : ℕ → ℕ) (own foreign place : ℕ) where
   pub end_quiet : (socket : ℕ) (change : Entry → Entry) (q : PairState) (x : End) → IsQuiet change → Stand true origin place (at own foreign q.entries) (marks place own foreign q.queue) x
       → Stand true origin place (at own foreign (with_end socket change q).entries) (marks place own foreign (with_end socket change q).queue) x
   end_quiet socket change q x quiet h =
-      stand_same origin own foreign place true (at own foreign q.entries) (at own foreign (with_end socket change q).entries) (marks place own foreign q.queue) (marks place own foreign q.queue) x
-      (at_quiet own foreign (is_mine_on socket) change q.entries quiet) refl h
+      stand_same origin own foreign place true _ _ _ _ x
+      (at_quiet own foreign _ change _ quiet) refl h
 
   pub end_closed : (socket : ℕ) (q : PairState) (x : End) → Stand true origin place (at own foreign q.entries) (marks place own foreign q.queue) x
       → Stand true origin place (at own foreign (closed_end socket q).entries) (marks place own foreign (closed_end socket q).queue) x
   end_closed socket q x h =
       on_settled origin own foreign place true q.busy (desk_of (with_end socket called_off q) []) x
-      (stand_touched (at own foreign q.entries) (at own foreign (with_end socket called_off q).entries) (marks place own foreign q.queue) x (touched (is_mine_on socket) q.entries) h)
+      (stand_touched _ _ _ x (touched _ _) h)
 
   commanded_quiet : (c : Command) (q : PairState) (x : End) → mark_of place own foreign c ≡ [] → Stand true origin place (at own foreign q.entries) (marks place own foreign q.queue) x
       → Stand true origin place (at own foreign (commanded c q).entries) (marks place own foreign (commanded c q).queue) x
@@ -100,13 +99,13 @@ module _ (origin : ℕ → ℕ) (own foreign place : ℕ) where
   sender_new : (a b size : ℕ) (q : PairState) (x : End) → entry_at a b q.entries ≡ None → Stand true origin place (at own foreign q.entries) (marks place own foreign q.queue) x
       → Stand true origin place (at own foreign (requested (sending_end a b size) (command.Str a b size) q).entries) (marks place own foreign (requested (sending_end a b size) (command.Str a b size) q).queue) x
   sender_new a b size q x none h =
-      on_joined origin own foreign place a b (sending_end a b size) (command.Str a b size) (desk_of q []) x x refl refl (record { live = λ e. refl; refused = λ m. absurd (cc); asked = λ e. absurd (cc); own = λ e. absurd (cc) }) none (λ t is. is) (λ t. refl) h
+      on_joined origin own foreign place a b _ (command.Str a b size) (desk_of q []) x x refl refl (record { live = λ e. refl; refused = λ m. absurd (cc); asked = λ e. absurd (cc); own = λ e. absurd (cc) }) none (λ t is. is) (λ t. refl) h
 
   receiver_new : (a b : ℕ) (link : Option ℕ) (q : PairState) (x : End) → entry_at a b q.entries ≡ None → Stand true origin place (at own foreign q.entries) (marks place own foreign q.queue) x
       → Stand true origin place (at own foreign (receiver_requested a b link q).entries) (marks place own foreign (receiver_requested a b link q).queue) x
   receiver_new a b None q x none h = h
   receiver_new a b (Some link) q x none h =
-      on_joined origin own foreign place a b (receiving_end a b link) (command.Rts a b link) (desk_of q []) x x refl refl (record { live = λ e. refl; refused = λ m. absurd (cc); asked = λ e. absurd (cc); own = λ e. absurd (cc) }) none (λ t is. is) (λ t. refl) h
+      on_joined origin own foreign place a b _ (command.Rts a b link) (desk_of q []) x x refl refl (record { live = λ e. refl; refused = λ m. absurd (cc); asked = λ e. absurd (cc); own = λ e. absurd (cc) }) none (λ t is. is) (λ t. refl) h
 
   interrupt_quiet : (b : Bool) (link : ℕ) → mark_of place own foreign (if b then command.Inr link else command.Ins link) ≡ []
   interrupt_quiet true link = refl
@@ -142,16 +141,16 @@ module _ (origin : ℕ → ℕ) (own foreign : ℕ) where
 
   close_keeps : (s : NcpState) (socket : ℕ) (h : Host) (x : End) → HasEnd origin own foreign (pair_with h s.peers) x → (b : Bool) → listens_on socket s.listening ≡ b → HasEnd origin own foreign (pair_with h (closed_socket s socket).peers) x
   close_keeps s socket h x a true e = rw e a
-  close_keeps s socket h x a false e = rw e (owner_keeps s (owner_of socket s.peers) (λ y. closed_end socket) h x (λ y q. pair_closed socket q x) a)
+  close_keeps s socket h x a false e = rw e (owner_keeps s _ _ h x (λ y q. pair_closed socket q x) a)
 
   contact_drops : (s : NcpState) (peer h : Host) (x : End) → HasEnd origin own foreign (pair_with h s.peers) x → (b : Bool) → same_host h peer ≡ b
       → HasEnd origin own foreign (pair_with h (with_pair peer (contacted (pair_with peer s.peers)) s.peers)) (if b then nothing else x)
   contact_drops s peer h x a true e =
       peer_here (λ (q : PairState). HasEnd origin own foreign q nothing) peer h (contacted (pair_with peer s.peers)) s.peers e (record { ends = λ place. (refl, refl); idle = λ i. refl })
-  contact_drops s peer h x a false e = subst (λ (q : PairState). HasEnd origin own foreign q x) (sym (others_stay peer h (contacted (pair_with peer s.peers)) s.peers e)) a
+  contact_drops s peer h x a false e = subst (λ (q : PairState). HasEnd origin own foreign q x) (sym (others_stay peer h (contacted (pair_with peer s.peers)) _ e)) a
 
   untaken : (s : NcpState) (peer : Host) (a b : ℕ) → is_taken s peer a b ≡ false → entry_at a b (pair_with peer s.peers).entries ≡ None
-  untaken s peer a b e = none_is (entry_at a b (pair_with peer s.peers).entries) (or_false (is_used s a) (is_some (entry_at a b (pair_with peer s.peers).entries)) e).1
+  untaken s peer a b e = none_is _ (or_false (is_used s a) _ e).1
 
   send_untaken : (s : NcpState) (peer : Host) (a b size : ℕ) → open_send_refusal s peer a b size ≡ None → entry_at a b (pair_with peer s.peers).entries ≡ None
   send_untaken s peer a b size e = untaken s peer a b (not_first (is_taken s peer a b) _ _ (not_first (not (is_send_socket a && is_receive_socket b)) _ _ (not_first (not (is_ready (pair_with peer s.peers).phase)) _ _ e).1).1).0
@@ -161,7 +160,7 @@ module _ (origin : ℕ → ℕ) (own foreign : ℕ) where
 
   pub request_keeps : (s : NcpState) (r : Request) (h : Host) (x : End) → refusal s r ≡ None → HasEnd origin own foreign (pair_with h s.peers) x → HasEnd origin own foreign (pair_with h (served s r).peers) (after_request h r x)
   unfolding served refusal
-  request_keeps s (request.Contact peer) h x ok a = contact_drops s peer h x a (same_host h peer) refl
+  request_keeps s (request.Contact peer) h x ok a = contact_drops s peer h x a _ refl
   request_keeps s (request.Listen socket size) h x ok a = a
   request_keeps s (request.OpenSend peer mine yours size) h x ok a =
       kept (λ (q : PairState). HasEnd origin own foreign q x) peer h (requested (sending_end mine yours size) (command.Str mine yours size) (pair_with peer s.peers)) s.peers a
@@ -170,14 +169,14 @@ module _ (origin : ℕ → ℕ) (own foreign : ℕ) where
       kept (λ (q : PairState). HasEnd origin own foreign q x) peer h (receiver_requested mine yours (free_link (pair_with peer s.peers).entries) (pair_with peer s.peers)) s.peers a
       (pair_receiver mine yours (free_link (pair_with peer s.peers).entries) (pair_with peer s.peers) x (receive_untaken s peer mine yours ok))
   request_keeps s (request.Send socket bits) h x ok a =
-      owner_keeps s (owner_of socket s.peers) (λ e. with_end socket (with_more_bits bits)) h x (λ e q. pair_quiet socket (with_more_bits bits) q x (λ y. (refl, refl, refl))) a
+      owner_keeps s _ _ h x (λ e q. pair_quiet socket (with_more_bits bits) q x (λ y. (refl, refl, refl))) a
   request_keeps s (request.Grant socket messages bits) h x ok a =
-      owner_keeps s (owner_of socket s.peers) (λ e q. commanded (command.All (link_of e.link) messages bits) (with_end socket (granted messages bits) q)) h x
-      (λ e q b. pair_commanded (command.All (link_of e.link) messages bits) (with_end socket (granted messages bits) q) x (λ place. refl) (pair_quiet socket (granted messages bits) q x (λ y. (refl, refl, refl)) b)) a
+      owner_keeps s _ _ h x
+      (λ e q b. pair_commanded (command.All (link_of e.link) messages bits) (with_end socket (granted messages bits) q) x (λ place. refl) (pair_quiet socket _ q x (λ y. (refl, refl, refl)) b)) a
   request_keeps s (request.AskBack socket messages bits) h x ok a =
-      owner_keeps s (owner_of socket s.peers) (λ e. commanded (command.Gvb (link_of e.link) messages bits)) h x (λ e q. pair_commanded (command.Gvb (link_of e.link) messages bits) q x (λ place. refl)) a
+      owner_keeps s _ _ h x (λ e q. pair_commanded (command.Gvb (link_of e.link) messages bits) q x (λ place. refl)) a
   request_keeps s (request.Interrupt socket) h x ok a =
-      owner_keeps s (owner_of socket s.peers) (λ e. commanded (interrupt_of e)) h x (λ e q. pair_commanded (interrupt_of e) q x (λ place. interrupt_quiet origin own foreign place (is_receiving e) (link_of e.link))) a
-  request_keeps s (request.Close socket) h x ok a = close_keeps s socket h x a (listens_on socket s.listening) refl
+      owner_keeps s _ _ h x (λ e q. pair_commanded (interrupt_of e) q x (λ place. interrupt_quiet origin own foreign place (is_receiving e) (link_of e.link))) a
+  request_keeps s (request.Close socket) h x ok a = close_keeps s socket h x a _ refl
   request_keeps s (request.Echo peer octet) h x ok a =
       kept (λ (q : PairState). HasEnd origin own foreign q x) peer h (commanded (command.Eco octet) (pair_with peer s.peers)) s.peers a (pair_commanded (command.Eco octet) (pair_with peer s.peers) x (λ place. refl))

@@ -31,7 +31,7 @@ stand_asked origin place stamp s words x h fit =
     let is : x ≡ plain origin s = h.2 ∙ live_end origin s live in
     let fit_plain : fits (Ask (origin stamp)) (plain origin s) ≡ true = subst (λ (y : End). fits (Ask (origin stamp)) y ≡ true) is fit in
     let parts : (not (is_some (came_from origin s.partner)) ≡ true) × (not s.partner_closed ≡ true) = both (not (is_some (came_from origin s.partner))) (not s.partner_closed) fit_plain in (
-      none_came origin s.partner parts.0,
+      none_came origin _ parts.0,
       (
         record { live = h.0.live; refused = λ m. (refl, (h.0.refused m).1); asked = h.0.asked; own = h.0.own },
         h.1,
@@ -66,11 +66,11 @@ stand_closed origin place s words x h fit =
     let is : x ≡ plain origin s = h.2 ∙ live_end origin s (h.0.live refl) in
     let fit_plain : fits Close (plain origin s) ≡ true = subst (λ (y : End). fits Close y ≡ true) is fit in
     let parts : (is_begun (plain origin s) ≡ true) × (not s.partner_closed ≡ true) = both (is_begun (plain origin s)) (not s.partner_closed) fit_plain in (
-      not_is s.partner_closed parts.1,
+      not_is _ parts.1,
       (
-        record { live = λ e. absurd (cc); refused = λ m. ((h.0.refused m).0, due_still s.closing (h.0.refused m).1); asked = λ e m. h.0.asked (sym (due_sent s.closing) ∙ e) m; own = h.0.own },
-        h.1 ∙ ap (λ (l : List Mark). request_due place s.mine s.asked ++ l) (sym (due_waits s.closing)),
-        ap (mark_taken Close) is ∙ closed_end origin s (is_sent s.closing) refl (due_sent s.closing),
+        record { live = λ e. absurd (cc); refused = λ m. ((h.0.refused m).0, due_still _ (h.0.refused m).1); asked = λ e m. h.0.asked (sym (due_sent _) ∙ e) m; own = h.0.own },
+        h.1 ∙ ap (λ (l : List Mark). request_due place s.mine s.asked ++ l) (sym (due_waits _)),
+        ap (mark_taken Close) is ∙ closed_end origin s _ refl (due_sent _),
       ),
     )
 
@@ -104,7 +104,7 @@ past_due place false asked closing.Sent e h = refl
 pub stand_past : (origin : ℕ → ℕ) (place : ℕ) (s : Standing) (words : List Mark) (x : End) → Stand false origin place (s ∷ []) words x → is_past s ≡ true → Stand true origin place [] words x
 stand_past origin place s words x h past =
     let parts : (is_sent s.closing ≡ true) × (s.partner_closed ≡ true) = both (is_sent s.closing) s.partner_closed past in
-    (h.1 ∙ past_due place s.mine s.asked s.closing parts.0 (h.0.asked parts.0), h.2 ∙ ap (λ (b : Bool). if b then nothing else plain origin s) past)
+    (h.1 ∙ past_due place s.mine _ _ parts.0 (h.0.asked parts.0), h.2 ∙ ap (λ (b : Bool). if b then nothing else plain origin s) past)
 
 pub stand_live : (origin : ℕ → ℕ) (place : ℕ) (s : Standing) (words : List Mark) (x : End) → Stand false origin place (s ∷ []) words x → is_past s ≡ false → Stand true origin place (s ∷ []) words x
 stand_live origin place s words x h live = (record { live = λ e. live; refused = h.0.refused; asked = h.0.asked; own = h.0.own }, h.1, h.2)
@@ -146,8 +146,8 @@ one_close mine asked c m words h e = absurd (cc)
 
 pub heads : (place : ℕ) (mine : Bool) (asked : Option ℕ) (c : Closing) (m : Mark) (words : List Mark) → m ∷ words ≡ request_due place mine asked ++ close_waits c
     → IsRequest mine asked c place m words ⊎ IsClose mine asked c m words
-heads place true None c m words e = inl (record { mark = same_head m (Ask place) words (close_waits c) e; own = refl; unasked = refl; rest = same_tail m (Ask place) words (close_waits c) e })
-heads place true (Some p) c m words e = inr (one_close true (Some p) c m words (λ r. refl) e)
+heads place true None c m words e = inl (record { mark = same_head m _ words _ e; own = refl; unasked = refl; rest = same_tail m _ words _ e })
+heads place true (Some p) c m words e = inr (one_close true _ c m words (λ r. refl) e)
 heads place false asked c m words e = inr (one_close false asked c m words (λ r. absurd (cc)) e)
 
 -- the own request has gone out
@@ -160,7 +160,7 @@ is_unsent s h own none false e = refl
 
 pub stand_asks : (origin : ℕ → ℕ) (place stamp : ℕ) (s : Standing) (words : List Mark) (x : End) → Stand true origin place (s ∷ []) (Ask place ∷ words) x
     → Stand true origin place (asks_at stamp s ∷ []) words (gone (Ask stamp) x)
-stand_asks origin place stamp s words x h = elim (heads place s.mine s.asked s.closing (Ask place) words h.1) [
+stand_asks origin place stamp s words x h = elim (heads place s.mine _ _ _ words h.1) [
   | inl r ↦ (
     record { live = h.0.live; refused = λ m. absurd (let q : true ≡ false = sym r.own ∙ m in cc); asked = λ e m. refl; own = λ e. r.own },
     r.rest ∙ ap (λ (l : List Mark). l ++ close_waits s.closing) (asked_due place s.mine stamp),
@@ -186,11 +186,11 @@ closes_end origin s = refl
 
 pub stand_closes : (origin : ℕ → ℕ) (place : ℕ) (s : Standing) (words : List Mark) (x : End) → Stand true origin place (s ∷ []) (Close ∷ words) x
     → Stand false origin place (closes_now s ∷ []) words (gone Close x)
-stand_closes origin place s words x h = elim (heads place s.mine s.asked s.closing Close words h.1) [
+stand_closes origin place s words x h = elim (heads place s.mine _ _ Close words h.1) [
   | inl r ↦ absurd (let q : Close ≡ Ask place = r.mark in cc)
   | inr r ↦ (
     record { live = λ e. absurd (cc); refused = λ m. ((h.0.refused m).0, refl); asked = λ e m. r.own m; own = h.0.own },
-    r.rest ∙ none_due place s.mine s.asked r.own,
+    r.rest ∙ none_due place s.mine _ r.own,
     ap (gone Close) (h.2 ∙ live_end origin s (h.0.live refl)) ∙ closes_end origin s,
   )
 ]
@@ -205,39 +205,39 @@ begun_by false None (Some q) origin h k = refl
 begun_by false (Some p) partner origin h k = refl
 
 pub may_ask : (origin : ℕ → ℕ) (place : ℕ) (s : Standing) (words : List Mark) (x : End) → Stand true origin place (s ∷ []) (Ask place ∷ words) x → MayGo (Ask place) x
-may_ask origin place s words x h = elim (heads place s.mine s.asked s.closing (Ask place) words h.1) [
+may_ask origin place s words x h = elim (heads place s.mine _ _ _ words h.1) [
   | inl r ↦
       (let is : x ≡ plain origin s = h.2 ∙ live_end origin s (h.0.live refl) in
-      subst (λ (y : End). MayGo (Ask place) y) (sym is) (r.unasked, is_unsent s h.0.asked r.own r.unasked (is_sent s.closing) refl))
+      subst (λ (y : End). MayGo (Ask place) y) (sym is) (r.unasked, is_unsent s h.0.asked r.own r.unasked _ refl))
   | inr r ↦ absurd (let q : Ask place ≡ Close = r.mark in cc)
 ]
 
 may_close : (origin : ℕ → ℕ) (place : ℕ) (s : Standing) (words : List Mark) (x : End) → Stand true origin place (s ∷ []) (Close ∷ words) x → MayGo Close x
-may_close origin place s words x h = elim (heads place s.mine s.asked s.closing Close words h.1) [
+may_close origin place s words x h = elim (heads place s.mine _ _ Close words h.1) [
   | inl r ↦ absurd (let q : Close ≡ Ask place = r.mark in cc)
   | inr r ↦
       (let is : x ≡ plain origin s = h.2 ∙ live_end origin s (h.0.live refl) in
-      subst (λ (y : End). MayGo Close y) (sym is) (begun_by s.mine s.asked s.partner origin r.own (λ m. (h.0.refused m).0), ap is_sent r.queued))
+      subst (λ (y : End). MayGo Close y) (sym is) (begun_by s.mine _ _ origin r.own (λ m. (h.0.refused m).0), ap is_sent r.queued))
 ]
 
 none_left : (swept : Bool) (origin : ℕ → ℕ) (place : ℕ) (s : Standing) (words rest : List Mark) (x : End) (next : ℕ) → is_sent s.closing ≡ true → Stand swept origin place (s ∷ []) (words ++ rest) x → MayAllGo words x next
 none_left swept origin place s [] rest x next sent h = tt
 none_left swept origin place s (m ∷ words) rest x next sent h =
-    absurd (let r : m ∷ (words ++ rest) ≡ [] = h.1 ∙ past_due place s.mine s.asked s.closing sent (h.0.asked sent) in cc)
+    absurd (let r : m ∷ (words ++ rest) ≡ [] = h.1 ∙ past_due place s.mine _ _ sent (h.0.asked sent) in cc)
 
 pub may_all : (origin : ℕ → ℕ) (place : ℕ) (s : Standing) (words rest : List Mark) (x : End) (next : ℕ) → (s.asked ≡ None → s.mine ≡ true → next ≤ place)
     → Stand true origin place (s ∷ []) (words ++ rest) x → MayAllGo words x next
 may_all origin place s [] rest x next below h = tt
 may_all origin place s (Close ∷ words) rest x next below h =
-    (may_close origin place s (words ++ rest) x h, tt, none_left false origin place (closes_now s) words rest (gone Close x) next refl (stand_closes origin place s (words ++ rest) x h))
-may_all origin place s (Ask q ∷ words) rest x next below h = elim (heads place s.mine s.asked s.closing (Ask q) (words ++ rest) h.1) [
+    (may_close origin place s _ x h, tt, none_left false origin place _ words rest _ next refl (stand_closes origin place s _ x h))
+may_all origin place s (Ask q ∷ words) rest x next below h = elim (heads place s.mine _ _ _ _ h.1) [
   | inl r ↦
       (let same : Ask q ≡ Ask place = r.mark in
       let there : Stand true origin place (s ∷ []) (Ask place ∷ (words ++ rest)) x = (h.0, ap (λ (m : Mark). m ∷ (words ++ rest)) (sym same) ∙ h.1, h.2) in
       let at_place : MayAllGo (Ask place ∷ words) x next = (
-        may_ask origin place s (words ++ rest) x there,
+        may_ask origin place s _ x there,
         below r.unasked r.own,
-        may_all origin place (asks_at place s) words rest (gone (Ask place) x) (above (Ask place) next) (λ none. absurd (cc)) (stand_asks origin place place s (words ++ rest) x there),
+        may_all origin place (asks_at place s) words rest (gone (Ask place) x) (above (Ask place) next) (λ none. absurd (cc)) (stand_asks origin place place s _ x there),
       ) in
       subst (λ (m : Mark). MayAllGo (m ∷ words) x next) (sym same) at_place)
   | inr r ↦ absurd (let e : Ask q ≡ Close = r.mark in cc)

@@ -1,5 +1,5 @@
 -- What each call reports of openings.
-use Rattle.host_keeps_pairing.proofs.Common.{◌≡◌, ℕ, Bool, true, false, not, ◌||◌, ◌==◌, if◌then◌else◌, List, [], ◌∷◌, ◌++◌, take, drop, Some, refl, ap, sym, subst, ◌∙◌, Host, same_host, Flow, Answer, HostMessage, End, Mark, Life, lives_taken, TurnState, answered_turn, failed, failed_by, freed, if_ready, is_gone, message_taken, order_taken, orders_taken, reply_notices, reset_notices, settled_turn, with_desk, accepted_answer, turn_of, Legal, Order, Wrong, orders_of, data_taken, is_busy, commands_of, PairState, DeskState, desk_of, NcpState, pair_with, AreInOrder, is_ready, Parcel, parcel_gone, next_in, Listener, Notice, Peer, Phase, Request, next_pair, AllFit, mark_in, marks, marks_in, HasEnd, Stand, at, AreFree, AreJoint, AreAmong, all_lives_gone, all_lives_taken, with_openings}
+use Rattle.host_keeps_pairing.proofs.Common.{◌≡◌, ℕ, Bool, true, false, not, ◌||◌, ◌==◌, if◌then◌else◌, List, [], ◌∷◌, ◌++◌, take, drop, Some, refl, ap, sym, subst, ◌∙◌, Host, same_host, Flow, Answer, HostMessage, End, Mark, Life, lives_taken, TurnState, answered_turn, failed, failed_by, if_ready, is_gone, message_taken, order_taken, orders_taken, reply_notices, reset_notices, settled_turn, with_desk, accepted_answer, turn_of, Legal, Order, Wrong, orders_of, data_taken, is_busy, commands_of, PairState, DeskState, desk_of, NcpState, pair_with, AreInOrder, is_ready, Parcel, parcel_gone, next_in, Listener, Notice, Peer, Phase, Request, next_pair, AllFit, mark_in, marks, marks_in, HasEnd, Stand, at, AreFree, AreJoint, AreAmong, all_lives_gone, all_lives_taken, with_openings}
 use Rattle.interface.specs.declared.crossing.Answer.TheVariants as answer
 use Rattle.interface.specs.declared.crossing.Inbound.TheVariants as inbound
 use Rattle.ncp_control.specs.declared.command.Command.TheVariants as command
@@ -26,7 +26,7 @@ module _ (origin : ℕ → ℕ) (own foreign : ℕ) where
 
   work_tells : (peer : Host) (stamp : ℕ) (o : Order) (t : TurnState) (x : End) (lives : List Life) → AllFit (mark_in (origin stamp) foreign own o) x → HasEnd origin own foreign t.pair x
       → Tells origin own foreign [] (work_of peer t.pair.busy stamp o (desk_of t.pair t.listening)).notices lives (all_lives_taken (mark_in (origin stamp) foreign own o) x lives)
-  work_tells peer stamp (Legal c) t x lives fit h = taken_tells origin own foreign 0 peer t.pair.busy stamp c (desk_of t.pair t.listening) x lives fit (h.ends 0)
+  work_tells peer stamp (Legal c) t x lives fit h = taken_tells origin own foreign 0 peer _ stamp c _ x lives fit (h.ends 0)
   work_tells peer stamp (Wrong code octets) t x lives fit h = λ told k. k
 
   lives_append : (ms ns : List Mark) (x : End) (lives : List Life) → all_lives_taken (ms ++ ns) x lives ≡ all_lives_taken ns (all_taken ms x) (all_lives_taken ms x lives)
@@ -38,7 +38,7 @@ module _ (origin : ℕ → ℕ) (own foreign : ℕ) where
   orders_tell peer stamp [] t x lives joint free fit ready h told k = k
   orders_tell peer stamp (o ∷ os) t x lives joint free fit ready h told k =
       let parts : AllFit (mark_in (origin stamp) foreign own o) x × AllFit (marks_in (origin stamp) foreign own os) (all_taken (mark_in (origin stamp) foreign own o) x) =
-      fit_first origin own foreign (mark_in (origin stamp) foreign own o) (marks_in (origin stamp) foreign own os) x fit in
+      fit_first origin own foreign _ _ x fit in
       let d : DeskState = work_of peer t.pair.busy stamp o (desk_of t.pair t.listening) in
       let next : order_taken peer stamp o t ≡ with_desk t d = ready_when peer stamp o t joint.0 ready in
       let one : HasEnd origin own foreign (order_taken peer stamp o t).pair (all_taken (mark_in (origin stamp) foreign own o) x) =
@@ -75,7 +75,7 @@ module _ (origin : ℕ → ℕ) (own foreign : ℕ) where
 
   answered_other : (peer : Host) (kind : Answer) (link : ℕ) (t : TurnState) → t.notices ≡ [] → AreOther origin own foreign (answered_turn peer kind link t).notices
   answered_other peer answer.Rfnm link t e = λ told. ap (λ (ns : List Notice). with_openings origin own foreign (ns ++ []) told) e
-  answered_other peer kind link t e = failing peer (record t { pair = freed link t.pair }) e
+  answered_other peer kind link t e = failing peer _ e
 
   -- ---- a host
 
@@ -94,25 +94,25 @@ module _ (origin : ℕ → ℕ) (own foreign : ℕ) where
       → AreAmong told lives → AreAmong (with_openings origin own foreign (accepted s (inbound.Message m) stamp).1 told) (all_lives_taken (marks_in (origin stamp) foreign own (orders_of m.text)) x lives)
   message_tells s m stamp x told lives mine zero ready joint free fit h k =
       subst (λ (ns : List Notice). AreAmong (with_openings origin own foreign ns told) (all_lives_taken (marks_in (origin stamp) foreign own (orders_of m.text)) x lives)) (sym (control_notices s m stamp mine zero))
-      (orders_tell m.flow.source stamp (orders_of m.text) (turn_of s m.flow.source) x lives joint free fit ready h told k)
+      (orders_tell m.flow.source stamp _ _ x lives joint free fit ready h told k)
 
   -- what isn't heard, an RST and an RRP report no opening
   pub idle_other : (s : NcpState) (m : HostMessage) (stamp : ℕ) → same_host s.own m.flow.destination ≡ true → (m.flow.link.0 == 0) ≡ true → is_ready (pair_with m.flow.source s.peers).phase ≡ false → AreJoint (orders_of m.text)
       → (told : List Life) → with_openings origin own foreign (accepted s (inbound.Message m) stamp).1 told ≡ told
   idle_other s m stamp mine zero idle joint told =
-      ap (λ (ns : List Notice). with_openings origin own foreign ns told) (control_notices s m stamp mine zero ∙ ap (λ (t : TurnState). t.notices) (orders_idle m.flow.source stamp (orders_of m.text) (turn_of s m.flow.source) joint idle))
+      ap (λ (ns : List Notice). with_openings origin own foreign ns told) (control_notices s m stamp mine zero ∙ ap (λ (t : TurnState). t.notices) (orders_idle _ stamp _ _ joint idle))
 
   pub rst_other : (s : NcpState) (m : HostMessage) (stamp : ℕ) → same_host s.own m.flow.destination ≡ true → (m.flow.link.0 == 0) ≡ true → orders_of m.text ≡ Legal command.Rst ∷ []
       → (told : List Life) → with_openings origin own foreign (accepted s (inbound.Message m) stamp).1 told ≡ told
   rst_other s m stamp mine zero is told =
       ap (λ (ns : List Notice). with_openings origin own foreign ns told) (control_notices s m stamp mine zero ∙ ap (λ (os : List Order). (orders_taken m.flow.source stamp os (turn_of s m.flow.source)).notices) is)
-      ∙ reset_other m.flow.source (pair_with m.flow.source s.peers).phase told
+      ∙ reset_other m.flow.source _ told
 
   pub rrp_other : (s : NcpState) (m : HostMessage) (stamp : ℕ) → same_host s.own m.flow.destination ≡ true → (m.flow.link.0 == 0) ≡ true → orders_of m.text ≡ Legal command.Rrp ∷ []
       → (told : List Life) → with_openings origin own foreign (accepted s (inbound.Message m) stamp).1 told ≡ told
   rrp_other s m stamp mine zero is told =
       ap (λ (ns : List Notice). with_openings origin own foreign ns told) (control_notices s m stamp mine zero ∙ ap (λ (os : List Order). (orders_taken m.flow.source stamp os (turn_of s m.flow.source)).notices) is)
-      ∙ reply_other m.flow.source (pair_with m.flow.source s.peers).phase told
+      ∙ reply_other m.flow.source _ told
 
   -- nor do data
   data_step : (link : ℕ) (text : List Bool) (t : TurnState) (lives : List Life) → t.notices ≡ [] → Tells origin own foreign [] (if_ready (data_taken link text) t).notices lives lives
@@ -131,13 +131,13 @@ module _ (origin : ℕ → ℕ) (own foreign : ℕ) where
   -- nor does an answer
   answer_step : (s : NcpState) (kind : Answer) (f : Flow) (b c : Bool) → same_host s.own f.source ≡ b → is_busy (pair_with f.destination s.peers).busy f.link.0 ≡ c
       → (told : List Life) → with_openings origin own foreign (accepted_answer s kind f).1 told ≡ told
-  answer_step s kind f true true e g told = rw (e, g) (answered_other f.destination kind f.link.0 (turn_of s f.destination) refl told)
+  answer_step s kind f true true e g told = rw (e, g) (answered_other f.destination kind _ _ refl told)
   answer_step s kind f true false e g told = rw (e, g) refl
   answer_step s kind f false c e g told = rw e refl
 
   pub answer_other : (s : NcpState) (kind : Answer) (f : Flow) (stamp : ℕ) (told : List Life) → with_openings origin own foreign (accepted s (inbound.Answer kind f) stamp).1 told ≡ told
   unfolding accepted
-  answer_other s kind f stamp told = answer_step s kind f (same_host s.own f.source) (is_busy (pair_with f.destination s.peers).busy f.link.0) refl refl told
+  answer_other s kind f stamp told = answer_step s kind f _ _ refl refl told
 
   -- nor does what a user asks for
   contact_other : (peer : Host) (b : Bool) (told : List Life) → with_openings origin own foreign (if b then notice.PairReset peer ∷ [] else []) told ≡ told
@@ -146,7 +146,7 @@ module _ (origin : ℕ → ℕ) (own foreign : ℕ) where
 
   pub request_other : (s : NcpState) (r : Request) (told : List Life) → with_openings origin own foreign (served_notices s r) told ≡ told
   unfolding served_notices
-  request_other s (request.Contact peer) told = contact_other peer (is_ready (pair_with peer s.peers).phase) told
+  request_other s (request.Contact peer) told = contact_other peer _ told
   request_other s r told = refl
 
   -- what goes out
@@ -161,4 +161,4 @@ module _ (origin : ℕ → ℕ) (own foreign : ℕ) where
       → AreAmong told lives → AreAmong (with_openings origin own foreign (offered s stamp).1 told) (all_lives_gone (marks stamp own foreign (commands_of g.pair p)) x lives)
   unfolding offered
   offer_tells s stamp g p x told lives order is h k =
-      rw is (parcel_tells stamp g.host s.listening g.pair p x lives (subst (λ (q : PairState). HasEnd origin own foreign q x) (next_pair s.peers g p order is) h) told k)
+      rw is (parcel_tells stamp g.host _ g.pair p x lives (subst (λ (q : PairState). HasEnd origin own foreign q x) (next_pair _ g p order is) h) told k)

@@ -1,5 +1,5 @@
 -- What comes in, at one pair of sockets: the orders of a message, an RST, an RRP, data, and answers.
-use Rattle.host_keeps_pairing.proofs.Common.{◌≡◌, ℕ, Bool, true, false, not, ◌||◌, ◌==◌, if◌then◌else◌, List, [], ◌∷◌, ◌++◌, refl, ap, sym, subst, ◌∙◌, Host, Answer, Command, End, nothing, mark_taken, Mark, TurnState, if_ready, with_desk, order_taken, orders_taken, freed, settled_turn, failed_by, failed, is_gone, answered_turn, Order, Legal, Wrong, error, data_taken, PairState, DeskState, desk_of, command_queued, is_ready, Phase, AllFit, mark_in, mark_of, marks_in, HasEnd, kept_in, AreFree, AreJoint}
+use Rattle.host_keeps_pairing.proofs.Common.{◌≡◌, ℕ, Bool, true, false, not, ◌||◌, ◌==◌, if◌then◌else◌, List, [], ◌∷◌, ◌++◌, refl, ap, sym, subst, ◌∙◌, Host, Answer, Command, End, nothing, mark_taken, Mark, TurnState, if_ready, with_desk, order_taken, orders_taken, freed, settled_turn, failed_by, failed, is_gone, answered_turn, Order, Legal, Wrong, error, data_taken, PairState, DeskState, desk_of, command_queued, is_ready, Phase, AllFit, mark_in, marks_in, HasEnd, kept_in, AreFree, AreJoint}
 use Rattle.interface.specs.declared.crossing.Answer.TheVariants as answer
 use Rattle.ncp_control.specs.Command.{is_alone}
 use Rattle.ncp_control.specs.declared.command.Command.TheVariants as command
@@ -64,7 +64,7 @@ module _ (origin : ℕ → ℕ) (own foreign : ℕ) where
   pub one_order : (peer : Host) (stamp : ℕ) (o : Order) (t : TurnState) (x : End) → IsJoint o → IsFreeIn o t → AllFit (mark_in (origin stamp) foreign own o) x → is_ready t.pair.phase ≡ true → HasEnd origin own foreign t.pair x
       → HasEnd origin own foreign (with_desk t (work_of peer t.pair.busy stamp o (desk_of t.pair t.listening))).pair (all_taken (mark_in (origin stamp) foreign own o) x)
   one_order peer stamp (Legal c) t x joint free fit ready h =
-      done t (commands.desk_taken peer t.pair.busy stamp c (desk_of t.pair t.listening)) (all_taken (mark_of (origin stamp) foreign own c) x) ready
+      done t (commands.desk_taken peer t.pair.busy stamp c (desk_of t.pair t.listening)) _ ready
       (λ place. on_taken origin own foreign place peer t.pair.busy stamp c (desk_of t.pair t.listening) x free fit (h.ends place))
   one_order peer stamp (Wrong code octets) t x joint free fit ready h =
       done t (command_queued (error code octets) (desk_of t.pair t.listening)) x ready (λ place. on_queued origin own foreign place true (error code octets) (desk_of t.pair t.listening) x refl (h.ends place))
@@ -82,7 +82,7 @@ module _ (origin : ℕ → ℕ) (own foreign : ℕ) where
   orders_ready peer stamp [] t x joint free fit ready h = h
   orders_ready peer stamp (o ∷ os) t x joint free fit ready h =
       let parts : AllFit (mark_in (origin stamp) foreign own o) x × AllFit (marks_in (origin stamp) foreign own os) (all_taken (mark_in (origin stamp) foreign own o) x) =
-      fit_first (mark_in (origin stamp) foreign own o) (marks_in (origin stamp) foreign own os) x fit in
+      fit_first _ _ x fit in
       let next : order_taken peer stamp o t ≡ with_desk t (work_of peer t.pair.busy stamp o (desk_of t.pair t.listening)) = ready_when peer stamp o t joint.0 ready in
       let one : HasEnd origin own foreign (order_taken peer stamp o t).pair (all_taken (mark_in (origin stamp) foreign own o) x) =
       subst (λ (u : TurnState). HasEnd origin own foreign u.pair (all_taken (mark_in (origin stamp) foreign own o) x)) (sym next) (one_order peer stamp o t x joint.0 free.0 parts.0 ready h) in
@@ -96,7 +96,7 @@ module _ (origin : ℕ → ℕ) (own foreign : ℕ) where
   after_reset peer t = record { ends = λ place. (refl, refl); idle = λ e. refl }
 
   pub after_reply : (peer : Host) (t : TurnState) (x : End) → HasEnd origin own foreign t.pair x → HasEnd origin own foreign (reply_taken peer t).pair x
-  after_reply peer t x h = record { ends = h.ends; idle = λ e. h.idle (reply_idle t.pair.phase e) }
+  after_reply peer t x h = record { ends = h.ends; idle = λ e. h.idle (reply_idle _ e) }
 
   pub after_data : (link : ℕ) (text : List Bool) (t : TurnState) (x : End) → HasEnd origin own foreign t.pair x → HasEnd origin own foreign (if_ready (data_taken link text) t).pair x
   after_data link text t x h = by (is_ready t.pair.phase) refl where
@@ -124,11 +124,11 @@ module _ (origin : ℕ → ℕ) (own foreign : ℕ) where
   after_failed peer t x h = by (is_gone t.pair.phase || not t.pair.owed) where
     by : (b : Bool) → HasEnd origin own foreign (if b then failed_by peer t.pair.phase t else settled_turn t).pair (kept_in (if b then failed_by peer t.pair.phase t else settled_turn t).pair x)
     by true = fails peer t.pair.phase t x refl h
-    by false = same_kept (settled_turn t).pair x (after_settled t x h)
+    by false = same_kept _ x (after_settled t x h)
 
   pub after_answer : (peer : Host) (kind : Answer) (link : ℕ) (t : TurnState) (x : End) → HasEnd origin own foreign t.pair x
       → HasEnd origin own foreign (answered_turn peer kind link t).pair (kept_in (answered_turn peer kind link t).pair x)
   after_answer peer answer.Rfnm link t x h =
-      same_kept (answered_turn peer answer.Rfnm link t).pair x
-      (after_settled (record t { pair = record (freed link t.pair) { phase = if link == 0 then taken_phase t.pair.phase else t.pair.phase } }) x (record { ends = h.ends; idle = λ e. h.idle (rfnm_idle (link == 0) t.pair.phase e) }))
-  after_answer peer kind link t x h = after_failed peer (record t { pair = freed link t.pair }) x (record { ends = h.ends; idle = h.idle })
+      same_kept _ x
+      (after_settled (record t { pair = record (freed link t.pair) { phase = if link == 0 then taken_phase t.pair.phase else t.pair.phase } }) x (record { ends = h.ends; idle = λ e. h.idle (rfnm_idle _ _ e) }))
+  after_answer peer kind link t x h = after_failed peer _ x (record { ends = h.ends; idle = h.idle })
