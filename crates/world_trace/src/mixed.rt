@@ -124,9 +124,7 @@ pub(crate) fn trace_mixed_event<C: Inspect, W: Output>(
     ensures failed { TellsCannotWrite result (W.failed writer.new) }
 {
     match event {
-        WorldEvent::Calm(rounds) => {
-            trace_calm(alloc, world, spot, rounds, known, notes, writer)
-        }
+        WorldEvent::Calm(rounds) => { trace_calm(alloc, world, spot, rounds, known, notes, writer) }
         WorldEvent::Happen(event) => {
             trace_mixed(alloc, world, spot, event, known, notes, writer)
         }
