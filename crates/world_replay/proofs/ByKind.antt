@@ -3,14 +3,15 @@ use Rattle.world_replay.proofs.Common.{◌≡◌, ℕ, ◌+◌, ◌-◌, ◌<◌
 use Rattle.world_replay.proofs.Common.{Option, None, Some, Result, Ok, Err, refl, ap, ap₂, sym, subst, ◌∙◌, arith}
 use Rattle.world_replay.proofs.Common.{append-nil, Appends, Appends-nil, Appends-trans, Detail, Gains, Writes, output}
 use Rattle.world_replay.proofs.Common.{EventEnds, WorldFault, gained, HappensBy, StopsBy, shown_refusal, stops}
-use Rattle.world_replay.proofs.Common.{IsReplayable}
+use Rattle.world_replay.proofs.Common.{Calm, IsReplayable, WorldEvent}
+use Rattle.world_script.specs.declared.event.WorldEvent.TheVariants.{Happen}
 use Rattle.std.proofs.Common.{OnOk}
 use Rattle.replay.proofs.lemmas.{one_written, seen_written}
 use Rattle.replay.specs.declared.events.ReplayFault.{ReplayFault}
 use Rattle.world_replay.specs.Steps.{OneEnds}
 use Rattle.std.proofs.lemmas.List.{append_assoc}
 use Rattle.replay.specs.declared.events.ReplayFault.TheVariants as fault
-use Rattle.world_replay.specs.Kinds.{BeginsAs, Kind}
+use Rattle.world_replay.specs.Kinds.{Begins, Kind, rounds_in}
 use Rattle.replay.specs.Seen.{IsSeen}
 use Rattle.world_replay.specs.Seen.{AreSeenBy, CalmHandsOn}
 use Rattle.world_replay.specs.Output.{Shown, shown_text}
@@ -25,44 +26,48 @@ whether_ok (Ok x) q = q
 whether_ok (Err e) q = tt
 
 -- one event more
-pub one_seen : {S E W : Type 0} (kind : Kind S E) (detail : Detail) (contents : W → Option (List ℕ)) (flushed : W → Bool)
-    (old mid new : S × W) (events : List E) (e : E) → AreSeenBy kind detail contents flushed old events mid
+pub one_seen : {S W : Type 0} (kind : Kind S) (detail : Detail) (contents : W → Option (List ℕ)) (flushed : W → Bool)
+    (old mid new : S × W) (events : List WorldEvent) (e : WorldEvent) → AreSeenBy kind detail contents flushed old events mid
     → Writes detail (HappensBy kind mid.0 e new.0) (contents mid.1) (contents new.1)
-    → CalmHandsOn kind detail contents flushed (kind.rounds e) mid new
+    → CalmHandsOn kind detail contents flushed (rounds_in e) mid new
     → AreSeenBy kind detail contents flushed old (events ++ e ∷ []) new
-one_seen {S} {E} {W} kind detail contents flushed old mid new events e before goes handed =
-    let Handed : S × W → E → S × W → Type 0 = λ old e new. CalmHandsOn kind detail contents flushed (kind.rounds e) old new in
+one_seen {S} {W} kind detail contents flushed old mid new events e before goes handed =
+    let Handed : S × W → WorldEvent → S × W → Type 0 = λ old e new. CalmHandsOn kind detail contents flushed (rounds_in e) old new in
     let seen = seen_written (HappensBy kind) (shown_text detail) contents Handed mid e new goes handed in
     let both = one_written (IsSeen (HappensBy kind) (shown_text detail) contents Handed) (λ s. []) old mid new events e None None None
     (record { shown = before.0; is_shown = before.1; written = tt })
     (record { shown = seen.shown; is_shown = seen.is_shown; written = tt }) in
     (both.shown, both.is_shown)
 
--- this many rounds have passed, and what they showed is written
-abbrev pub HaveRounds : {S E : Type 0} → Kind S E → Detail → ℕ → S → S → Option (List ℕ) → Option (List ℕ) → Type 0
-HaveRounds kind detail zero old now a b = (now ≡ old) × Appends a b []
-HaveRounds kind detail (suc n) old now a b = Writes detail (HappensBy kind old (kind.calm (suc n)) now) a b
+is_calm : (e : WorldEvent) (n : ℕ) → rounds_in e ≡ Some n → e ≡ Calm n
+is_calm (Happen e) n has = absurd (let no : None ≡ Some n = has in cc)
+is_calm (Calm m) n has = ap Calm (let same : Some m ≡ Some n = has in cc)
 
-pub no_rounds : {S E : Type 0} (kind : Kind S E) (detail : Detail) (w : S) (a : Option (List ℕ))
+-- this many rounds have passed, and what they showed is written
+abbrev pub HaveRounds : {S : Type 0} → Kind S → Detail → ℕ → S → S → Option (List ℕ) → Option (List ℕ) → Type 0
+HaveRounds kind detail zero old now a b = (now ≡ old) × Appends a b []
+HaveRounds kind detail (suc n) old now a b = Writes detail (HappensBy kind old (Calm (suc n)) now) a b
+
+pub no_rounds : {S : Type 0} (kind : Kind S) (detail : Detail) (w : S) (a : Option (List ℕ))
     → HaveRounds kind detail 0 w w a a
 no_rounds kind detail w a = (refl, Appends-nil a)
 
-module _ {S E : Type 0} (kind : Kind S E) (is : IsReplayable kind) where
+module _ {S : Type 0} (kind : Kind S) (is : IsReplayable kind) where
   -- ---- an event that is printed at once
 
-  begins_as : (e : E) (o : Option ℕ) → kind.rounds e ≡ o → BeginsAs kind o e e
-  begins_as e None has = refl
-  begins_as e (Some n) has = (n, is.is_calm e n has, omega arith)
+  begins : (e : WorldEvent) → Begins e e
+  begins (Happen e) = refl
+  begins (Calm n) = (n, refl, omega arith)
 
-  pub one_is_event : (detail : Detail) (old : S) (e : E) (r : Result (Unit {0}) ReplayFault) (new : S)
+  pub one_is_event : (detail : Detail) (old : S) (e : WorldEvent) (r : Result (Unit {0}) ReplayFault) (new : S)
       (a b : Option (List ℕ))
       → OneEnds kind detail old e r new a b → EventEnds kind detail old e r new a b
   one_is_event detail old e (Ok done) new a b h = h
   one_is_event detail old e (Err fault.OutOfMemory) new a b h = h
-  one_is_event detail old e (Err fault.CannotWrite) new a b h = ([], record { processed = e; begins = begins_as e (kind.rounds e) refl; outcome = h.0; gives = h.1; unknown = refl })
+  one_is_event detail old e (Err fault.CannotWrite) new a b h = ([], record { processed = e; begins = begins e; outcome = h.0; gives = h.1; unknown = refl })
 
   -- an event ends as its printing ends
-  pub event_ends : {W : Type 0} (contents : W → Option (List ℕ)) (detail : Detail) (old : S) (e : E)
+  pub event_ends : {W : Type 0} (contents : W → Option (List ℕ)) (detail : Detail) (old : S) (e : WorldEvent)
       (answer : Result (Unit {0}) WorldFault) (new : S) (printed : Result (Unit {0}) ReplayFault)
       (crossed noticed said : ℕ) (a : Option (List ℕ)) (mid last : W)
       → kind.gives old e answer new → crossed ≡ length (kind.kept old).book.crossings → noticed ≡ length (kind.kept old).book.notices → said ≡ length (kind.kept old).book.reports
@@ -91,16 +96,16 @@ module _ {S E : Type 0} (kind : Kind S E) (is : IsReplayable kind) where
 
   -- ---- rounds, and then further ones
 
-  shown_well : (n : ℕ) (old mid : S) (first : List Shown) (h : HappensBy kind old (kind.calm n) mid first)
+  shown_well : (n : ℕ) (old mid : S) (first : List Shown) (h : HappensBy kind old (Calm n) mid first)
       → first ≡ gained h.gains
   shown_well n old mid first h = h.lines ∙ ap (λ (xs : List Shown). gained h.gains ++ xs) (ap shown_refusal (is.well n old h.outcome mid h.gives h.goes_on)) ∙ append-nil (gained h.gains)
 
   pub happens_more : (n k : ℕ) (old mid new : S) (first rest : List Shown)
-      → HappensBy kind old (kind.calm (suc n)) mid first → HappensBy kind mid (kind.calm (suc k)) new rest
-      → HappensBy kind old (kind.calm (suc n + suc k)) new (first ++ rest)
+      → HappensBy kind old (Calm (suc n)) mid first → HappensBy kind mid (Calm (suc k)) new rest
+      → HappensBy kind old (Calm (suc n + suc k)) new (first ++ rest)
   happens_more n k old mid new first rest h j =
-      let gives : kind.gives old (kind.calm (suc n + suc k)) j.outcome new = is.more n k old mid new h.outcome j.outcome h.gives h.goes_on j.gives in
-      let all : Gains (kind.kept old) (kind.kept new) = is.gains (kind.calm (suc n + suc k)) old j.outcome new gives in
+      let gives : kind.gives old (Calm (suc n + suc k)) j.outcome new = is.more n k old mid new h.outcome j.outcome h.gives h.goes_on j.gives in
+      let all : Gains (kind.kept old) (kind.kept new) = is.gains (Calm (suc n + suc k)) old j.outcome new gives in
       record {
         outcome = j.outcome;
         gives = gives;
@@ -111,11 +116,11 @@ module _ {S E : Type 0} (kind : Kind S E) (is : IsReplayable kind) where
       }
 
   stops_more : (n k : ℕ) (old mid new : S) (first rest : List Shown)
-      → HappensBy kind old (kind.calm (suc n)) mid first → StopsBy kind mid (kind.calm (suc k)) new rest
-      → StopsBy kind old (kind.calm (suc n + suc k)) new (first ++ rest)
+      → HappensBy kind old (Calm (suc n)) mid first → StopsBy kind mid (Calm (suc k)) new rest
+      → StopsBy kind old (Calm (suc n + suc k)) new (first ++ rest)
   stops_more n k old mid new first rest h j =
-      let gives : kind.gives old (kind.calm (suc n + suc k)) j.outcome new = is.more n k old mid new h.outcome j.outcome h.gives h.goes_on j.gives in
-      let all : Gains (kind.kept old) (kind.kept new) = is.gains (kind.calm (suc n + suc k)) old j.outcome new gives in
+      let gives : kind.gives old (Calm (suc n + suc k)) j.outcome new = is.more n k old mid new h.outcome j.outcome h.gives h.goes_on j.gives in
+      let all : Gains (kind.kept old) (kind.kept new) = is.gains (Calm (suc n + suc k)) old j.outcome new gives in
       record {
         outcome = j.outcome;
         gives = gives;
@@ -126,8 +131,8 @@ module _ {S E : Type 0} (kind : Kind S E) (is : IsReplayable kind) where
       }
 
   -- a world that rests shows nothing in a calm
-  rest_happens : (k : ℕ) (now : S) → kind.gives now (kind.calm k) (Ok tt) now
-      → HappensBy kind now (kind.calm k) now []
+  rest_happens : (k : ℕ) (now : S) → kind.gives now (Calm k) (Ok tt) now
+      → HappensBy kind now (Calm k) now []
   rest_happens k now gives = record {
     outcome = Ok tt;
     gives = gives;
@@ -140,11 +145,11 @@ module _ {S E : Type 0} (kind : Kind S E) (is : IsReplayable kind) where
 
   -- what is shown by further ones is written after what was shown before
   after_more : (detail : Detail) (count k : ℕ) (old now new : S) (a b c : Option (List ℕ))
-      → HaveRounds kind detail count old now a b → Writes detail (HappensBy kind now (kind.calm (suc k)) new) b c
-      → Writes detail (HappensBy kind old (kind.calm (count + suc k)) new) a c
+      → HaveRounds kind detail count old now a b → Writes detail (HappensBy kind now (Calm (suc k)) new) b c
+      → Writes detail (HappensBy kind old (Calm (count + suc k)) new) a c
   after_more detail zero k old now new a b c (same, none) w = record {
     shown = w.shown;
-    is_shown = subst (λ (n : ℕ). HappensBy kind old (kind.calm n) new w.shown) (let e : suc k ≡ 0 + suc k = omega arith in e) (subst (λ (s : S). HappensBy kind s (kind.calm (suc k)) new w.shown) same w.is_shown);
+    is_shown = subst (λ (n : ℕ). HappensBy kind old (Calm n) new w.shown) (let e : suc k ≡ 0 + suc k = omega arith in e) (subst (λ (s : S). HappensBy kind s (Calm (suc k)) new w.shown) same w.is_shown);
     written = Appends-trans a b c [] (output detail w.shown) none w.written;
   }
   after_more detail (suc n) k old now new a b c h w = record {
@@ -154,11 +159,11 @@ module _ {S E : Type 0} (kind : Kind S E) (is : IsReplayable kind) where
   }
 
   after_stops : (detail : Detail) (count k : ℕ) (old now new : S) (a b c : Option (List ℕ))
-      → HaveRounds kind detail count old now a b → Writes detail (StopsBy kind now (kind.calm (suc k)) new) b c
-      → Writes detail (StopsBy kind old (kind.calm (count + suc k)) new) a c
+      → HaveRounds kind detail count old now a b → Writes detail (StopsBy kind now (Calm (suc k)) new) b c
+      → Writes detail (StopsBy kind old (Calm (count + suc k)) new) a c
   after_stops detail zero k old now new a b c (same, none) w = record {
     shown = w.shown;
-    is_shown = subst (λ (n : ℕ). StopsBy kind old (kind.calm n) new w.shown) (let e : suc k ≡ 0 + suc k = omega arith in e) (subst (λ (s : S). StopsBy kind s (kind.calm (suc k)) new w.shown) same w.is_shown);
+    is_shown = subst (λ (n : ℕ). StopsBy kind old (Calm n) new w.shown) (let e : suc k ≡ 0 + suc k = omega arith in e) (subst (λ (s : S). StopsBy kind s (Calm (suc k)) new w.shown) same w.is_shown);
     written = Appends-trans a b c [] (output detail w.shown) none w.written;
   }
   after_stops detail (suc n) k old now new a b c h w = record {
@@ -168,43 +173,43 @@ module _ {S E : Type 0} (kind : Kind S E) (is : IsReplayable kind) where
   }
 
   after_gives : (detail : Detail) (count k : ℕ) (old now new : S) (q : Result (Unit {0}) WorldFault) (a b : Option (List ℕ))
-      → HaveRounds kind detail count old now a b → kind.gives now (kind.calm (suc k)) q new
-      → kind.gives old (kind.calm (count + suc k)) q new
+      → HaveRounds kind detail count old now a b → kind.gives now (Calm (suc k)) q new
+      → kind.gives old (Calm (count + suc k)) q new
   after_gives detail zero k old now new q a b (same, none) gives =
-      subst (λ (n : ℕ). kind.gives old (kind.calm n) q new) (let e : suc k ≡ 0 + suc k = omega arith in e) (subst (λ (s : S). kind.gives s (kind.calm (suc k)) q new) same gives)
+      subst (λ (n : ℕ). kind.gives old (Calm n) q new) (let e : suc k ≡ 0 + suc k = omega arith in e) (subst (λ (s : S). kind.gives s (Calm (suc k)) q new) same gives)
   after_gives detail (suc n) k old now new q a b h gives = is.more n k old now new h.is_shown.outcome q h.is_shown.gives h.is_shown.goes_on gives
 
   pub round_more : (detail : Detail) (count : ℕ) (old now mid : S) (a b c : Option (List ℕ))
-      → HaveRounds kind detail count old now a b → OneEnds kind detail now (kind.calm 1) (Ok tt) mid b c
+      → HaveRounds kind detail count old now a b → OneEnds kind detail now (Calm 1) (Ok tt) mid b c
       → HaveRounds kind detail (count + 1) old mid a c
   round_more detail count old now mid a b c h k =
       let same : count + suc 0 ≡ suc count = omega arith in
       let one : suc count ≡ count + 1 = omega arith in
-      let all : Writes detail (HappensBy kind old (kind.calm (suc count)) mid) a c = subst (λ (n : ℕ). Writes detail (HappensBy kind old (kind.calm n) mid) a c) same (after_more detail count 0 old now mid a b c h k) in
+      let all : Writes detail (HappensBy kind old (Calm (suc count)) mid) a c = subst (λ (n : ℕ). Writes detail (HappensBy kind old (Calm n) mid) a c) same (after_more detail count 0 old now mid a b c h k) in
       subst (λ (n : ℕ). HaveRounds kind detail n old mid a c) one all
 
   -- a round that is the last one, since memory ran out or a write failed
   pub round_ends_so : (detail : Detail) (count total : ℕ) (old now mid : S) (f : ReplayFault) (a b c : Option (List ℕ))
       → HaveRounds kind detail count old now a b → count < total
-      → OneEnds kind detail now (kind.calm 1) (Err f) mid b c
-      → EventEnds kind detail old (kind.calm total) (Err f) mid a c
+      → OneEnds kind detail now (Calm 1) (Err f) mid b c
+      → EventEnds kind detail old (Calm total) (Err f) mid a c
   round_ends_so detail count total old now mid fault.OutOfMemory a b c h lt k =
       let left : ℕ = total - (count + 1) in
       let same : count + suc left ≡ total = omega (arith, lt) in
       let one = k.is_shown in
-      let longer : Writes detail (StopsBy kind now (kind.calm (suc left)) mid) b c = record {
+      let longer : Writes detail (StopsBy kind now (Calm (suc left)) mid) b c = record {
         shown = k.shown;
         is_shown = record { outcome = one.outcome; gives = is.ends left now mid one.outcome one.gives one.stops; stops = one.stops; gains = one.gains; lines = one.lines };
         written = k.written;
       } in
-      subst (λ (n : ℕ). Writes detail (StopsBy kind old (kind.calm n) mid) a c) same (after_stops detail count left old now mid a b c h longer)
+      subst (λ (n : ℕ). Writes detail (StopsBy kind old (Calm n) mid) a c) same (after_stops detail count left old now mid a b c h longer)
   round_ends_so detail count total old now mid fault.CannotWrite a b c h lt k = (
     [],
     record {
-      processed = kind.calm (count + 1);
-      begins = subst (λ (o : Option ℕ). BeginsAs kind o (kind.calm total) (kind.calm (count + 1))) (sym (is.has_rounds total)) (count + 1, refl, omega (arith, lt));
+      processed = Calm (count + 1);
+      begins = (count + 1, refl, omega (arith, lt));
       outcome = k.0;
-      gives = (let one : count + suc 0 ≡ count + 1 = omega arith in subst (λ (n : ℕ). kind.gives old (kind.calm n) k.0 mid) one (after_gives detail count 0 old now mid k.0 a b h k.1));
+      gives = (let one : count + suc 0 ≡ count + 1 = omega arith in subst (λ (n : ℕ). kind.gives old (Calm n) k.0 mid) one (after_gives detail count 0 old now mid k.0 a b h k.1));
       unknown = refl;
     },
   )
@@ -212,25 +217,25 @@ module _ {S E : Type 0} (kind : Kind S E) (is : IsReplayable kind) where
   -- the end of a calm, of which the rounds that are left change nothing
   pub rounds_end : (detail : Detail) (count left total : ℕ) (old now : S) (a b : Option (List ℕ))
       → HaveRounds kind detail count old now a b → 0 < count → count + left ≡ total
-      → ((n : ℕ) → kind.gives now (kind.calm n) (Ok tt) now)
-      → EventEnds kind detail old (kind.calm total) (Ok tt) now a b
+      → ((n : ℕ) → kind.gives now (Calm n) (Ok tt) now)
+      → EventEnds kind detail old (Calm total) (Ok tt) now a b
   rounds_end detail zero left total old now a b h some sum rest = absurd (omega (arith, some))
   rounds_end detail (suc n) zero total old now a b h some sum rest =
-      let same : suc n ≡ total = omega (arith, sum) in subst (λ (m : ℕ). Writes detail (HappensBy kind old (kind.calm m) now) a b) same h
+      let same : suc n ≡ total = omega (arith, sum) in subst (λ (m : ℕ). Writes detail (HappensBy kind old (Calm m) now) a b) same h
   rounds_end detail (suc n) (suc k) total old now a b h some sum rest =
-      subst (λ (m : ℕ). Writes detail (HappensBy kind old (kind.calm m) now) a b) sum
+      subst (λ (m : ℕ). Writes detail (HappensBy kind old (Calm m) now) a b) sum
       (after_more detail (suc n) k old now now a b b h (record { shown = []; is_shown = rest_happens (suc k) now (rest (suc k)); written = Appends-nil b }))
 
   -- and of one that has passed whole
   pub all_passed : (detail : Detail) (count total : ℕ) (old now : S) (a b : Option (List ℕ))
       → HaveRounds kind detail count old now a b → 0 < count → count ≡ total
-      → EventEnds kind detail old (kind.calm total) (Ok tt) now a b
+      → EventEnds kind detail old (Calm total) (Ok tt) now a b
   all_passed detail zero total old now a b h some same = absurd (omega (arith, some))
-  all_passed detail (suc n) total old now a b h some same = subst (λ (m : ℕ). Writes detail (HappensBy kind old (kind.calm m) now) a b) same h
+  all_passed detail (suc n) total old now a b h some same = subst (λ (m : ℕ). Writes detail (HappensBy kind old (Calm m) now) a b) same h
 
   -- an event that is a calm
-  pub calm_event : (detail : Detail) (old : S) (e : E) (rounds : ℕ) (r : Result (Unit {0}) ReplayFault) (new : S)
+  pub calm_event : (detail : Detail) (old : S) (e : WorldEvent) (rounds : ℕ) (r : Result (Unit {0}) ReplayFault) (new : S)
       (a b : Option (List ℕ))
-      → kind.rounds e ≡ Some rounds → EventEnds kind detail old (kind.calm rounds) r new a b
+      → rounds_in e ≡ Some rounds → EventEnds kind detail old (Calm rounds) r new a b
       → EventEnds kind detail old e r new a b
-  calm_event detail old e rounds r new a b has h = subst (λ (x : E). EventEnds kind detail old x r new a b) (sym (is.is_calm e rounds has)) h
+  calm_event detail old e rounds r new a b has h = subst (λ (x : WorldEvent). EventEnds kind detail old x r new a b) (sym (is_calm e rounds has)) h

@@ -7,7 +7,7 @@ use Rattle.interface.specs.declared.carrier.CarrierFault.{CarrierFault}
 use Rattle.interface.specs.declared.carrier.CarrierFault.TheVariants as fault
 use Rattle.world_replay.proofs.Replays.{gains_once, same_news}
 use Rattle.world_replay.specs.Output.{Shown}
-use Rattle.world_replay.specs.Kinds.{BeginsBy}
+use Rattle.world_replay.specs.Kinds.{Begins}
 use Rattle.world_replay.specs.Replay.{EventGives}
 use Rattle.world_replay.specs.Worked.{counting}
 
@@ -82,7 +82,7 @@ one_round = record {
 -- a calm of two rounds has no third
 pub no_third : (shown : List Shown) → ¬ (MayDo counting (after 3) (Calm 2) (after 6) shown)
 no_third shown h = by h.begins where
-  by : BeginsBy (world_kind counting) (Calm 2) h.processed → ⊥
+  by : Begins (Calm 2) h.processed → ⊥
   by (fewer, is, le) =
       let gives : Calms counting fewer (after 3) h.outcome (after 6) = subst (λ (e : WorldEvent). EventGives counting (after 3) e h.outcome (after 6)) is h.gives in
       let counted : 6 ≡ 3 + fewer = calms_count fewer 3 h.outcome (after 6) gives in

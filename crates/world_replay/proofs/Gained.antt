@@ -1,7 +1,7 @@
 -- What is shown has all that a book gained, in any kind of world.
 use Rattle.world_replay.proofs.Common.{◌≡◌, ℕ, List, [], ◌∷◌, ◌++◌, length, reverse, Result, Ok, Err, refl, ap, sym}
 use Rattle.world_replay.proofs.Common.{subst, ◌∙◌, append-nil, Kept, grown_more, WorldFault, Gains, gained}
-use Rattle.world_replay.proofs.Common.{HappensBy, StopsBy, notices_of, reports_of, shown_refusal}
+use Rattle.world_replay.proofs.Common.{HappensBy, StopsBy, WorldEvent, notices_of, reports_of, shown_refusal}
 use Rattle.std.proofs.lemmas.List.{append_assoc}
 use Rattle.world_replay.specs.Kinds.{Kind, ReplaysBy, RunsOutBy}
 use Rattle.world_replay.specs.Output.{Shown, crossings_of}
@@ -55,15 +55,15 @@ refusal_gained k (Err f) =
 
 -- ---- replays
 
-module _ {S E : Type 0} (kind : Kind S E) where
-  happens_show : (old : S) (e : E) (new : S) (shown : List Shown) → HappensBy kind old e new shown
+module _ {S : Type 0} (kind : Kind S) where
+  happens_show : (old : S) (e : WorldEvent) (new : S) (shown : List Shown) → HappensBy kind old e new shown
       → HaveGains (kind.kept old) (kind.kept new) shown
   happens_show old e new shown h =
       subst (HaveGains (kind.kept old) (kind.kept new)) (sym h.lines)
       (both_gained (kind.kept old) (kind.kept new) (kind.kept new) (gained h.gains) (shown_refusal h.outcome)
       (news_gained (kind.kept old) (kind.kept new) h.gains) (refusal_gained (kind.kept new) h.outcome))
 
-  pub replays_show : (old : S) (events : List E) (new : S) (shown : List Shown) → ReplaysBy kind old events new shown
+  pub replays_show : (old : S) (events : List WorldEvent) (new : S) (shown : List Shown) → ReplaysBy kind old events new shown
       → HaveGains (kind.kept old) (kind.kept new) shown
   replays_show old [] new shown h =
       subst (λ (w : S). HaveGains (kind.kept old) (kind.kept w) shown) (sym h.0)
@@ -73,7 +73,7 @@ module _ {S E : Type 0} (kind : Kind S E) where
       (both_gained (kind.kept old) (kind.kept mid) (kind.kept new) first rest (happens_show old e mid first happens)
       (replays_show mid events new rest more))
 
-  pub stops_show : (old : S) (events : List E) (new : S) (shown : List Shown) → RunsOutBy kind old events new shown
+  pub stops_show : (old : S) (events : List WorldEvent) (new : S) (shown : List Shown) → RunsOutBy kind old events new shown
       → HaveGains (kind.kept old) (kind.kept new) shown
   stops_show old events new shown h =
       subst (HaveGains (kind.kept old) (kind.kept new)) (sym h.lines)

@@ -1,25 +1,14 @@
 -- What a replay needs of worlds, of those with strangers as well.
-use Rattle.world_replay.proofs.Common.{◌≡◌, ℕ, ◌+◌, zero, suc, Bool, true, false, List, ◌++◌, None, Some, Result, Ok, Err, refl, ap, ap₂, subst, ◌∙◌, arith, Calls, CalmGives, Calms, WorldState, stops, WorldFault, WorldEvent, Gains, MixedState, gained, mixed_kind, world_kind, IsReplayable}
-use Rattle.world_replay.specs.Kinds.{mixed_rounds}
+use Rattle.world_replay.proofs.Common.{◌≡◌, ℕ, ◌+◌, zero, suc, Bool, true, false, List, ◌++◌, Result, Ok, Err, refl, ap₂, subst, ◌∙◌, arith, Calls, CalmGives, Calms, WorldState, stops, WorldFault, Gains, MixedState, gained, mixed_kind, world_kind, IsReplayable}
 use Rattle.world_replay.specs.Output.{Shown}
-use Rattle.world_replay.specs.Replay.{rounds_in}
 use Rattle.world_replay.proofs.CalmRounds.{in_rounds, parted}
 use Rattle.world_replay.proofs.Grown.{Grew, grew_more}
 use Rattle.world_replay.proofs.Mixed.{mixed_event_gains}
 use Rattle.world_replay.proofs.Replays.{calm_grows, event_gains, gained_more, gains_once, same_news}
 use Rattle.world_replay.proofs.Rounds.{calm_one, calm_stopped, done_runs, is_false, is_true, round_ends, when_false, when_true}
-use Rattle.world_script.specs.declared.event.WorldEvent.TheVariants as event
 
 abbrev Answer : Type 0
 Answer = Result (Unit {0}) WorldFault
-
-world_calm : (e : WorldEvent) (n : ℕ) → rounds_in e ≡ Some n → e ≡ event.Calm n
-world_calm (event.Happen e) n has = absurd (let no : None ≡ Some n = has in cc)
-world_calm (event.Calm m) n has = ap event.Calm (let same : Some m ≡ Some n = has in cc)
-
-mixed_calm : (e : WorldEvent) (n : ℕ) → mixed_rounds e ≡ Some n → e ≡ event.Calm n
-mixed_calm (event.Happen e) n has = absurd (let no : None ≡ Some n = has in cc)
-mixed_calm (event.Calm m) n has = ap event.Calm (let same : Some m ≡ Some n = has in cc)
 
 module _ {C : Type 0} (calls : Calls C) where
   -- rounds in which memory lasts, and then further ones
@@ -69,8 +58,6 @@ module _ {C : Type 0} (calls : Calls C) where
 
   pub world_replayable : IsReplayable (world_kind calls)
   world_replayable = record {
-    has_rounds = λ n. refl;
-    is_calm = world_calm;
     well = λ n old r new g on. well n old r new g on;
     gains = λ e old r new h. event_gains calls e old r new h;
     more = λ n k old mid new r q g on h. more n k old mid new r q g on h;
@@ -82,8 +69,6 @@ module _ {C : Type 0} (calls : Calls C) where
 
   pub mixed_replayable : IsReplayable (mixed_kind calls)
   mixed_replayable = record {
-    has_rounds = λ n. refl;
-    is_calm = mixed_calm;
     well = λ n old r new g on. well n old.world r new.world g.0 on;
     gains = λ e old r new h. mixed_event_gains calls e old r new h;
     more = λ n k old mid new r q g on h. (more n k old.world mid.world new.world r q g.0 on h.0, h.1 ∙ g.1);

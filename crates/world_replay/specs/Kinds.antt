@@ -12,24 +12,26 @@ use Rattle.world_replay.specs.Output.{Shown, shown_refusal}
 use Rattle.world_script.specs.declared.event.WorldEvent.{WorldEvent}
 use Rattle.world_script.specs.declared.event.WorldEvent.TheVariants as script
 
--- a kind of world, with the events of its scripts, as a replay sees it
-pub record Kind (S E : Type 0) : Type 1 where
+-- a kind of world, as a replay sees it
+pub record Kind (S : Type 0) : Type 1 where
   -- what is kept of a world
   pub kept : S → Kept
   -- how one event may go: the world before, the event, whether it was refused, and the world after
-  pub gives : S → E → Result (Unit {0}) WorldFault → S → Type 0
-  -- the calm of this many rounds, and how many rounds an event has that is a calm
-  pub calm : ℕ → E
-  pub rounds : E → Option ℕ
+  pub gives : S → WorldEvent → Result (Unit {0}) WorldFault → S → Type 0
   -- the world rests
   pub rests : S → Type 0
+
+-- how many rounds an event has that is a calm
+abbrev pub rounds_in : WorldEvent → Option ℕ
+rounds_in (script.Happen e) = None
+rounds_in (script.Calm rounds) = Some rounds
 
 -- ---- events that happen
 
 -- one event happens, refused or not, and shows what its world's book gained, each notice after the crossings that were before
 -- it and each report after its notice, and then its refusal. Of a single event these are its crossings and then its notices with
 -- their reports, and of a calm those of each of its events in turn, without the refusals
-pub record HappensBy {S E : Type 0} (kind : Kind S E) (old : S) (e : E) (new : S) (shown : List Shown) : Type 0 where
+pub record HappensBy {S : Type 0} (kind : Kind S) (old : S) (e : WorldEvent) (new : S) (shown : List Shown) : Type 0 where
   pub outcome : Result (Unit {0}) WorldFault
   pub gives : kind.gives old e outcome new
   pub goes_on : stops outcome ≡ false
@@ -37,13 +39,13 @@ pub record HappensBy {S E : Type 0} (kind : Kind S E) (old : S) (e : E) (new : S
   pub lines : shown ≡ gained gains ++ shown_refusal outcome
 
 -- the events happen one after the other, and show these lines together
-abbrev pub ReplaysBy : {S E : Type 0} → Kind S E → S → List E → S → List Shown → Type 0
+abbrev pub ReplaysBy : {S : Type 0} → Kind S → S → List WorldEvent → S → List Shown → Type 0
 ReplaysBy kind old events new shown = InTurn (HappensBy kind) old events new shown
 
 -- ---- a replay that ends early, in one of its events
 
 -- memory ran out at this event: a calm shows what its world's book gained before that, and a single event nothing
-pub record StopsBy {S E : Type 0} (kind : Kind S E) (old : S) (e : E) (new : S) (shown : List Shown) : Type 0 where
+pub record StopsBy {S : Type 0} (kind : Kind S) (old : S) (e : WorldEvent) (new : S) (shown : List Shown) : Type 0 where
   pub outcome : Result (Unit {0}) WorldFault
   pub gives : kind.gives old e outcome new
   pub stops : stops outcome ≡ true
@@ -51,31 +53,28 @@ pub record StopsBy {S E : Type 0} (kind : Kind S E) (old : S) (e : E) (new : S) 
   pub lines : shown ≡ gained gains
 
 -- the first rounds of a calm of this many; any other event is whole
-abbrev pub BeginsAs : {S E : Type 0} → Kind S E → Option ℕ → E → E → Type 0
-BeginsAs kind None e first = first ≡ e
-BeginsAs kind (Some rounds) e first = (fewer : ℕ) × (first ≡ kind.calm fewer) × (fewer ≤ rounds)
-
-abbrev pub BeginsBy : {S E : Type 0} → Kind S E → E → E → Type 0
-BeginsBy kind e first = BeginsAs kind (kind.rounds e) e first
+abbrev pub Begins : WorldEvent → WorldEvent → Type 0
+Begins (script.Happen e) first = first ≡ script.Happen e
+Begins (script.Calm rounds) first = (fewer : ℕ) × (first ≡ script.Calm fewer) × (fewer ≤ rounds)
 
 -- the world processed this event, or the first rounds of a calm, and may have answered anything; how much was written of what it showed the writer
 -- only knows
-pub record MayDoBy {S E : Type 0} (kind : Kind S E) (old : S) (e : E) (new : S) (shown : List Shown) : Type 0 where
-  pub processed : E
-  pub begins : BeginsBy kind e processed
+pub record MayDoBy {S : Type 0} (kind : Kind S) (old : S) (e : WorldEvent) (new : S) (shown : List Shown) : Type 0 where
+  pub processed : WorldEvent
+  pub begins : Begins e processed
   pub outcome : Result (Unit {0}) WorldFault
   pub gives : kind.gives old processed outcome new
   pub unknown : shown ≡ []
 
 -- the events before the last one happened, the last one went as is said, and these lines were shown by then
-abbrev pub EndsBy : {S E : Type 0} → Kind S E → Happening S E Shown → S → List E → S → List Shown → Type 0
+abbrev pub EndsBy : {S : Type 0} → Kind S → Happening S WorldEvent Shown → S → List WorldEvent → S → List Shown → Type 0
 EndsBy kind Goes old events new shown = EndsInTurn (HappensBy kind) Goes old events new shown
 
 -- memory ran out at the last one, or a write failed at it
-abbrev pub RunsOutBy : {S E : Type 0} → Kind S E → S → List E → S → List Shown → Type 0
+abbrev pub RunsOutBy : {S : Type 0} → Kind S → S → List WorldEvent → S → List Shown → Type 0
 RunsOutBy kind old events new shown = EndsBy kind (StopsBy kind) old events new shown
 
-abbrev pub BreaksOffBy : {S E : Type 0} → Kind S E → S → List E → S → List Shown → Type 0
+abbrev pub BreaksOffBy : {S : Type 0} → Kind S → S → List WorldEvent → S → List Shown → Type 0
 BreaksOffBy kind old events new shown = EndsBy kind (MayDoBy kind) old events new shown
 
 -- ---- worlds with strangers
@@ -85,15 +84,9 @@ abbrev pub EventGivesAmong : {C : Type 0} → Calls C → MixedState C → World
 EventGivesAmong calls old (script.Happen e) r new = MixedStepGives calls old e r new
 EventGivesAmong calls old (script.Calm rounds) r new = MixedCalmGives calls rounds old r new
 
-abbrev pub mixed_rounds : WorldEvent → Option ℕ
-mixed_rounds (script.Happen e) = None
-mixed_rounds (script.Calm rounds) = Some rounds
-
-abbrev pub mixed_kind : {C : Type 0} → Calls C → Kind (MixedState C) WorldEvent
+abbrev pub mixed_kind : {C : Type 0} → Calls C → Kind (MixedState C)
 mixed_kind {C} calls = record {
   kept = λ (s : MixedState C). s.world.kept;
   gives = EventGivesAmong calls;
-  calm = script.Calm;
-  rounds = mixed_rounds;
   rests = λ (s : MixedState C). IsAtRest calls s.world;
 }

@@ -1,5 +1,5 @@
 -- The events of a world's script over a carrier, whatever it is made of: the worlds of `Kinds` whose hosts all run the program.
-use Rattle.std.specs.Prelude.{◌≡◌, ℕ, zero, suc, false, List, [], ◌∷◌, Option, Some, None, Result}
+use Rattle.std.specs.Prelude.{◌≡◌, ℕ, zero, suc, false, List, [], ◌∷◌, Result}
 use Rattle.net_sim.specs.Rest.{IsAtRest}
 use Rattle.net_sim.specs.World.{WorldState, StepGives, CalmGives, stops}
 use Rattle.net_sim.specs.declared.event.Event.{Event}
@@ -18,16 +18,10 @@ abbrev pub EventGives : {C : Type 0} → Calls C → WorldState C → WorldEvent
 EventGives calls old (event.Happen e) r new = StepGives calls old e r new
 EventGives calls old (event.Calm rounds) r new = CalmGives calls rounds old r new
 
-abbrev pub rounds_in : WorldEvent → Option ℕ
-rounds_in (event.Happen e) = None
-rounds_in (event.Calm rounds) = Some rounds
-
-abbrev pub world_kind : {C : Type 0} → Calls C → Kind (WorldState C) WorldEvent
+abbrev pub world_kind : {C : Type 0} → Calls C → Kind (WorldState C)
 world_kind {C} calls = record {
   kept = λ (w : WorldState C). w.kept;
   gives = EventGives calls;
-  calm = event.Calm;
-  rounds = rounds_in;
   rests = IsAtRest calls;
 }
 

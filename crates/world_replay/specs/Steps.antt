@@ -10,36 +10,35 @@ use Rattle.replay.specs.declared.print.Detail.{Detail}
 use Rattle.world_replay.specs.Gains.{Gains, gained}
 use Rattle.world_replay.specs.Kinds.{HappensBy, Kind, MayDoBy, StopsBy}
 use Rattle.world_replay.specs.Output.{Shown, Writes, output, shown_in_turn}
+use Rattle.world_script.specs.declared.event.WorldEvent.{WorldEvent}
+use Rattle.world_script.specs.declared.event.WorldEvent.TheVariants.{Calm}
 
 -- ---- what a replay needs of a kind of world
 
-pub record IsReplayable {S E : Type 0} (kind : Kind S E) : Type 0 where
-  -- the calm of this many rounds has these, and no other event has
-  pub has_rounds : (n : ℕ) → kind.rounds (kind.calm n) ≡ Some n
-  pub is_calm : (e : E) (n : ℕ) → kind.rounds e ≡ Some n → e ≡ kind.calm n
+pub record IsReplayable {S : Type 0} (kind : Kind S) : Type 0 where
   -- a calm in which memory lasts isn't refused
-  pub well : (n : ℕ) (old : S) (r : Result (Unit {0}) WorldFault) (new : S) → kind.gives old (kind.calm n) r new
+  pub well : (n : ℕ) (old : S) (r : Result (Unit {0}) WorldFault) (new : S) → kind.gives old (Calm n) r new
       → stops r ≡ false → r ≡ Ok tt
   -- the book only grows
-  pub gains : (e : E) (old : S) (r : Result (Unit {0}) WorldFault) (new : S) → kind.gives old e r new
+  pub gains : (e : WorldEvent) (old : S) (r : Result (Unit {0}) WorldFault) (new : S) → kind.gives old e r new
       → Gains (kind.kept old) (kind.kept new)
   -- rounds and then further ones are one calm, and so are their lines
   pub more :
-      (n k : ℕ) (old mid new : S) (r q : Result (Unit {0}) WorldFault) → kind.gives old (kind.calm (suc n)) r mid
-      → stops r ≡ false → kind.gives mid (kind.calm (suc k)) q new
-      → kind.gives old (kind.calm (suc n + suc k)) q new
+      (n k : ℕ) (old mid new : S) (r q : Result (Unit {0}) WorldFault) → kind.gives old (Calm (suc n)) r mid
+      → stops r ≡ false → kind.gives mid (Calm (suc k)) q new
+      → kind.gives old (Calm (suc n + suc k)) q new
   pub shows :
-      (n k : ℕ) (old mid new : S) (r q : Result (Unit {0}) WorldFault) → kind.gives old (kind.calm n) r mid
-      → kind.gives mid (kind.calm k) q new
+      (n k : ℕ) (old mid new : S) (r q : Result (Unit {0}) WorldFault) → kind.gives old (Calm n) r mid
+      → kind.gives mid (Calm k) q new
       → (g : Gains (kind.kept old) (kind.kept mid)) (h : Gains (kind.kept mid) (kind.kept new))
       (all : Gains (kind.kept old) (kind.kept new)) → gained all ≡ gained g ++ gained h
   -- a round in which memory runs out ends any longer calm
-  pub ends : (k : ℕ) (old new : S) (r : Result (Unit {0}) WorldFault) → kind.gives old (kind.calm 1) r new
-      → stops r ≡ true → kind.gives old (kind.calm (suc k)) r new
+  pub ends : (k : ℕ) (old new : S) (r : Result (Unit {0}) WorldFault) → kind.gives old (Calm 1) r new
+      → stops r ≡ true → kind.gives old (Calm (suc k)) r new
 
 -- ---- how the replay of one event may end
 
-abbrev pub EventEnds : {S E : Type 0} → Kind S E → Detail → S → E → Result (Unit {0}) ReplayFault → S
+abbrev pub EventEnds : {S : Type 0} → Kind S → Detail → S → WorldEvent → Result (Unit {0}) ReplayFault → S
     → Option (List ℕ) → Option (List ℕ) → Type 0
 EventEnds kind detail old e (Ok done) new before after = Writes detail (HappensBy kind old e new) before after
 EventEnds kind detail old e (Err fault.OutOfMemory) new before after = Writes detail (StopsBy kind old e new) before
@@ -48,7 +47,7 @@ EventEnds kind detail old e (Err fault.CannotWrite) new before after = (shown : 
     × MayDoBy kind old e new shown
 
 -- of one that is printed at once
-abbrev pub OneEnds : {S E : Type 0} → Kind S E → Detail → S → E → Result (Unit {0}) ReplayFault → S → Option (List ℕ)
+abbrev pub OneEnds : {S : Type 0} → Kind S → Detail → S → WorldEvent → Result (Unit {0}) ReplayFault → S → Option (List ℕ)
     → Option (List ℕ) → Type 0
 OneEnds kind detail old e (Ok done) new before after = Writes detail (HappensBy kind old e new) before after
 OneEnds kind detail old e (Err fault.OutOfMemory) new before after = Writes detail (StopsBy kind old e new) before after

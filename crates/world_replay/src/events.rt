@@ -6,7 +6,7 @@ ghost use Rattle.net_sim.specs.Carriers.{shown};
 ghost use Rattle.net_sim.specs.Rest.{IsAtRest};
 ghost use Rattle.net_sim.specs.World.{CalmGives};
 ghost use Rattle.replay.specs.Failing.{TellsCannotWrite};
-ghost use Rattle.world_replay.specs.Kinds.{BreaksOffBy, ReplaysBy, RunsOutBy, mixed_kind};
+ghost use Rattle.world_replay.specs.Kinds.{BreaksOffBy, ReplaysBy, RunsOutBy, mixed_kind, rounds_in};
 ghost use Rattle.world_replay.specs.Output.{Shown, Writes};
 ghost use Rattle.world_replay.specs.Replay.{EndsIn, HappensInCalm, MayDo, MayStep, Replays, StopsIn, StopsInCalm};
 ghost use Rattle.world_replay.specs.Replay.{world_kind};
@@ -204,7 +204,7 @@ fn show_turn<C: Carrier, R: Turning<C>, W: Output>(
 /// Lets each event happen in order, and prints what it shows.
 fn replay_in_turn<R: Replayed, W: Output>(
     world: &mut R,
-    events: Vec<R::Event>,
+    events: Vec<WorldEvent>,
     detail: Detail,
     writer: &mut W,
 ) -> Result<(), ReplayFault>
@@ -226,21 +226,31 @@ fn replay_in_turn<R: Replayed, W: Output>(
 /// which nothing is kept.
 fn replay_event<R: Replayed, W: Output>(
     world: &mut R,
-    event: R::Event,
+    event: WorldEvent,
     line: &mut Line,
     detail: Detail,
     writer: &mut W,
 ) -> Result<(), ReplayFault>
     requires { W.failed writer.old ≡ false }
     ensures ends { EventEnds R.kind detail world.old event result world.new (W.contents writer.old) (W.contents writer.new) }
-    ensures seen { OnOk result (CalmHandsOn R.kind detail W.contents W.flushed (R.kind.rounds event) (world.old, writer.old) (world.new, writer.new)) }
+    ensures seen { OnOk result (CalmHandsOn R.kind detail W.contents W.flushed (rounds_in event) (world.old, writer.old) (world.new, writer.new)) }
     ensures failed { TellsCannotWrite result (W.failed writer.new) }
 {
     R::is_replayable();
-    let rounds = R::rounds_of(&event);
+    let rounds = rounds_of(&event);
     match rounds {
         None | Some(0) => replay_one(world, event, line, detail, writer),
         Some(rounds) => replay_calm(world, rounds, line, detail, writer),
+    }
+}
+
+/// Returns how many rounds an event has that is a calm.
+fn rounds_of(event: &WorldEvent) -> Option<u32>
+    ensures { result ≡ rounds_in event.now }
+{
+    match event {
+        WorldEvent::Happen(_) => None,
+        WorldEvent::Calm(rounds) => Some(*rounds),
     }
 }
 
@@ -255,7 +265,7 @@ fn replay_calm<R: Replayed, W: Output>(
 ) -> Result<(), ReplayFault>
     requires some { 0 < rounds }
     requires whole { W.failed writer.old ≡ false }
-    ensures ends { EventEnds R.kind detail world.old (R.kind.calm rounds) result world.new (W.contents writer.old) (W.contents writer.new) }
+    ensures ends { EventEnds R.kind detail world.old (WorldEvent.Calm rounds) result world.new (W.contents writer.old) (W.contents writer.new) }
     ensures seen { OnOk result (CalmHandsOn R.kind detail W.contents W.flushed (Some rounds) (world.old, writer.old) (world.new, writer.new)) }
     ensures failed { TellsCannotWrite result (W.failed writer.new) }
 {
@@ -280,11 +290,11 @@ fn replay_round<R: Replayed, W: Output>(
     writer: &mut W,
 ) -> Result<(), ReplayFault>
     requires { W.failed writer.old ≡ false }
-    ensures ends { OneEnds R.kind detail world.old (R.kind.calm 1) result world.new (W.contents writer.old) (W.contents writer.new) }
+    ensures ends { OneEnds R.kind detail world.old (WorldEvent.Calm 1) result world.new (W.contents writer.old) (W.contents writer.new) }
     ensures seen { 64 ≤ passed → OnOk result (W.flushed writer.new ≡ true) }
     ensures failed { TellsCannotWrite result (W.failed writer.new) }
 {
-    replay_one(world, R::round(), line, detail, writer)?;
+    replay_one(world, WorldEvent::Calm(1), line, detail, writer)?;
     Ok(hand_on_round(passed, writer)?)
 }
 
@@ -301,7 +311,7 @@ pub fn has_calmed<C: Carrier>(world: &World<C>, before: usize) -> bool
 /// Returns whether nothing has crossed since the book had this many crossings, and the world is known to rest.
 fn rests_since<R: Replayed>(world: &R, before: usize) -> bool
     ensures crossed { result ≡ true → length (R.kind.kept world.now).book.crossings ≡ before }
-    ensures unchanged { result ≡ true → (n : ℕ) → R.kind.gives world.now (R.kind.calm n) (Ok tt) world.now }
+    ensures unchanged { result ≡ true → (n : ℕ) → R.kind.gives world.now (WorldEvent.Calm n) (Ok tt) world.now }
     ensures rest { result ≡ true → R.kind.rests world.now }
 {
     world.book().crossings().len() == before && world.rests()
@@ -310,7 +320,7 @@ fn rests_since<R: Replayed>(world: &R, before: usize) -> bool
 /// Lets one event happen, and then prints what it showed.
 fn replay_one<R: Replayed, W: Output>(
     world: &mut R,
-    event: R::Event,
+    event: WorldEvent,
     line: &mut Line,
     detail: Detail,
     writer: &mut W,

@@ -12,11 +12,8 @@ use world_script::WorldEvent;
 
 /// A world whose scripts are replayed.
 pub(crate) trait Replayed {
-    /// An event of a script.
-    type Event: Drop;
-
-    /// What is kept of it, and how its events may go.
-    ghost kind: { Kind Self Self.Event };
+    /// What is kept of it, and how the events of its scripts may go.
+    ghost kind: { Kind Self };
 
     /// Returns what happened so far.
     fn book(&self) -> Book<'_>
@@ -25,21 +22,13 @@ pub(crate) trait Replayed {
     /// Lets one event happen, or refuses it.
     ///
     /// Errors: memory runs out, or why it is refused.
-    fn happen(&mut self, event: Self::Event) -> Result<(), WorldFault>
+    fn happen(&mut self, event: WorldEvent) -> Result<(), WorldFault>
         ensures { kind.gives self.old event result self.new };
 
     /// Returns whether more rounds of a calm are known to change nothing. This takes no memory.
     fn rests(&self) -> bool
         ensures rest { result ≡ true → kind.rests self.now }
-        ensures unchanged { result ≡ true → (n : ℕ) → kind.gives self.now (kind.calm n) (Ok tt) self.now };
-
-    /// Returns how many rounds an event has that is a calm.
-    fn rounds_of(event: &Self::Event) -> Option<u32>
-        ensures { result ≡ kind.rounds event.now };
-
-    /// Returns a calm of one round.
-    fn round() -> Self::Event
-        ensures { result ≡ kind.calm 1 };
+        ensures unchanged { result ≡ true → (n : ℕ) → kind.gives self.now (WorldEvent.Calm n) (Ok tt) self.now };
 
     /// Proves what a replay needs of such worlds.
     ///
@@ -49,8 +38,6 @@ pub(crate) trait Replayed {
 }
 
 impl<C: Carrier> Replayed for World<C> {
-    type Event = WorldEvent;
-
     ghost kind = { world_kind (shown C.calls) };
 
     fn book(&self) -> Book<'_> {
@@ -68,23 +55,10 @@ impl<C: Carrier> Replayed for World<C> {
         World::rests(self)
     }
 
-    fn rounds_of(event: &WorldEvent) -> Option<u32> {
-        match event {
-            WorldEvent::Happen(_) => None,
-            WorldEvent::Calm(rounds) => Some(*rounds),
-        }
-    }
-
-    fn round() -> WorldEvent {
-        WorldEvent::Calm(1)
-    }
-
     fn is_replayable() {}
 }
 
 impl<C: Carrier> Replayed for MixedWorld<C> {
-    type Event = WorldEvent;
-
     ghost kind = { mixed_kind (shown C.calls) };
 
     fn book(&self) -> Book<'_> {
@@ -100,17 +74,6 @@ impl<C: Carrier> Replayed for MixedWorld<C> {
 
     fn rests(&self) -> bool {
         MixedWorld::rests(self)
-    }
-
-    fn rounds_of(event: &WorldEvent) -> Option<u32> {
-        match event {
-            WorldEvent::Happen(_) => None,
-            WorldEvent::Calm(rounds) => Some(*rounds),
-        }
-    }
-
-    fn round() -> WorldEvent {
-        WorldEvent::Calm(1)
     }
 
     fn is_replayable() {}

@@ -10,8 +10,7 @@ use Rattle.topology.specs.Topology.{TopologyFields}
 use Rattle.trace.specs.Traces.{WritesTrace, numbered_from}
 use Rattle.trace.specs.declared.all_parts.AllParts.{AllParts}
 use Rattle.trace.specs.declared.element.Spot.{Spot}
-use Rattle.world_replay.specs.Kinds.{mixed_rounds}
-use Rattle.world_replay.specs.Replay.{rounds_in}
+use Rattle.world_replay.specs.Kinds.{rounds_in}
 use Rattle.world_script.specs.declared.event.WorldEvent.{WorldEvent}
 use Rattle.world_trace.specs.MixedTraces.{AtSpot, TellsMixedAt, mixed_opening}
 use Rattle.world_trace.specs.Texts.{opening_text}
@@ -30,12 +29,12 @@ abbrev pub CalmHandsOn : {C W : Type 0} → Calls C → (C → AllParts) → (W 
 CalmHandsOn calls members contents flushed spot rounds old new =
     HandsOn (RoundTells calls members contents spot) (λ at. flushed at.1 ≡ true) (λ at. IsAtRest calls at.0) rounds old new
 
--- events are traced one after the other, and so handed on, in what has a world and by how many rounds they have
-abbrev pub EventsAreSeen : {C S E W : Type 0} → Calls C → (C → AllParts) → (S → WorldState C) → (E → Option ℕ)
-    → (Spot → Happening S E (List ℕ)) → (W → Option (List ℕ)) → (W → Bool) → List (ℕ × E) → S × W → S × W → Type 0
-EventsAreSeen calls members state rounds Tells contents flushed events old new =
+-- events are traced one after the other, and so handed on, in what has a world
+abbrev pub EventsAreSeen : {C S W : Type 0} → Calls C → (C → AllParts) → (S → WorldState C)
+    → (Spot → Happening S WorldEvent (List ℕ)) → (W → Option (List ℕ)) → (W → Bool) → List (ℕ × WorldEvent) → S × W → S × W → Type 0
+EventsAreSeen calls members state Tells contents flushed events old new =
     AreSeen (AtSpot Tells) (λ line. line) contents
-    (λ at e next. CalmHandsOn calls members contents flushed e.0 (rounds e.1) (state at.0, at.1) (state next.0, next.1)) old
+    (λ at e next. CalmHandsOn calls members contents flushed e.0 (rounds_in e.1) (state at.0, at.1) (state next.0, next.1)) old
     (numbered_from 1 events) new
 
 -- after the first line, in a world, and in one with strangers
@@ -43,10 +42,10 @@ abbrev pub WorldIsSeen : {C W : Type 0} → Calls C → (C → AllParts) → (W 
     → TopologyFields → List (ℕ × WorldEvent) → WorldState C × W → WorldState C × W → Type 0
 WorldIsSeen calls members contents flushed t events old new =
     SeenAfter (opening_text t (state_of members old.0)) contents
-    (EventsAreSeen calls members (λ w. w) rounds_in (TellsAt calls members) contents flushed events) old new
+    (EventsAreSeen calls members (λ w. w) (TellsAt calls members) contents flushed events) old new
 
 abbrev pub MixedIsSeen : {C W : Type 0} → Calls C → (C → AllParts) → (W → Option (List ℕ)) → (W → Bool)
     → TopologyFields → List (ℕ × WorldEvent) → MixedState C × W → MixedState C × W → Type 0
 MixedIsSeen calls members contents flushed t events old new =
     SeenAfter (mixed_opening members t old.0) contents
-    (EventsAreSeen calls members (λ s. s.world) mixed_rounds (TellsMixedAt calls members) contents flushed events) old new
+    (EventsAreSeen calls members (λ s. s.world) (TellsMixedAt calls members) contents flushed events) old new

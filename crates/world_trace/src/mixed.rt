@@ -6,7 +6,7 @@ ghost use Rattle.net_sim.specs.Carriers.{shown};
 ghost use Rattle.replay.specs.Failing.{TellsCannotWrite, TellsFailure};
 ghost use Rattle.replay.specs.declared.events.ReplayFault.TheVariants as fault;
 ghost use Rattle.script.specs.Input.{ended_line};
-ghost use Rattle.world_replay.specs.Kinds.{mixed_rounds};
+ghost use Rattle.world_replay.specs.Kinds.{rounds_in};
 ghost use Rattle.world_trace.specs.MixedSteps.{HasPassedMixed, MixedEnds, EventEndsAmong, ShowsMixed, mixed_end, mixed_hosts, mixed_reach};
 ghost use Rattle.world_trace.specs.MixedTraces.{MixedTraceFails, StopsMixed, WritesMixed, WritesMixedPart, mixed_opening};
 ghost use Rattle.world_trace.specs.Seen.{CalmHandsOn, MixedIsSeen};
@@ -119,7 +119,7 @@ pub(crate) fn trace_mixed_event<C: Inspect, W: Output>(
     requires whole { W.failed writer.old ≡ false }
     requires known { IfSome known.old (AreTextsOf C.inside.members world.old.world) }
     ensures ends { EventEndsAmong (shown C.calls) C.inside.members spot world.old event result world.new (W.contents writer.old) (W.contents writer.new) }
-    ensures seen { OnOk result (CalmHandsOn (shown C.calls) C.inside.members W.contents W.flushed spot (mixed_rounds event) (world.old.world, writer.old) (world.new.world, writer.new)) }
+    ensures seen { OnOk result (CalmHandsOn (shown C.calls) C.inside.members W.contents W.flushed spot (rounds_in event) (world.old.world, writer.old) (world.new.world, writer.new)) }
     ensures known { OnOk result (IfSome known.new (AreTextsOf C.inside.members world.new.world)) }
     ensures failed { TellsCannotWrite result (W.failed writer.new) }
 {

@@ -6,7 +6,7 @@ ghost use Rattle.replay.specs.Failing.{TellsCannotWrite};
 ghost use Rattle.replay.specs.declared.print.Detail.TheVariants.{Sizes};
 ghost use Rattle.trace.specs.Traces.{WritesTrace};
 ghost use Rattle.world_replay.specs.Output.{output};
-ghost use Rattle.world_replay.specs.Replay.{rounds_in};
+ghost use Rattle.world_replay.specs.Kinds.{rounds_in};
 ghost use Rattle.world_script.specs.declared.event.WorldEvent.TheVariants as world_event;
 ghost use Rattle.world_trace.specs.Seen.{CalmHandsOn, EventsAreSeen, WorldIsSeen};
 ghost use Rattle.world_trace.specs.Steps as step;
@@ -75,12 +75,12 @@ pub fn trace_world<C: Inspect, W: Output>(
 pub(crate) fn trace_all<C: Inspect, T: Scripted<C>, W: Output>(
     alloc: Global,
     world: &mut T,
-    events: Vec<(usize, T::Event)>,
+    events: Vec<(usize, WorldEvent)>,
     writer: &mut W,
 ) -> Result<(), ReplayFault>
     requires whole { W.failed writer.old ≡ false }
     ensures traced { OnOk result (WritesTrace (AllTell T.tells world.old events.items world.new) (W.contents writer.old) (W.contents writer.new)) }
-    ensures seen { OnOk result (EventsAreSeen (shown C.calls) C.inside.members T.state T.rounds T.tells W.contents W.flushed events.items (world.old, writer.old) (world.new, writer.new)) }
+    ensures seen { OnOk result (EventsAreSeen (shown C.calls) C.inside.members T.state T.tells W.contents W.flushed events.items (world.old, writer.old) (world.new, writer.new)) }
     ensures memory { result ≡ Err ReplayFault.OutOfMemory → WritesTrace (AllEnd T.tells T.stops world.old events.items world.new) (W.contents writer.old) (W.contents writer.new) }
     ensures failed { TellsCannotWrite result (W.failed writer.new) }
     ensures cannot_write { result ≡ Err ReplayFault.CannotWrite → (lines : List (List ℕ)) × AllEnd T.tells T.fails world.old events.items world.new lines }

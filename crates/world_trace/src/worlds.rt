@@ -9,9 +9,9 @@ ghost use Rattle.replay.specs.Failing.{TellsCannotWrite};
 ghost use Rattle.replay.specs.InTurn.{Happening};
 ghost use Rattle.replay.specs.declared.print.Detail.TheVariants.{Sizes};
 ghost use Rattle.trace.specs.declared.element.Spot.{Spot};
-ghost use Rattle.world_replay.specs.Kinds.{mixed_rounds};
+ghost use Rattle.world_replay.specs.Kinds.{rounds_in};
 ghost use Rattle.world_replay.specs.Output.{Writes};
-ghost use Rattle.world_replay.specs.Replay.{HappensInCalm, MayStep, StopsInCalm, rounds_in};
+ghost use Rattle.world_replay.specs.Replay.{HappensInCalm, MayStep, StopsInCalm};
 ghost use Rattle.world_trace.specs.MixedTraces.{MayTellMixed, MixedEndsAt, StopsMixed, TellsMixedAt};
 ghost use Rattle.world_trace.specs.Seen.{CalmHandsOn};
 ghost use Rattle.world_trace.specs.Steps.{AreTextsOf, EndsAs};
@@ -139,26 +139,20 @@ impl<C: Inspect> Traced<C> for MixedWorld<C> {
 
 /// A world whose script is traced.
 pub(crate) trait Scripted<C: Inspect>: Traced<C> {
-    /// An event of its scripts.
-    type Event: Drop;
-
-    /// How many rounds an event has, if it is a calm.
-    ghost rounds: { Self.Event → Option ℕ };
-
     /// How an event may go, which is at this spot, and which lines it has.
-    ghost tells: { Spot → Happening Self Self.Event (List ℕ) };
+    ghost tells: { Spot → Happening Self WorldEvent (List ℕ) };
 
     /// The same where memory runs out in it, and where a write fails.
-    ghost stops: { Spot → Happening Self Self.Event (List ℕ) };
+    ghost stops: { Spot → Happening Self WorldEvent (List ℕ) };
 
-    ghost fails: { Spot → Happening Self Self.Event (List ℕ) };
+    ghost fails: { Spot → Happening Self WorldEvent (List ℕ) };
 
     /// Traces one event, which is at this spot of a script. The texts of the state may be known.
     fn trace_event<W: Output>(
         &mut self,
         alloc: Global,
         spot: Spot,
-        event: Self::Event,
+        event: WorldEvent,
         known: &mut Option<Texts>,
         notes: &mut C::Notes,
         writer: &mut W,
@@ -166,16 +160,12 @@ pub(crate) trait Scripted<C: Inspect>: Traced<C> {
         requires whole { W.failed writer.old ≡ false }
         requires known { IfSome known.old (AreTextsOf C.inside.members (Self.state self.old)) }
         ensures ends { EndsAs (tells spot) (stops spot) (fails spot) self.old event result self.new (W.contents writer.old) (W.contents writer.new) }
-        ensures seen { OnOk result (CalmHandsOn (shown C.calls) C.inside.members W.contents W.flushed spot (rounds event) (Self.state self.old, writer.old) (Self.state self.new, writer.new)) }
+        ensures seen { OnOk result (CalmHandsOn (shown C.calls) C.inside.members W.contents W.flushed spot (rounds_in event) (Self.state self.old, writer.old) (Self.state self.new, writer.new)) }
         ensures known { OnOk result (IfSome known.new (AreTextsOf C.inside.members (Self.state self.new))) }
         ensures failed { TellsCannotWrite result (W.failed writer.new) };
 }
 
 impl<C: Inspect> Scripted<C> for World<C> {
-    type Event = WorldEvent;
-
-    ghost rounds = { rounds_in };
-
     ghost tells = { TellsAt (shown C.calls) C.inside.members };
 
     ghost stops = { EndsAt (shown C.calls) C.inside.members (StopsOne (shown C.calls)) };
@@ -196,10 +186,6 @@ impl<C: Inspect> Scripted<C> for World<C> {
 }
 
 impl<C: Inspect> Scripted<C> for MixedWorld<C> {
-    type Event = WorldEvent;
-
-    ghost rounds = { mixed_rounds };
-
     ghost tells = { TellsMixedAt (shown C.calls) C.inside.members };
 
     ghost stops = { MixedEndsAt (shown C.calls) C.inside.members (StopsOne (shown C.calls)) (StopsMixed (shown C.calls)) };

@@ -2,12 +2,13 @@
 use Rattle.world_trace.proofs.Common.{◌≡◌, inl, inr, refl, ℕ, zero, suc, ◌+◌, ◌<◌, ◌≤◌, Bool, true, false, List, []}
 use Rattle.world_trace.proofs.Common.{◌∷◌, ◌++◌, Option, Ok, Err, arith, sym, subst, Calls, WorldState, Event, Host}
 use Rattle.world_trace.proofs.Common.{Happening, Again, Repeated, crosses, flat_map, up_in, WritesTrace, Spot}
-use Rattle.world_trace.proofs.Common.{numbered_from, RoundEnds, MayTell, TellsInCalm, TellsRound, AllParts}
+use Rattle.world_trace.proofs.Common.{numbered_from, RoundEnds, MayTell, TellsInCalm, TellsRound, AllParts, WorldEvent}
 use Rattle.std.proofs.Common.{add-one}
 use Rattle.std.specs.Bool.{MatchBool}
 use Rattle.replay.proofs.lemmas.{Each, ends_last, one_round_seen, seen_written}
 use Rattle.replay.specs.Seen.{IsSeen, RoundsPass}
 use Rattle.replay.specs.declared.events.ReplayFault.TheVariants as fault
+use Rattle.world_replay.specs.Kinds.{rounds_in}
 use Rattle.world_replay.specs.Rounds.{EndsAgain, EndsRepeated, turn_of}
 use Rattle.world_trace.specs.MixedTraces.{AtSpot}
 use Rattle.world_trace.specs.Seen.{CalmHandsOn, EventsAreSeen, RoundTells}
@@ -68,26 +69,26 @@ module _ {C : Type 0} (calls : Calls C) (members : C → AllParts) (spot : Spot)
 
 -- ---- the events of a script
 
-module _ {C S E W : Type 0} (calls : Calls C) (members : C → AllParts) (state : S → WorldState C) (rounds : E → Option ℕ)
-    (Tells : Spot → Happening S E (List ℕ)) (contents : W → Option (List ℕ)) (flushed : W → Bool) where
-  abbrev pub Handed : S × W → Spot × E → S × W → Type 0
-  Handed at e next = CalmHandsOn calls members contents flushed e.0 (rounds e.1) (state at.0, at.1) (state next.0, next.1)
+module _ {C S W : Type 0} (calls : Calls C) (members : C → AllParts) (state : S → WorldState C)
+    (Tells : Spot → Happening S WorldEvent (List ℕ)) (contents : W → Option (List ℕ)) (flushed : W → Bool) where
+  abbrev pub Handed : S × W → Spot × WorldEvent → S × W → Type 0
+  Handed at e next = CalmHandsOn calls members contents flushed e.0 (rounds_in e.1) (state at.0, at.1) (state next.0, next.1)
 
   -- the first ones are traced and handed on
-  abbrev pub SeenSoFar : S × W → List (Spot × E) → List (Spot × E) → S × W → Type 0
+  abbrev pub SeenSoFar : S × W → List (Spot × WorldEvent) → List (Spot × WorldEvent) → S × W → Type 0
   SeenSoFar old all left now =
       SoFar (IsSeen (AtSpot Tells) (λ line. line) contents Handed) old all left now (contents old.1) (contents now.1)
 
-  pub event_seen : (old mid new : S × W) (all left later : List (Spot × E)) (e : Spot × E) → left ≡ e ∷ later
+  pub event_seen : (old mid new : S × W) (all left later : List (Spot × WorldEvent)) (e : Spot × WorldEvent) → left ≡ e ∷ later
       → SeenSoFar old all left mid → WritesTrace (Tells e.0 mid.0 e.1 new.0) (contents mid.1) (contents new.1)
       → Handed mid e new → SeenSoFar old all later new
   event_seen old mid new all left later e is h goes handed =
       one_more (IsSeen (AtSpot Tells) (λ line. line) contents Handed) old mid new all left later e (contents old.1)
       (contents mid.1) (contents new.1) is h (seen_written (AtSpot Tells) (λ line. line) contents Handed mid e new goes handed)
 
-  pub events_seen : (old new : S × W) (events : List (ℕ × E)) (left : List (Spot × E)) → left ≡ []
+  pub events_seen : (old new : S × W) (events : List (ℕ × WorldEvent)) (left : List (Spot × WorldEvent)) → left ≡ []
       → SeenSoFar old (numbered_from 1 events) left new
-      → EventsAreSeen calls members state rounds Tells contents flushed events old new
+      → EventsAreSeen calls members state Tells contents flushed events old new
   events_seen old new events left none h =
       let w = all_done (IsSeen (AtSpot Tells) (λ line. line) contents Handed) old new (numbered_from 1 events) left
       (contents old.1) (contents new.1) none h in

@@ -1,4 +1,4 @@
-use Rattle.world_replay.proofs.Common.{◌≡◌, ◌+◌, ◌-◌, true, Err, inl, inr, refl, rules, subst, sym, arith, EventEnds}
+use Rattle.world_replay.proofs.Common.{◌≡◌, ◌+◌, ◌-◌, true, Err, inl, inr, refl, rules, subst, sym, arith, Calm, EventEnds}
 use Rattle.replay.proofs.lemmas.{one_round_seen}
 use Rattle.world_replay.specs.Seen.{RoundPrints}
 use Rattle.world_replay.proofs.ByKind.{all_passed, no_rounds, round_ends_so, round_more, rounds_end}
@@ -20,7 +20,7 @@ loop-passed-preserved g c = (
 pub returns-in_err-replay_round-clause-ends : goal.returns-in_err-replay_round-clause-ends
 returns-in_err-replay_round-clause-ends g c =
     let same : c.from_residual.result ≡ Err c.in_err-replay_round.field-0.0 = search rules in
-    subst (λ r. EventEnds g.R.Replayed.kind c.args.detail c.args.world.now (g.R.Replayed.kind.calm c.args.rounds) r c.replay_round.new.world (g.W.Output.contents c.args.writer.now) (g.W.Output.contents c.replay_round.new.writer)) (sym same)
+    subst (λ r. EventEnds g.R.Replayed.kind c.args.detail c.args.world.now (Calm c.args.rounds) r c.replay_round.new.world (g.W.Output.contents c.args.writer.now) (g.W.Output.contents c.replay_round.new.writer)) (sym same)
     (round_ends_so g.R.Replayed.kind c.is_replayable.ensures c.args.detail c.loop-passed.passed c.args.rounds c.args.world.now c.loop-passed.world c.replay_round.new.world c.in_err-replay_round.field-0.0 (g.W.Output.contents c.args.writer.now) (g.W.Output.contents c.loop-passed.writer) (g.W.Output.contents c.replay_round.new.writer)
     c.loop-passed.invariant.0 c.loop-passed-test.true c.in_err-replay_round.ensures.ends)
 

@@ -20,11 +20,11 @@ loop-line-init g c =
           (g.W.Output.contents c.args.writer.now)),
       c.requires.whole,
       tt,
-      subst (λ left. SeenSoFar (shown g.C.Carrier.calls) g.C.Inspect.inside.members g.T.Traced.state g.T.Scripted.rounds g.T.Scripted.tells
+      subst (λ left. SeenSoFar (shown g.C.Carrier.calls) g.C.Inspect.inside.members g.T.Traced.state g.T.Scripted.tells
           g.W.Output.contents g.W.Output.flushed (c.args.world.now, c.args.writer.now)
           (numbered_from 1 c.args.events.items) (numbered_from 1 left) (c.args.world.now, c.args.writer.now)) (sym gives)
           (none_yet (IsSeen (AtSpot g.T.Scripted.tells) (λ line. line) g.W.Output.contents
-          (Handed (shown g.C.Carrier.calls) g.C.Inspect.inside.members g.T.Traced.state g.T.Scripted.rounds g.T.Scripted.tells
+          (Handed (shown g.C.Carrier.calls) g.C.Inspect.inside.members g.T.Traced.state g.T.Scripted.tells
           g.W.Output.contents g.W.Output.flushed))
           (c.args.world.now, c.args.writer.now) (numbered_from 1 c.args.events.items)
           (g.W.Output.contents c.args.writer.now)),
@@ -46,7 +46,7 @@ loop-line-preserved g c =
           c.loop-line.invariant.1 c.in_ok-trace_event.ensures.ends,
       c.in_ok-trace_event.ensures.failed,
       c.in_ok-trace_event.ensures.known,
-      event_seen (shown g.C.Carrier.calls) g.C.Inspect.inside.members g.T.Traced.state g.T.Scripted.rounds g.T.Scripted.tells
+      event_seen (shown g.C.Carrier.calls) g.C.Inspect.inside.members g.T.Traced.state g.T.Scripted.tells
           g.W.Output.contents g.W.Output.flushed (c.args.world.now, c.args.writer.now)
           (c.loop-line.world, c.loop-line.writer) (c.trace_event.new.self, c.trace_event.new.writer) all
           (numbered_from (i + 1) left) (numbered_from (i + 1 + 1) later) (at_place i (c.in-Some.line, c.in-Some.event))
@@ -67,7 +67,7 @@ pub returns-clause-seen : goal.returns-clause-seen
 returns-clause-seen g c =
     let count : length c.loop-line.line-iterator.rest.items ≡ 0 = search rules in
     let none : c.loop-line.line-iterator.rest.items ≡ [] = none_left c.loop-line.line-iterator.rest.items count in
-    events_seen (shown g.C.Carrier.calls) g.C.Inspect.inside.members g.T.Traced.state g.T.Scripted.rounds g.T.Scripted.tells
+    events_seen (shown g.C.Carrier.calls) g.C.Inspect.inside.members g.T.Traced.state g.T.Scripted.tells
     g.W.Output.contents g.W.Output.flushed (c.args.world.now, c.args.writer.now) (c.loop-line.world, c.loop-line.writer)
     c.args.events.items (numbered_from (c.loop-line.passed + 1) c.loop-line.line-iterator.rest.items)
     (ap (numbered_from (c.loop-line.passed + 1)) none) c.loop-line.invariant.4

@@ -14,6 +14,6 @@ invariant-loop-line g l =
     (g.W.Output.contents l.fn.writer) (g.W.Output.contents l.writer)
     × (g.W.Output.failed l.writer ≡ false)
     × IfSome l.known (AreTextsOf g.C.Inspect.inside.members (g.T.Traced.state l.world))
-    × SeenSoFar (shown g.C.Carrier.calls) g.C.Inspect.inside.members g.T.Traced.state g.T.Scripted.rounds
+    × SeenSoFar (shown g.C.Carrier.calls) g.C.Inspect.inside.members g.T.Traced.state
     g.T.Scripted.tells g.W.Output.contents g.W.Output.flushed (l.fn.world, l.fn.writer)
     (numbered_from 1 l.fn.events.items) (numbered_from (l.passed + 1) left) (l.world, l.writer)
