@@ -1,6 +1,7 @@
 -- Events of a world as lines: a first word, and what follows it.
-use Rattle.std.proofs.Common.{arith, ◌≡◌, ◌≢◌, ℕ, Bool, true, false, List, [], ◌∷◌, ◌++◌, codes, Some, None, refl, sym, ap, ◌∙◌, subst, if◌then◌else◌}
+use Rattle.std.proofs.Common.{arith, ◌≡◌, ◌≢◌, ℕ, Bool, true, false, List, [], ◌∷◌, ◌++◌, codes, Option, Some, None, Result, IfOk, refl, sym, ap, ◌∙◌, subst, if◌then◌else◌}
 use Rattle.std.proofs.lemmas.Bool.{false≢true}
+use Rattle.std.proofs.lemmas.Result.{IfOk-weaker}
 use Rattle.std.specs.Fmt.{decimal}
 use Rattle.std.specs.List.{list_all}
 use Rattle.std.specs.Str.{bytes_eq}
@@ -17,7 +18,7 @@ use Rattle.script.proofs.lemmas.{SameCut, keyword, made, operand, plain, same_cu
 use Rattle.terminal.specs.Lines.{is_printable, line_fault}
 use Rattle.terminal.specs.declared.fault.TerminalFault.{TerminalFault}
 use Rattle.terminal.specs.declared.fault.TerminalFault.TheVariants as fault
-use Rattle.world_script.specs.Steps.{AreTwo, IsVerb, ReadsRequest, arguments, two_text, verb_of, verb_text}
+use Rattle.world_script.specs.Steps.{AreTwo, IsVerb, ReadsAnywhere, ReadsRequest, arguments, two_text, verb_of, verb_text}
 use Rattle.world_script.specs.WorldSpelling.{IsWorldEvent, world_spelling}
 use Rattle.world_script.specs.declared.event.WorldEvent.{WorldEvent}
 use Rattle.world_script.specs.declared.event.WorldEvent.TheVariants as world
@@ -52,32 +53,37 @@ behind (world.Happen (event.Typed h text)) = host_text h ++ 32 ∷ text
 behind (world.Happen (event.Out m)) = message_text m
 behind (world.Calm n) = decimal n
 
-pub spelled_event : {strangers : Bool} (x : WorldEvent) → IsWorldEvent strangers x → world_spelling x ≡ first x ++ 32 ∷ behind x
-spelled_event (world.Happen (event.Net e)) meant = spelled (raw.Net e)
-spelled_event (world.Happen event.Quiet) meant = absurd meant
-spelled_event (world.Happen (event.Ask h r)) meant = spelled_request h r
-spelled_event (world.Happen c) meant = refl
-spelled_event (world.Calm n) meant = refl
+pub spelled_event : (strangers : Bool) (x : WorldEvent) → IsWorldEvent strangers x → world_spelling x ≡ first x ++ 32 ∷ behind x
+spelled_event strangers (world.Happen (event.Net e)) meant = spelled (raw.Net e)
+spelled_event strangers (world.Happen event.Quiet) meant = absurd meant
+spelled_event strangers (world.Happen (event.Ask h r)) meant = spelled_request h r
+spelled_event strangers (world.Happen c) meant = refl
+spelled_event strangers (world.Calm n) meant = refl
 
-pub first_unmarked : {strangers : Bool} (x : WorldEvent) → IsWorldEvent strangers x → Lacks 32 (first x)
-first_unmarked (world.Happen (event.Net e)) meant = unmarked_where 32 (keyword (raw.Net e)) (plain (raw.Net e))
-first_unmarked (world.Happen event.Quiet) meant = absurd meant
-first_unmarked (world.Happen (event.Out m)) meant = unmarked_where 32 (codes "out") refl
-first_unmarked (world.Happen (event.Offer h)) meant = unmarked_where 32 (codes "offer") refl
-first_unmarked (world.Happen (event.Take h)) meant = unmarked_where 32 (codes "take") refl
-first_unmarked (world.Happen (event.Ask h r)) meant = verb_unmarked (verb_of r)
-first_unmarked (world.Happen (event.Server h l s)) meant = unmarked_where 32 (codes "server") refl
-first_unmarked (world.Happen (event.User h p l u)) meant = unmarked_where 32 (codes "user") refl
-first_unmarked (world.Happen (event.Typed h text)) meant = unmarked_where 32 (codes "type") refl
-first_unmarked (world.Calm n) meant = unmarked_where 32 (codes "calm") refl
+pub first_unmarked : (strangers : Bool) (x : WorldEvent) → IsWorldEvent strangers x → Lacks 32 (first x)
+first_unmarked strangers (world.Happen (event.Net e)) meant = unmarked_where 32 (keyword (raw.Net e)) (plain (raw.Net e))
+first_unmarked strangers (world.Happen event.Quiet) meant = absurd meant
+first_unmarked strangers (world.Happen (event.Out m)) meant = unmarked_where 32 (codes "out") refl
+first_unmarked strangers (world.Happen (event.Offer h)) meant = unmarked_where 32 (codes "offer") refl
+first_unmarked strangers (world.Happen (event.Take h)) meant = unmarked_where 32 (codes "take") refl
+first_unmarked strangers (world.Happen (event.Ask h r)) meant = verb_unmarked (verb_of r)
+first_unmarked strangers (world.Happen (event.Server h l s)) meant = unmarked_where 32 (codes "server") refl
+first_unmarked strangers (world.Happen (event.User h p l u)) meant = unmarked_where 32 (codes "user") refl
+first_unmarked strangers (world.Happen (event.Typed h text)) meant = unmarked_where 32 (codes "type") refl
+first_unmarked strangers (world.Calm n) meant = unmarked_where 32 (codes "calm") refl
 
 -- a line is cut at its first space in one way
-pub cut_alike : {strangers : Bool} (word rest : List ℕ) (x : WorldEvent) → IsWorldEvent strangers x → Lacks 32 word → word ++ 32 ∷ rest ≡ world_spelling x → SameCut word rest (first x) (behind x)
-cut_alike word rest x meant h e = same_cut 32 word rest (first x) (behind x) h (first_unmarked x meant) (e ∙ spelled_event x meant)
+pub cut_alike : (strangers : Bool) (word rest : List ℕ) (x : WorldEvent) → IsWorldEvent strangers x → Lacks 32 word → word ++ 32 ∷ rest ≡ world_spelling x → SameCut word rest (first x) (behind x)
+cut_alike strangers word rest x meant h e = same_cut 32 word rest (first x) (behind x) h (first_unmarked strangers x meant) (e ∙ spelled_event strangers x meant)
 
 -- a line without a space is no event
 pub no_space : (line : List ℕ) → Lacks 32 line → (strangers : Bool) (x : WorldEvent) → IsWorldEvent strangers x → line ≢ world_spelling x
-no_space line h strangers x meant e = uncut 32 (first x) (behind x) (subst (Lacks 32) (e ∙ spelled_event x meant) h)
+no_space line h strangers x meant e = uncut 32 (first x) (behind x) (subst (Lacks 32) (e ∙ spelled_event strangers x meant) h)
+
+-- what is read wherever, is read here
+pub read_anywhere : {E : Type 0} (strangers : Bool) (line there : List ℕ) (r : Result (Option WorldEvent) E) → line ≡ there → IfOk r (ReadsAnywhere there) → IfOk r (ReadsAs world_spelling (IsWorldEvent strangers) line)
+read_anywhere strangers line there r same h =
+    subst (λ l. IfOk r (ReadsAs world_spelling (IsWorldEvent strangers) l)) (sym same) (IfOk-weaker r (ReadsAnywhere there) (ReadsAs world_spelling (IsWorldEvent strangers) there) (λ read k. k strangers) h)
 
 -- ---- what a first word begins
 
@@ -132,12 +138,12 @@ head_net : (e : NetEvent) → head_of (keyword (raw.Net e)) ≡ Nets
 head_net (net.HostDown h) = refl
 head_net e = refl
 
-pub head_again : {strangers : Bool} (x : WorldEvent) → IsWorldEvent strangers x → head_of (first x) ≡ head x
-head_again (world.Happen (event.Net e)) meant = head_net e
-head_again (world.Happen event.Quiet) meant = absurd meant
-head_again (world.Happen (event.Ask h r)) meant = head_verb (verb_of r)
-head_again (world.Happen c) meant = refl
-head_again (world.Calm n) meant = refl
+pub head_again : (strangers : Bool) (x : WorldEvent) → IsWorldEvent strangers x → head_of (first x) ≡ head x
+head_again strangers (world.Happen (event.Net e)) meant = head_net e
+head_again strangers (world.Happen event.Quiet) meant = absurd meant
+head_again strangers (world.Happen (event.Ask h r)) meant = head_verb (verb_of r)
+head_again strangers (world.Happen c) meant = refl
+head_again strangers (world.Calm n) meant = refl
 
 -- ---- the operands of a first word
 
@@ -163,32 +169,32 @@ event_at Types p = world.Happen (event.Typed p.0 p.1)
 event_at Says m = world.Happen (event.Out m)
 event_at Nets e = world.Happen (event.Net e)
 
-abbrev pub operand_at : {strangers : Bool} (x : WorldEvent) → IsWorldEvent strangers x → OperandAt (head x)
-operand_at (world.Happen (event.Net e)) meant = e
-operand_at (world.Happen event.Quiet) meant = absurd meant
-operand_at (world.Happen (event.Out m)) meant = m
-operand_at (world.Happen (event.Offer h)) meant = h
-operand_at (world.Happen (event.Take h)) meant = h
-operand_at (world.Happen (event.Ask h r)) meant = (h, requests.operand r)
-operand_at (world.Happen (event.Server h l s)) meant = (h, l, s)
-operand_at (world.Happen (event.User h p l u)) meant = (h, p, l, u)
-operand_at (world.Happen (event.Typed h text)) meant = (h, text)
-operand_at (world.Calm n) meant = n
+abbrev pub operand_at : (strangers : Bool) (x : WorldEvent) → IsWorldEvent strangers x → OperandAt (head x)
+operand_at strangers (world.Happen (event.Net e)) meant = e
+operand_at strangers (world.Happen event.Quiet) meant = absurd meant
+operand_at strangers (world.Happen (event.Out m)) meant = m
+operand_at strangers (world.Happen (event.Offer h)) meant = h
+operand_at strangers (world.Happen (event.Take h)) meant = h
+operand_at strangers (world.Happen (event.Ask h r)) meant = (h, requests.operand r)
+operand_at strangers (world.Happen (event.Server h l s)) meant = (h, l, s)
+operand_at strangers (world.Happen (event.User h p l u)) meant = (h, p, l, u)
+operand_at strangers (world.Happen (event.Typed h text)) meant = (h, text)
+operand_at strangers (world.Calm n) meant = n
 
-pub event_again : {strangers : Bool} (x : WorldEvent) (meant : IsWorldEvent strangers x) → event_at (head x) (operand_at x meant) ≡ x
-event_again (world.Happen event.Quiet) meant = absurd meant
-event_again (world.Happen (event.Ask h r)) meant = ap (λ s. world.Happen (event.Ask h s)) (request_again r)
-event_again (world.Happen c) meant = refl
-event_again (world.Calm n) meant = refl
+pub event_again : (strangers : Bool) (x : WorldEvent) (meant : IsWorldEvent strangers x) → event_at (head x) (operand_at strangers x meant) ≡ x
+event_again strangers (world.Happen event.Quiet) meant = absurd meant
+event_again strangers (world.Happen (event.Ask h r)) meant = ap (λ s. world.Happen (event.Ask h s)) (request_again r)
+event_again strangers (world.Happen c) meant = refl
+event_again strangers (world.Calm n) meant = refl
 
 -- words that follow a first word for no operand are those of no event
 no_operand : (strangers : Bool) (k : Head) (word words : List ℕ) → Lacks 32 word → head_of word ≡ k → ((z : OperandAt k) → IsWorldEvent strangers (event_at k z) → words ≢ behind (event_at k z)) → (x : WorldEvent) → IsWorldEvent strangers x → word ++ 32 ∷ words ≢ world_spelling x
 no_operand strangers k word words lacks is none x meant e =
-    let cut : SameCut word words (first x) (behind x) = cut_alike word words x meant lacks e in
+    let cut : SameCut word words (first x) (behind x) = cut_alike strangers word words x meant lacks e in
     let F : Head → Type 0 = λ j. (z : OperandAt j) → IsWorldEvent strangers (event_at j z) → words ≢ behind (event_at j z) in
-    let there : F (head x) = subst F (sym is ∙ ap head_of cut.front ∙ head_again x meant) none in
-    let again : event_at (head x) (operand_at x meant) ≡ x = event_again x meant in
-    there (operand_at x meant) (subst (IsWorldEvent strangers) (sym again) meant) (cut.back ∙ ap behind (sym again))
+    let there : F (head x) = subst F (sym is ∙ ap head_of cut.front ∙ head_again strangers x meant) none in
+    let again : event_at (head x) (operand_at strangers x meant) ≡ x = event_again strangers x meant in
+    there (operand_at strangers x meant) (subst (IsWorldEvent strangers) (sym again) meant) (cut.back ∙ ap behind (sym again))
 
 -- words do not begin with a host and a space
 abbrev pub NoHost : List ℕ → Type 0
@@ -254,7 +260,7 @@ no_message words none strangers = no_operand strangers Says (codes "out") words 
 
 pub no_plain : (word rest : List ℕ) → Lacks 32 word → ((v : Verb) → IsVerb v → word ≢ verb_text v) → word ≢ codes "type" → word ≢ codes "out" → word ≢ codes "offer" → word ≢ codes "take" → word ≢ codes "server" → word ≢ codes "user" → word ≢ codes "calm"
     → ((e : NetEvent) → IsNetEvent e → word ++ 32 ∷ rest ≢ net_spelling e) → (strangers : Bool) (x : WorldEvent) → IsWorldEvent strangers x → word ++ 32 ∷ rest ≢ world_spelling x
-no_plain word rest h asked typed out offer take server user calm none strangers x meant e = by x meant e (cut_alike word rest x meant h e).front where
+no_plain word rest h asked typed out offer take server user calm none strangers x meant e = by x meant e (cut_alike strangers word rest x meant h e).front where
   by : (x : WorldEvent) → IsWorldEvent strangers x → word ++ 32 ∷ rest ≡ world_spelling x → word ≡ first x → ⊥
   by (world.Happen (event.Net e)) meant is same = none e meant is
   by (world.Happen event.Quiet) meant is same = absurd meant

@@ -102,16 +102,16 @@ operand_once strangers Nets x y p q e b = net_inside x y (event_once (raw.Net x)
 at_once : (strangers : Bool) (k : Head) (x : OperandAt k) (d : WorldEvent) → head d ≡ k → IsWorldEvent strangers (event_at k x) → (meant : IsWorldEvent strangers d) → world_spelling (event_at k x) ≡ world_spelling d → behind (event_at k x) ≡ behind d → event_at k x ≡ d
 at_once strangers k x d same p meant e b =
     let F : Head → Type 0 = λ j. (y : OperandAt j) → IsWorldEvent strangers (event_at j y) → world_spelling (event_at j y) ≡ world_spelling d → behind (event_at j y) ≡ behind d → event_at j y ≡ d in
-    let again : event_at (head d) (operand_at d meant) ≡ d = event_again d meant in
-    let here : F (head d) = λ y q alike rest. ap (event_at (head d)) (operand_once strangers (head d) y (operand_at d meant) q (subst (IsWorldEvent strangers) (sym again) meant) (alike ∙ ap world_spelling (sym again)) (rest ∙ ap behind (sym again))) ∙ again in
+    let again : event_at (head d) (operand_at strangers d meant) ≡ d = event_again strangers d meant in
+    let here : F (head d) = λ y q alike rest. ap (event_at (head d)) (operand_once strangers (head d) y (operand_at strangers d meant) q (subst (IsWorldEvent strangers) (sym again) meant) (alike ∙ ap world_spelling (sym again)) (rest ∙ ap behind (sym again))) ∙ again in
     subst F same here x p e b
 
 pub world_event_once : (strangers : Bool) (d e : WorldEvent) → IsWorldEvent strangers d → IsWorldEvent strangers e → world_spelling d ≡ world_spelling e → d ≡ e
 world_event_once strangers d e p q same =
-    let cut : SameCut (first d) (behind d) (first e) (behind e) = cut_alike (first d) (behind d) e q (first_unmarked d p) (sym (spelled_event d p) ∙ same) in
-    let heads : head e ≡ head d = sym (head_again e q) ∙ ap head_of (sym cut.front) ∙ head_again d p in
-    let again : event_at (head d) (operand_at d p) ≡ d = event_again d p in
-    sym again ∙ at_once strangers (head d) (operand_at d p) e heads (subst (IsWorldEvent strangers) (sym again) p) q (ap world_spelling again ∙ same) (ap behind again ∙ cut.back)
+    let cut : SameCut (first d) (behind d) (first e) (behind e) = cut_alike strangers (first d) (behind d) e q (first_unmarked strangers d p) (sym (spelled_event strangers d p) ∙ same) in
+    let heads : head e ≡ head d = sym (head_again strangers e q) ∙ ap head_of (sym cut.front) ∙ head_again strangers d p in
+    let again : event_at (head d) (operand_at strangers d p) ≡ d = event_again strangers d p in
+    sym again ∙ at_once strangers (head d) (operand_at strangers d p) e heads (subst (IsWorldEvent strangers) (sym again) p) q (ap world_spelling again ∙ same) (ap behind again ∙ cut.back)
 
 pub world_asked_once : (strangers : Bool) (ds es : List WorldEvent) (lines : List (List ℕ)) → AskFor strangers ds lines → AskFor strangers es lines → ds ≡ es
 world_asked_once strangers ds es lines d e = asked_once_as world_spelling (IsWorldEvent strangers) (world_event_once strangers) ds es lines d e

@@ -12,3 +12,9 @@ returns-in_err-read_net c =
     (λ e. false≢true (sym c.if-is_word-4.false ∙ c.is_word-4.ensures.1 e))
     (λ e. false≢true (sym c.if-is_word-5.false ∙ c.is_word-5.ensures.1 e))
     c.in_err-read_net.ensures)
+
+pub returns-then-is_word-3 : goal.returns-then-is_word-3
+returns-then-is_word-3 c = λ strangers. rw (c.is_word-3.ensures.0 c.if-is_word-3.true) (c.read_server.ensures strangers)
+
+pub returns-then-is_word-4 : goal.returns-then-is_word-4
+returns-then-is_word-4 c = λ strangers. rw (c.is_word-4.ensures.0 c.if-is_word-4.true) (c.read_user.ensures strangers)
