@@ -1,5 +1,5 @@
 -- Worlds over a carrier that counts its calls.
-use Rattle.world_replay.proofs.Common.{◌≡◌, ℕ, ◌+◌, zero, suc, Bool, true, false, List, [], ◌∷◌, length, Result, Ok, Err, refl, ap, sym, subst, ◌∙◌, arith, MatchBool, Calms, QuietEnds, StepGives, TurnsOf, WorldState, stops, up_in, with_carrier, Kept, Quiet, Take, WorldFault, Carrier, first, Gains, HappensInCalm, Again, Repeated, crosses, after, WorldEvent, Calm, gained, world_kind}
+use Rattle.world_replay.proofs.Common.{◌≡◌, ℕ, ◌+◌, zero, suc, Bool, true, false, List, [], ◌∷◌, length, Result, Ok, Err, refl, ap, sym, subst, ◌∙◌, arith, MatchBool, Calms, QuietEnds, StepGives, TurnsOf, WorldState, stops, up_in, with_carrier, Kept, Quiet, Take, WorldFault, Carrier, first, Gains, HappensInCalm, Again, Repeated, crosses, after, WorldEvent, Calm, gained}
 use Rattle.world_replay.specs.Replay.{MayDo}
 use Rattle.world_script.specs.declared.event.WorldEvent.TheVariants.{Happen}
 use Rattle.std.proofs.Common.{add-zero}

@@ -1,6 +1,6 @@
 //! Scripts of worlds: one event a line.
 
-ghost use Rattle.std.specs.Prelude.{◌≡◌, ◌≢◌, Bool, ℕ, ◌≤◌, List, ◌∷◌, ◌++◌, codes, length, MatchResult, IfOk, IfErr};
+ghost use Rattle.std.specs.Prelude.{◌≡◌, ◌≢◌, ℕ, ◌≤◌, List, ◌∷◌, ◌++◌, codes, length, MatchResult, IfOk, IfErr};
 ghost use Rattle.std.proofs.Common.{inr};
 ghost use Rattle.script.specs.Script.{lines_of};
 ghost use Rattle.script.specs.Spelling.{ReadsAs};
