@@ -1,8 +1,5 @@
 -- What the contracts of private functions say. No public clause cites this file.
-use Rattle.std.specs.Prelude.{ℕ, Bool, List}
-use Rattle.script.specs.Script.{IsFirstBadAs}
-use Rattle.world_script.specs.WorldSpelling.{IsWorldEvent, world_spelling}
-use Rattle.command_line.specs.Events.{IsFirstBadIn}
+use Rattle.std.specs.Prelude.{ℕ, List}
 use Rattle.command_line.specs.declared.fault.ScriptFault.{ScriptFault}
 use Rattle.command_line.specs.declared.fault.ScriptFault.TheVariants as fault
 
@@ -36,25 +33,15 @@ IsReplayFault fault.CannotRead = ⊥
 IsReplayFault fault.BadOptions = ⊥
 IsReplayFault (fault.BadLine number) = ⊥
 
--- the faults of reading a script
-abbrev pub IsEventsFault : Bool → List ℕ → ScriptFault → Type 0
-IsEventsFault raw text (fault.BadLine number) = IsFirstBadIn raw text number
-IsEventsFault raw text fault.OutOfMemory = Unit {0}
-IsEventsFault raw text fault.BadTopology = ⊥
-IsEventsFault raw text fault.TooLong = ⊥
-IsEventsFault raw text fault.BadOptions = ⊥
-IsEventsFault raw text fault.CannotRead = ⊥
-IsEventsFault raw text fault.CannotWrite = ⊥
-
--- and of a script where there are strangers
-abbrev pub IsEventsFaultAmong : List ℕ → ScriptFault → Type 0
-IsEventsFaultAmong text (fault.BadLine number) = IsFirstBadAs world_spelling (IsWorldEvent true) text number
-IsEventsFaultAmong text fault.OutOfMemory = Unit {0}
-IsEventsFaultAmong text fault.BadTopology = ⊥
-IsEventsFaultAmong text fault.TooLong = ⊥
-IsEventsFaultAmong text fault.BadOptions = ⊥
-IsEventsFaultAmong text fault.CannotRead = ⊥
-IsEventsFaultAmong text fault.CannotWrite = ⊥
+-- the faults of reading a script, by which line is its first bad one
+abbrev pub IsEventsFault : (List ℕ → ℕ → Type 0) → List ℕ → ScriptFault → Type 0
+IsEventsFault IsBad text (fault.BadLine number) = IsBad text number
+IsEventsFault IsBad text fault.OutOfMemory = Unit {0}
+IsEventsFault IsBad text fault.BadTopology = ⊥
+IsEventsFault IsBad text fault.TooLong = ⊥
+IsEventsFault IsBad text fault.BadOptions = ⊥
+IsEventsFault IsBad text fault.CannotRead = ⊥
+IsEventsFault IsBad text fault.CannotWrite = ⊥
 
 -- the faults of following an input that was read
 abbrev pub IsFollowFault : ScriptFault → Type 0

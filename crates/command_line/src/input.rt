@@ -2,7 +2,7 @@
 
 ghost use Rattle.std.specs.Prelude.{◌≡◌, ◌≢◌, ◌≤◌, Err, IsUtf8, ◌<◌, ◌↔◌, false, length, IfSome, IfOk, IfErr, MatchResult, OnOk, true};
 ghost use Rattle.command_line.specs.Described.{Describes};
-ghost use Rattle.command_line.specs.Events.{AsksFor, asked_of};
+ghost use Rattle.command_line.specs.Events.{AsksFor, IsFirstBadIn, asked_of};
 ghost use Rattle.command_line.specs.Input.{IsInput, IsInputFault};
 ghost use Rattle.command_line.specs.Reading.{ReadsAll, ReadsFirst};
 ghost use Rattle.script.specs.Script.{lines_of};
@@ -64,7 +64,7 @@ pub fn read_input(alloc: Global, octets: &[u8]) -> Result<Input, ScriptFault>
 /// Errors: `BadLine` for the first line that is no event of such a network, `OutOfMemory`.
 fn read_events(alloc: Global, raw: bool, script: &[u8]) -> Result<Events, ScriptFault>
     requires { length script.now ≤ MAX_INPUT }
-    ensures { MatchResult result (λ events. AsksFor raw (asked_of events) (lines_of script.now)) (IsEventsFault raw script.now) }
+    ensures { MatchResult result (λ events. AsksFor raw (asked_of events) (lines_of script.now)) (IsEventsFault (IsFirstBadIn raw) script.now) }
 {
     let fault = if raw {
         match read_script(alloc, script) {

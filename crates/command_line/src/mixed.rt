@@ -2,12 +2,13 @@
 
 ghost use Rattle.std.specs.Prelude.{◌≡◌, ◌≢◌, ◌≤◌, ◌↔◌, [], Err, IfErr, IfOk, IsUtf8, MatchResult, None, OnOk, false, length, true};
 ghost use Rattle.net_sim.specs.MixedWorlds.{absent_in};
-ghost use Rattle.script.specs.Script.{lines_of};
+ghost use Rattle.script.specs.Script.{IsFirstBadAs, lines_of};
 ghost use Rattle.topology.specs.Mixed.{MixedFields};
 ghost use Rattle.world_script.specs.WorldScript.{AskFor};
+ghost use Rattle.world_script.specs.WorldSpelling.{IsWorldEvent, world_spelling};
 ghost use Rattle.command_line.specs.Mixed.{DescribesMixed, IsMixedFault, IsMixedInput, MixedEndsOn, MixedReplaysOn, MixedShowsFrom, MixedWritesPart};
 ghost use Rattle.command_line.specs.Replayed.{WritesWorld};
-ghost use Rattle.command_line.specs.Steps.{IsEventsFaultAmong, IsNetworkFault, IsReplayFault};
+ghost use Rattle.command_line.specs.Steps.{IsEventsFault, IsNetworkFault, IsReplayFault};
 ghost use Rattle.command_line.specs.Stopping.{NothingOr};
 
 use crate::carriers::{subnet_of, write_lives};
@@ -62,7 +63,7 @@ pub fn read_mixed_input(alloc: Global, octets: &[u8]) -> Result<MixedInput, Scri
 /// Errors: `BadLine` for the first line that is no event, `OutOfMemory`.
 fn read_mixed_events(alloc: Global, script: &[u8]) -> Result<Vec<WorldEvent>, ScriptFault>
     requires { length script.now ≤ MAX_INPUT }
-    ensures { MatchResult result (λ events. AskFor true events.items (lines_of script.now)) (IsEventsFaultAmong script.now) }
+    ensures { MatchResult result (λ events. AskFor true events.items (lines_of script.now)) (IsEventsFault (IsFirstBadAs world_spelling (IsWorldEvent true)) script.now) }
 {
     match read_world_script(alloc, script, true) {
         Ok(events) => Ok(events),
