@@ -21,7 +21,8 @@ pub mod Refusals
 pub mod Reported
 pub mod RunLoop
 pub mod SafeRow
-pub mod SomeWorld
+pub mod Same
+pub mod SomeHosts
 pub mod Strangers
 pub mod Undoing
 pub mod Turned

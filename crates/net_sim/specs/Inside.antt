@@ -10,6 +10,5 @@ pub mod Growing
 pub mod Mixed
 pub mod Notes
 pub mod Calm
-pub mod Core
 pub mod Undo
 pub mod Audit

@@ -1,6 +1,6 @@
 -- Worlds some of whose hosts are strangers: hosts of the carrier without a seat. What a stranger sends is offered to the carrier as it
 -- is, and what it takes is written down as a crossing.
-use Rattle.std.specs.Prelude.{◌≡◌, ◌⊎◌, ℕ, Bool, true, false, not, List, [], ◌∷◌, filter, find, map, Option, Some, None, Result, Ok, Err}
+use Rattle.std.specs.Prelude.{◌≡◌, ◌⊎◌, Bool, true, false, not, List, [], ◌∷◌, filter, find, map, Option, Some, None, Result, Ok, Err}
 use Rattle.std.specs.Bool.{MatchBool}
 use Rattle.interface.specs.Calls.{Calls, Seen, crossing_of}
 use Rattle.interface.specs.Host.{Host, is_host}
@@ -21,7 +21,7 @@ use Rattle.net_sim.specs.Told.{without_reports}
 use Rattle.net_sim.specs.Whole.{AreServed, seat_in}
 use Rattle.net_sim.specs.World.{Event, Net, Quiet, Offer, Take, Ask, Server, User, Typed, Out}
 pub use Rattle.net_sim.specs.World.{HasProgram, NoProgram}
-use Rattle.net_sim.specs.World.{WorldState, WorldFault, Carrier, changed, with_carrier, CalmGives, Does, Halts, Passes, StepGives, opening_seats, opening_services, stops}
+use Rattle.net_sim.specs.World.{WorldState, WorldFault, Carrier, changed, with_carrier, Does, Halts, Passes, Refuses, StepGives, opening_seats, opening_services, stops}
 pub use Rattle.net_sim.specs.declared.mixed.StrangersFault.{StrangersFault}
 use Rattle.net_sim.specs.declared.mixed.StrangersFault.TheVariants as absent
 
@@ -31,12 +31,13 @@ use Rattle.net_sim.specs.declared.mixed.StrangersFault.TheVariants as absent
 abbrev pub with_programs : (Host → Bool) → List Host → List Host
 with_programs strange hosts = filter (λ h. not (strange h)) hosts
 
--- these hosts have seats, over a carrier whose log is empty
-abbrev pub opening_among : {C : Type 0} → Calls C → (Host → Bool) → C → WorldState C
-opening_among calls strange c = record {
+-- the hosts that aren't among these strangers have seats, over a carrier whose log is empty
+abbrev pub opening_among : {C : Type 0} → Calls C → List Host → C → WorldState C
+opening_among calls strangers c = record {
   carrier = c;
-  seats = opening_seats (with_programs strange (calls.seen c).hosts);
-  services = opening_services (with_programs strange (calls.seen c).hosts);
+  strangers = strangers;
+  seats = opening_seats (with_programs (λ h. is_host strangers h) (calls.seen c).hosts);
+  services = opening_services (with_programs (λ h. is_host strangers h) (calls.seen c).hosts);
   kept = opening_kept;
   stopped = false;
 }
@@ -64,38 +65,22 @@ FetchGives {C} calls h old r new = (answer : Result (Option Inbound) CarrierFaul
 
 -- ---- one event
 
--- a world, and the hosts of its carrier that are strangers
-pub record MixedState (C : Type 0) : Type 0 where
-  pub world : WorldState C
-  pub strangers : List Host
-
-abbrev pub strange_in : {C : Type 0} → MixedState C → Host → Bool
-strange_in s h = is_host s.strangers h
+abbrev pub strange_in : {C : Type 0} → WorldState C → Host → Bool
+strange_in w h = is_host w.strangers h
 
 -- at first, where these of the carrier's hosts are strangers
-abbrev pub opening_mixed : {C : Type 0} → Calls C → C → List Host → MixedState C
-opening_mixed calls c named = record {
-  world = opening_among calls (λ h. is_host (filter (λ g. is_host named g) (calls.seen c).hosts) h) c;
-  strangers = filter (λ g. is_host named g) (calls.seen c).hosts;
-}
+abbrev pub opening_mixed : {C : Type 0} → Calls C → C → List Host → WorldState C
+opening_mixed calls c named = opening_among calls (filter (λ g. is_host named g) (calls.seen c).hosts) c
 
 -- the first of the named hosts that isn't in the network
 abbrev pub absent_in : List Host → List Host → Option Host
 absent_in hosts named = find (λ h. not (is_host hosts h)) named
 
 -- only hosts of the network can be strangers there; after that memory may run out
-abbrev pub OpensMixed : {C : Type 0} → Calls C → C → List Host → Result (MixedState C) StrangersFault → Type 0
+abbrev pub OpensMixed : {C : Type 0} → Calls C → C → List Host → Result (WorldState C) StrangersFault → Type 0
 OpensMixed calls c named (Ok s) = (absent_in (calls.seen c).hosts named ≡ None) × (s ≡ opening_mixed calls c named)
 OpensMixed calls c named (Err (absent.NoSuch h)) = absent_in (calls.seen c).hosts named ≡ Some h
 OpensMixed calls c named (Err absent.OutOfMemory) = absent_in (calls.seen c).hosts named ≡ None
-
--- the world answers, and its strangers are the same
-abbrev pub OfWorld : {C : Type 0} → (Result (Unit {0}) WorldFault → WorldState C → Type 0) → MixedState C → Result (Unit {0}) WorldFault → MixedState C → Type 0
-OfWorld Gives old r new = Gives r new.world × (new.strangers ≡ old.strangers)
-
--- it is refused, and nothing changes
-abbrev pub RefusesMixed : {C : Type 0} → WorldFault → MixedState C → Result (Unit {0}) WorldFault → MixedState C → Type 0
-RefusesMixed f old r new = (r ≡ Err f) × (new ≡ old)
 
 -- the host at which something is asked for
 abbrev pub asked_at : Event → Option Host
@@ -114,33 +99,29 @@ is_strange strange None = false
 is_strange strange (Some h) = strange h
 
 -- a stranger is asked for nothing, and all else is as in any world
-abbrev pub AskedGives : {C : Type 0} → Calls C → MixedState C → Event → Result (Unit {0}) WorldFault → MixedState C → Type 0
-AskedGives calls old e r new = MatchBool (is_strange (strange_in old) (asked_at e)) (RefusesMixed NoProgram old r new) (OfWorld (StepGives calls old.world e) old r new)
+abbrev pub AskedGives : {C : Type 0} → Calls C → WorldState C → Event → Result (Unit {0}) WorldFault → WorldState C → Type 0
+AskedGives calls old e r new = MatchBool (is_strange (strange_in old) (asked_at e)) (Refuses NoProgram old r new) (StepGives calls old e r new)
 
 -- but it takes what came for it, and sends what it likes
-abbrev pub AmongGives : {C : Type 0} → Calls C → MixedState C → Event → Result (Unit {0}) WorldFault → MixedState C → Type 0
-AmongGives calls old (Take h) r new = MatchBool (strange_in old h) (OfWorld (FetchGives calls h old.world) old r new) (OfWorld (StepGives calls old.world (Take h)) old r new)
-AmongGives calls old (Out m) r new = MatchBool (strange_in old m.flow.source) (OfWorld (OutGives calls m old.world) old r new) (OfWorld (StepGives calls old.world (Out m)) old r new)
+abbrev pub AmongGives : {C : Type 0} → Calls C → WorldState C → Event → Result (Unit {0}) WorldFault → WorldState C → Type 0
+AmongGives calls old (Take h) r new = MatchBool (strange_in old h) (FetchGives calls h old r new) (StepGives calls old (Take h) r new)
+AmongGives calls old (Out m) r new = MatchBool (strange_in old m.flow.source) (OutGives calls m old r new) (StepGives calls old (Out m) r new)
 AmongGives calls old e r new = AskedGives calls old e r new
 
 -- after memory has run out every event is refused as `Stopped`
-abbrev pub MixedStepGives : {C : Type 0} → Calls C → MixedState C → Event → Result (Unit {0}) WorldFault → MixedState C → Type 0
-MixedStepGives calls old e r new = MatchBool old.world.stopped (RefusesMixed (Carrier fault.Stopped) old r new) (AmongGives calls old e r new)
+abbrev pub MixedStepGives : {C : Type 0} → Calls C → WorldState C → Event → Result (Unit {0}) WorldFault → WorldState C → Type 0
+MixedStepGives calls old e r new = MatchBool old.stopped (Refuses (Carrier fault.Stopped) old r new) (AmongGives calls old e r new)
 
 -- ---- several events
 
 -- one event after the other: it continues after a refusal, and ends when memory runs out
-abbrev pub MixedRuns : {C : Type 0} → Calls C → MixedState C → List Event → Result (Unit {0}) WorldFault → MixedState C → Type 0
+abbrev pub MixedRuns : {C : Type 0} → Calls C → WorldState C → List Event → Result (Unit {0}) WorldFault → WorldState C → Type 0
 MixedRuns calls old [] r new = (r ≡ Ok tt) × (new ≡ old)
 MixedRuns {C} calls old (e ∷ events) r new =
-    (answer : Result (Unit {0}) WorldFault) × (mid : MixedState C) × MixedStepGives calls old e answer mid × MatchBool (stops answer) ((r ≡ answer) × (new ≡ mid)) (MixedRuns calls mid events r new)
+    (answer : Result (Unit {0}) WorldFault) × (mid : WorldState C) × MixedStepGives calls old e answer mid × MatchBool (stops answer) ((r ≡ answer) × (new ≡ mid)) (MixedRuns calls mid events r new)
 
-abbrev pub MixedRunGives : {C : Type 0} → Calls C → MixedState C → List Event → Result (Unit {0}) WorldFault → MixedState C → Type 0
-MixedRunGives calls old events r new = MatchBool old.world.stopped (RefusesMixed (Carrier fault.Stopped) old r new) (MixedRuns calls old events r new)
-
--- this many times: a quiet round, and then each host with a program that is up takes and offers. A stranger has no turn
-abbrev pub MixedCalmGives : {C : Type 0} → Calls C → ℕ → MixedState C → Result (Unit {0}) WorldFault → MixedState C → Type 0
-MixedCalmGives calls times old r new = OfWorld (CalmGives calls times old.world) old r new
+abbrev pub MixedRunGives : {C : Type 0} → Calls C → WorldState C → List Event → Result (Unit {0}) WorldFault → WorldState C → Type 0
+MixedRunGives calls old events r new = MatchBool old.stopped (Refuses (Carrier fault.Stopped) old r new) (MixedRuns calls old events r new)
 
 -- ---- all that was done
 

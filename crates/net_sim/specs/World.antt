@@ -92,19 +92,21 @@ all_emptied (c ∷ cs) all = emptied c (all_emptied cs all)
 
 -- ---- the world
 
--- the carrier, the hosts in the carrier's order, what runs on them, what is kept of them, and whether running out of memory has
--- stopped all
+-- the carrier, those of its hosts that are strangers, the other hosts in the carrier's order, what runs on them, what is kept of
+-- them, and whether running out of memory has stopped all. A stranger has no seat, and runs anything
 pub record WorldState (C : Type 0) : Type 0 where
   pub carrier : C
+  pub strangers : List Host
   pub seats : List Seat
   pub services : List ServiceSeat
   pub kept : Kept
   pub stopped : Bool
 
--- over a carrier whose log is empty
+-- over a carrier whose log is empty, with no strangers
 abbrev pub opening_world : {C : Type 0} → Calls C → C → WorldState C
 opening_world calls c = record {
   carrier = c;
+  strangers = [];
   seats = opening_seats (calls.seen c).hosts;
   services = opening_services (calls.seen c).hosts;
   kept = opening_kept;
@@ -197,6 +199,7 @@ pub record Halts {C : Type 0} (c : C) (old : WorldState C) (r : Result (Unit {0}
   pub answer : r ≡ Err fault
   pub memory : wants_memory fault ≡ true
   pub carrier : new.carrier ≡ c
+  pub strangers : new.strangers ≡ old.strangers
   pub kept : new.kept ≡ old.kept
   pub stopped : new.stopped ≡ true
 

@@ -3,11 +3,11 @@
 ghost use Rattle.std.specs.Prelude.{◌≡◌, ℕ, true, false, [], Ok, IfOk};
 ghost use Rattle.net_sim.specs.Carriers.{shown};
 ghost use Rattle.net_sim.specs.Handed.{AreUnhanded};
-ghost use Rattle.net_sim.specs.MixedWorlds.{IsLawfulAmong, MixedCalmGives, MixedRunGives, MixedStepGives};
+ghost use Rattle.net_sim.specs.MixedWorlds.{IsLawfulAmong, MixedRunGives, MixedStepGives};
 ghost use Rattle.net_sim.specs.MixedWorlds.{OpensMixed, opening_mixed, strange_in};
 ghost use Rattle.net_sim.specs.Rest.{IsAtRest};
 ghost use Rattle.net_sim.specs.Silent.{AllSilent};
-ghost use Rattle.net_sim.specs.World.{StepGives};
+ghost use Rattle.net_sim.specs.World.{CalmGives, StepGives};
 ghost use Rattle.promise.specs.Fates.{AreFated};
 
 use crate::book::Book;
@@ -26,24 +26,20 @@ use std::marker::Model;
 /// A carrier some of whose hosts are strangers, that run anything; the programs of the others, what else runs on them, and the book of
 /// all that happens to these.
 ///
-/// It is seen as a world in which only hosts with programs have a seat and services, and its strangers. A stranger says what it likes to
+/// It is seen as a world, in which only hosts with programs have a seat and services. A stranger says what it likes to
 /// whom it likes, in its own name, and takes when it likes. An event that is refused changes nothing, and after memory has run out
 /// every event is refused as `Stopped`, as in a [`World`](crate::World).
 #[derive(Drop)]
 pub struct MixedWorld<C: Carrier> {
     core: WorldCore<C>,
-    strangers: Vec<HostAddr>,
 }
 
 impl<C: Carrier> Model for MixedWorld<C> {
-    ghost use Rattle.net_sim.specs.Inside.Mixed.{IsHeldAmong, mixed_with};
-    ghost use Rattle.net_sim.specs.MixedWorlds.{MixedState};
+    ghost use Rattle.net_sim.specs.World.{WorldState};
 
-    ghost Value = { MixedState C };
+    ghost Value = { WorldState C };
 
-    ghost view = { λ w. mixed_with w.core w.strangers.items };
-
-    ghost invariant = { λ w. IsHeldAmong C.calls.seen (mixed_with w.core w.strangers.items) };
+    ghost view = { λ w. w.core };
 }
 
 impl<C: Carrier> MixedWorld<C> {
@@ -80,16 +76,15 @@ impl<C: Carrier> MixedWorld<C> {
         let hosts = Hosts::new(alloc, &programs)?;
         are_addresses(carrier.hosts());
         Ok(MixedWorld {
-            core: WorldCore::of_parts(carrier, hosts),
-            strangers,
+            core: WorldCore::of_parts(carrier, hosts, strangers),
         })
     }
 
     /// Returns what happened so far. It is that of a lawful world with strangers, of which the laws of `mixed_worlds` speak: what is
     /// promised where every host runs the program is promised between any two that do, whatever strangers send.
     pub fn book(&self) -> Book<'_>
-        ensures value { result ≡ self.now.world.kept }
-        ensures lawful { IsLawfulAmong (strange_in self.now) C.calls.seen (C.calls.seen self.now.world.carrier).hosts self.now.world }
+        ensures value { result ≡ self.now.kept }
+        ensures lawful { IsLawfulAmong (strange_in self.now) C.calls.seen (C.calls.seen self.now.carrier).hosts self.now }
     {
         self.core.book()
     }
@@ -97,37 +92,37 @@ impl<C: Carrier> MixedWorld<C> {
     /// Returns what was handed over to be sent, a list of bits for each life, in the order in which the book has the lives. For a
     /// receiving life it is empty.
     pub fn handed(&self) -> &[BitLog]
-        ensures value { result.now ≡ self.now.world.kept.handed }
-        ensures empty { AreUnhanded self.now.world.kept.book.lives self.now.world.kept.handed }
+        ensures value { result.now ≡ self.now.kept.handed }
+        ensures empty { AreUnhanded self.now.kept.book.lives self.now.kept.handed }
     {
         self.book().handed()
     }
 
     /// Returns how far each life is, and how those ended that are over, in the order in which the book has the lives.
     pub fn fates(&self) -> &[Fate]
-        ensures value { result.now ≡ self.now.world.kept.fates }
-        ensures fated { AreFated self.now.world.kept.book.lives self.now.world.kept.fates }
+        ensures value { result.now ≡ self.now.kept.fates }
+        ensures fated { AreFated self.now.kept.book.lives self.now.kept.fates }
     {
         self.book().fates()
     }
 
     /// Returns the carrier.
     pub fn carrier(&self) -> &C
-        ensures { result.now ≡ self.now.world.carrier }
+        ensures { result.now ≡ self.now.carrier }
     {
         self.core.carrier()
     }
 
     /// Returns the hosts with their programs, in the carrier's order.
     pub fn seats(&self) -> &[Seat]
-        ensures { result.now ≡ self.now.world.seats }
+        ensures { result.now ≡ self.now.seats }
     {
         self.core.seats()
     }
 
     /// Returns what runs on these hosts beside their programs, in the carrier's order.
     pub fn services(&self) -> &[ServiceSeat]
-        ensures { result.now ≡ self.now.world.services }
+        ensures { result.now ≡ self.now.services }
     {
         self.core.services()
     }
@@ -136,7 +131,7 @@ impl<C: Carrier> MixedWorld<C> {
     pub fn strangers(&self) -> &[HostAddr]
         ensures { result.now ≡ self.now.strangers }
     {
-        &self.strangers
+        self.core.strangers()
     }
 
     /// Lets one event happen, or refuses it.
@@ -146,7 +141,7 @@ impl<C: Carrier> MixedWorld<C> {
     pub fn step(&mut self, event: Event) -> Result<(), WorldFault>
         ensures { MixedStepGives (shown C.calls) self.old event result self.new }
     {
-        self.core.step_among(&self.strangers, event)
+        self.core.step_among(event)
     }
 
     /// Lets one event happen as those of a calm do, in which no stranger has a turn: at a stranger it is refused, as at a host
@@ -154,12 +149,10 @@ impl<C: Carrier> MixedWorld<C> {
     ///
     /// Errors: those of [`World::step`](crate::World::step).
     pub fn turn(&mut self, event: Event) -> Result<(), WorldFault>
-        ensures gives { StepGives (shown C.calls) self.old.world event result self.new.world }
+        ensures gives { StepGives (shown C.calls) self.old event result self.new }
         ensures strangers { self.new.strangers ≡ self.old.strangers }
     {
-        let done = self.core.step(&event);
-        self.core.is_run();
-        done
+        self.core.step(&event)
     }
 
     /// Lets one event happen after the other. It continues after a refusal, and ends when memory runs out.
@@ -184,27 +177,25 @@ impl<C: Carrier> MixedWorld<C> {
     ///
     /// Errors: memory runs out, which ends the calm, and `Stopped` after that.
     pub fn calm(&mut self, rounds: u32) -> Result<(), WorldFault>
-        ensures { MixedCalmGives (shown C.calls) rounds self.old result self.new }
+        ensures { CalmGives (shown C.calls) rounds self.old result self.new }
     {
-        let done = self.core.calm(rounds);
-        self.core.is_run();
-        done
+        self.core.calm(rounds)
     }
 
     /// Returns whether more rounds of a calm are known to change nothing: the network is known to rest, so nothing
     /// waits in it, for a stranger neither; and each host that has a program and is up has nothing to say, or is known
     /// to be refused what it has to say.
     pub fn rests(&self) -> bool
-        ensures rest { result ≡ true → IsAtRest (shown C.calls) self.now.world }
-        ensures unchanged { result ≡ true → (n : ℕ) → MixedCalmGives (shown C.calls) n self.now (Ok tt) self.now }
-        ensures running { result ≡ true → self.now.world.stopped ≡ false }
+        ensures rest { result ≡ true → IsAtRest (shown C.calls) self.now }
+        ensures unchanged { result ≡ true → (n : ℕ) → CalmGives (shown C.calls) n self.now (Ok tt) self.now }
+        ensures running { result ≡ true → self.now.stopped ≡ false }
     {
         self.core.rests()
     }
 
     /// Returns whether it is known that no host that has a program and is up has anything to say.
     pub fn is_silent(&self) -> bool
-        ensures { result ≡ true → AllSilent self.now.world.seats }
+        ensures { result ≡ true → AllSilent self.now.seats }
     {
         self.core.is_silent()
     }

@@ -2,22 +2,22 @@
 
 ghost use Rattle.std.specs.Prelude.{◌≡◌, ℕ, [], ◌∷◌, None, Some, Ok, map};
 ghost use Rattle.interface.specs.declared.carrier.CarrierFault.TheVariants as fault;
-ghost use Rattle.net_sim.specs.MixedWorlds.{MixedCalmGives, NoProgram, HasProgram};
+ghost use Rattle.net_sim.specs.MixedWorlds.{NoProgram, HasProgram};
 ghost use Rattle.net_sim.specs.MixedWorlds.{absent_in, opening_mixed};
 ghost use Rattle.net_sim.specs.Rest.{IsAtRest};
 ghost use Rattle.net_sim.specs.Worked.{any_carrier, message};
 ghost use Rattle.net_sim.specs.WorkedMixed.{IsCalmRefused, IsMadeNaming, IsRefusedNaming, IsRefusedThere, IsWritten};
 ghost use Rattle.net_sim.specs.WorkedMixed.{beside_nobody, beside_third, fifth, fourth, spent, three_seen};
 ghost use Rattle.net_sim.specs.WorkedMixed.{waiting_carrier};
-ghost use Rattle.net_sim.specs.World.{Carrier, Ask, Offer, Out, up_in};
+ghost use Rattle.net_sim.specs.World.{CalmGives, Carrier, Ask, Offer, Out, up_in};
 ghost use Rattle.sockets.specs.Worked.{first, second, third};
 ghost use Rattle.sockets.specs.declared.request.Request.TheVariants as request;
 
 /// Who has a seat, and what is refused by whom.
 pub fn worked_strangers()
     // a stranger has no seat, and who isn't in the network isn't a stranger
-    ensures seats { map (λ s. s.host) beside_third.world.seats ≡ first ∷ second ∷ [] }
-    ensures services { map (λ s. s.host) beside_third.world.services ≡ first ∷ second ∷ [] }
+    ensures seats { map (λ s. s.host) beside_third.seats ≡ first ∷ second ∷ [] }
+    ensures services { map (λ s. s.host) beside_third.services ≡ first ∷ second ∷ [] }
     ensures strangers { (opening_mixed any_carrier three_seen (fourth ∷ third ∷ [])).strangers ≡ third ∷ [] }
 
     // the first host that is named and isn't there is refused, and none where all are; hosts are named in any order, and twice
@@ -45,13 +45,13 @@ pub fn worked_strangers()
 
 /// Who has a turn in a calm: hosts with programs, and no stranger.
 pub fn worked_calm()
-    ensures turns { up_in beside_third.world.seats ≡ first ∷ second ∷ [] }
-    ensures everybody { up_in beside_nobody.world.seats ≡ first ∷ second ∷ third ∷ [] }
+    ensures turns { up_in beside_third.seats ≡ first ∷ second ∷ [] }
+    ensures everybody { up_in beside_nobody.seats ≡ first ∷ second ∷ third ∷ [] }
 
     // what waits for a stranger stays there, and changes nothing for the others; a host with a program takes it
-    ensures rests { IsAtRest waiting_carrier beside_third.world }
-    ensures stays { (rounds : ℕ) → MixedCalmGives waiting_carrier rounds beside_third (Ok tt) beside_third }
-    ensures comes { IsAtRest waiting_carrier beside_nobody.world → ⊥ }
+    ensures rests { IsAtRest waiting_carrier beside_third }
+    ensures stays { (rounds : ℕ) → CalmGives waiting_carrier rounds beside_third (Ok tt) beside_third }
+    ensures comes { IsAtRest waiting_carrier beside_nobody → ⊥ }
 
     // after memory has run out
     ensures stopped { IsCalmRefused spent 1 (Carrier fault.Stopped) }

@@ -23,8 +23,8 @@ use std::marker::Model;
 
 /// A carrier, the programs of its hosts, what else runs on them, and the book of all that happens to them.
 ///
-/// A world is seen as its carrier, a seat and the services of each host in the carrier's order, the book with what was handed
-/// over, and whether running out of memory has stopped it. An event that is refused changes nothing. One in which memory runs out leaves
+/// A world is seen as its carrier, with no strangers, a seat and the services of each host in the carrier's order, the book with
+/// what was handed over, and whether running out of memory has stopped it. An event that is refused changes nothing. One in which memory runs out leaves
 /// the book as it was, and after it every event is refused as `Stopped`.
 #[derive(Drop)]
 pub struct World<C: Carrier> {
@@ -32,15 +32,14 @@ pub struct World<C: Carrier> {
 }
 
 impl<C: Carrier> Model for World<C> {
-    ghost use Rattle.std.specs.Prelude.{[]};
-    ghost use Rattle.net_sim.specs.Inside.Mixed.{IsHeldAmong, mixed_with};
+    ghost use Rattle.std.specs.Prelude.{◌≡◌, []};
     ghost use Rattle.net_sim.specs.World.{WorldState};
 
     ghost Value = { WorldState C };
 
     ghost view = { λ w. w.core };
 
-    ghost invariant = { λ w. IsHeldAmong C.calls.seen (mixed_with w.core []) };
+    ghost invariant = { λ w. w.core.strangers ≡ [] };
 }
 
 impl<C: Carrier> World<C> {
@@ -56,7 +55,7 @@ impl<C: Carrier> World<C> {
         let hosts = Hosts::new(alloc, carrier.hosts())?;
         are_addresses(carrier.hosts());
         Ok(World {
-            core: WorldCore::of_parts(carrier, hosts),
+            core: WorldCore::of_parts(carrier, hosts, Vec::new(alloc)),
         })
     }
 
@@ -149,9 +148,7 @@ impl<C: Carrier> World<C> {
     pub fn calm(&mut self, rounds: u32) -> Result<(), WorldFault>
         ensures { CalmGives (shown C.calls) rounds self.old result self.new }
     {
-        let done = self.core.calm(rounds);
-        self.core.is_run();
-        done
+        self.core.calm(rounds)
     }
 
     /// Returns whether more rounds of a calm are known to change nothing: the network is known to rest, and each host
@@ -175,9 +172,7 @@ impl<C: Carrier> World<C> {
     fn follow(&mut self, event: &Event) -> Result<(), WorldFault>
         ensures { StepGives (shown C.calls) self.old event.now result self.new }
     {
-        let done = self.core.step(event);
-        self.core.is_run();
-        done
+        self.core.step(event)
     }
 }
 

@@ -1,15 +1,12 @@
-//! What a world and one with strangers have in common: a carrier, hosts with programs over it, and whether memory has
-//! run out.
+//! What a world and one with strangers have in common: a carrier, hosts with programs over it, which hosts are strangers,
+//! and whether memory has run out.
 
 ghost use Rattle.std.specs.Prelude.{◌≡◌, false, length};
-ghost use Rattle.interface.specs.Mailboxes.{IsRun};
 ghost use Rattle.net_sim.specs.Carriers.{shown};
-ghost use Rattle.net_sim.specs.Inside.Core.{IsSomeWorld};
-ghost use Rattle.net_sim.specs.Inside.Mixed.{IsHeldAmong, mixed_with};
+ghost use Rattle.net_sim.specs.Inside.Mixed.{IsHeldAmong, mixed_of};
 ghost use Rattle.net_sim.specs.Inside.Parts as parts;
 ghost use Rattle.net_sim.specs.Inside.Parts.{IsOnce, hosts_of, world_of};
-ghost use Rattle.net_sim.specs.MixedWorlds.{MixedStepGives};
-ghost use Rattle.net_sim.specs.Whole.{IsNamed};
+ghost use Rattle.net_sim.specs.MixedWorlds.{IsLawfulAmong, MixedStepGives, strange_in};
 ghost use Rattle.net_sim.specs.World as world;
 ghost use Rattle.net_sim.specs.World.{EventGives, StepGives};
 ghost use Rattle.net_sim.specs.Inside.Parts.{AreLive, world_after};
@@ -25,44 +22,44 @@ use sockets::NcpFault;
 use std::marker::Model;
 
 /// A carrier, the programs of its hosts, what else runs on them, the book, and whether running out of memory has
-/// stopped all.
-///
-/// Some of the carrier's hosts may be strangers, that have no seat. Which ones is known to the world around it.
+/// stopped all. Some of the carrier's hosts may be strangers, that have no seat.
 #[derive(Drop)]
 pub(crate) struct WorldCore<C: Carrier> {
     carrier: C,
     hosts: Hosts,
+    strangers: Vec<HostAddr>,
     stopped: bool,
 }
 
 impl<C: Carrier> Model for WorldCore<C> {
-    ghost use Rattle.net_sim.specs.Inside.Core.{IsSomeWorld};
-    ghost use Rattle.net_sim.specs.Inside.Parts.{world_of_hosts};
+    ghost use Rattle.net_sim.specs.Inside.Mixed.{IsHeldAmong, mixed_of_hosts};
     ghost use Rattle.net_sim.specs.World.{WorldState};
 
     ghost Value = { WorldState C };
 
-    ghost view = { λ w. world_of_hosts w.carrier w.hosts w.stopped };
+    ghost view = { λ w. mixed_of_hosts w.carrier w.hosts w.strangers.items w.stopped };
 
-    ghost invariant = { λ w. IsSomeWorld C.calls.seen (world_of_hosts w.carrier w.hosts w.stopped) };
+    ghost invariant = { λ w. IsHeldAmong C.calls.seen (mixed_of_hosts w.carrier w.hosts w.strangers.items w.stopped) };
 }
 
 impl<C: Carrier> WorldCore<C> {
     /// Returns a world of these parts, in which memory has lasted.
-    pub(crate) fn of_parts(carrier: C, hosts: Hosts) -> WorldCore<C>
-        requires { IsSomeWorld C.calls.seen (world_of carrier hosts) }
-        ensures { result ≡ world_of carrier hosts }
+    pub(crate) fn of_parts(carrier: C, hosts: Hosts, strangers: Vec<HostAddr>) -> WorldCore<C>
+        requires { IsHeldAmong C.calls.seen (mixed_of carrier hosts strangers.items) }
+        ensures { result ≡ mixed_of carrier hosts strangers.items }
     {
         WorldCore {
             carrier,
             hosts,
+            strangers,
             stopped: false,
         }
     }
 
-    /// Returns what happened so far.
+    /// Returns what happened so far. It is that of a lawful world.
     pub(crate) fn book(&self) -> Book<'_>
-        ensures { result ≡ self.now.kept }
+        ensures value { result ≡ self.now.kept }
+        ensures lawful { IsLawfulAmong (strange_in self.now) C.calls.seen (C.calls.seen self.now.carrier).hosts self.now }
     {
         self.hosts.book(self.carrier.log())
     }
@@ -96,6 +93,13 @@ impl<C: Carrier> WorldCore<C> {
         self.hosts.seats()
     }
 
+    /// Returns the strangers, in the carrier's order.
+    pub(crate) fn strangers(&self) -> &[HostAddr]
+        ensures { result.now ≡ self.now.strangers }
+    {
+        &self.strangers
+    }
+
     /// Returns whether running out of memory has stopped it.
     pub(crate) fn is_stopped(&self) -> bool
         ensures { result ≡ self.now.stopped }
@@ -103,19 +107,9 @@ impl<C: Carrier> WorldCore<C> {
         self.stopped
     }
 
-    /// Proves that the carrier's log is a run of the mailboxes, as every carrier promises of its log.
-    ///
-    /// It is there for the proof only, and does nothing.
-    pub(crate) fn is_run(&self)
-        ensures { IsRun (C.calls.seen self.now.carrier).hosts (C.calls.seen self.now.carrier).log }
-    {
-        let _ = self.carrier.log();
-    }
-
-    /// Lets one event happen, or refuses it.
+    /// Lets one event happen as where its strangers aren't there, or refuses it. Its strangers stay.
     pub(crate) fn step(&mut self, event: &Event) -> Result<(), WorldFault>
-        ensures gives { StepGives (shown C.calls) self.old event.now result self.new }
-        ensures named { IsNamed event.now }
+        ensures { StepGives (shown C.calls) self.old event.now result self.new }
     {
         self.step_near(None, event)
     }
@@ -127,8 +121,7 @@ impl<C: Carrier> WorldCore<C> {
         likely: Option<usize>,
         event: &Event,
     ) -> Result<(), WorldFault>
-        ensures gives { StepGives (shown C.calls) self.old event.now result self.new }
-        ensures named { IsNamed event.now }
+        ensures { StepGives (shown C.calls) self.old event.now result self.new }
     {
         is_named(event);
         if self.stopped {
@@ -141,21 +134,15 @@ impl<C: Carrier> WorldCore<C> {
         done
     }
 
-    /// Lets one event happen where these hosts are strangers, or refuses it.
-    pub(crate) fn step_among(
-        &mut self,
-        strangers: &[HostAddr],
-        event: Event,
-    ) -> Result<(), WorldFault>
-        requires { IsHeldAmong C.calls.seen (mixed_with self.old strangers.now) }
-        ensures gives { MixedStepGives (shown C.calls) (mixed_with self.old strangers.now) event result (mixed_with self.new strangers.now) }
-        ensures held { IsHeldAmong C.calls.seen (mixed_with self.new strangers.now) }
+    /// Lets one event happen, of a stranger too, or refuses it.
+    pub(crate) fn step_among(&mut self, event: Event) -> Result<(), WorldFault>
+        ensures { MixedStepGives (shown C.calls) self.old event result self.new }
     {
         if self.stopped {
             return Err(WorldFault::Carrier(CarrierFault::Stopped));
         }
         is_named(&event);
-        let done = follow_mixed(&mut self.carrier, &mut self.hosts, strangers, event);
+        let done = follow_mixed(&mut self.carrier, &mut self.hosts, &self.strangers, event);
         // for the proof only, as in `step`
         let _ = self.carrier.log();
         self.stopped = runs_out(&done);

@@ -151,8 +151,8 @@ module _ {C : Type 0} (own : Calls C) where
 
   -- ---- the opening
 
-  pub among_booked : (strange : Host → Bool) (c : C) → (own.seen c).log ≡ [] → IsBooked own.seen (opening_among calls strange c)
-  among_booked strange c none = record { unbooked = []; book = none; all = λ running. refl; one = tt }
+  pub among_booked : (strangers : List Host) (c : C) → (own.seen c).log ≡ [] → IsBooked own.seen (opening_among calls strangers c)
+  among_booked strangers c none = record { unbooked = []; book = none; all = λ running. refl; one = tt }
 
   pub opening_booked : (c : C) → (own.seen c).log ≡ [] → IsBooked own.seen (opening_world calls c)
   opening_booked c none = record { unbooked = []; book = none; all = λ running. refl; one = tt }

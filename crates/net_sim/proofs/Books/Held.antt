@@ -1,12 +1,10 @@
 -- What a world keeps is enough for its next event.
-use Rattle.net_sim.proofs.Common.{◌≡◌, Bool, true, false, ◌||◌, if◌then◌else◌, List, [], ◌∷◌, map, Some, None, IfSome, refl, ap, sym, subst, MatchBool, All-nil, All-cons, All-head, All-tail, Calls, InOrder, Host, IsAddress, is_host, same_host, NcpState, HaveAddresses, AreLive, IsOnce, hosts_of, running, Moment, program, crossings_of, seat_in, WorldState, WorldFault, Carrier, Seat, EventGives, Refuses, StepGives}
-use Rattle.std.proofs.Common.{All, Result}
+use Rattle.net_sim.proofs.Common.{◌≡◌, Bool, true, false, ◌||◌, if◌then◌else◌, List, [], ◌∷◌, map, Some, None, IfSome, refl, ap, sym, subst, All-nil, All-cons, All-head, All-tail, InOrder, Host, IsAddress, is_host, same_host, NcpState, HaveAddresses, AreLive, IsOnce, hosts_of, Moment, program, crossings_of, seat_in, Seat}
+use Rattle.std.proofs.Common.{All}
 use Rattle.interface.proofs.lemmas.{host_before_never, host_before_trans}
 use Rattle.interface.specs.Host.{host_before}
 use Rattle.interface.specs.Mailboxes.{is_up}
 use Rattle.sockets.proofs.lemmas.{same_host-true}
-use Rattle.interface.specs.declared.carrier.CarrierFault.TheVariants as fault
-use Rattle.net_sim.specs.World.{Event}
 use Rattle.net_sim.proofs.Hosts.Stays.{program_stays}
 
 -- ---- hosts in order are there once each
@@ -63,14 +61,3 @@ pub have_addresses : (hosts : List Host) → All (λ (h : Host). IsAddress h) ho
 have_addresses [] all h is = absurd (cc)
 have_addresses (g ∷ hosts) all h is =
     have_first g hosts (All-head (λ (x : Host). IsAddress x) g hosts all) (have_addresses hosts (All-tail (λ (x : Host). IsAddress x) g hosts all)) h (same_host h g) refl is
-
--- ---- a world that hasn't stopped
-
-pub still_running : {C : Type 0} (w : WorldState C) → w.stopped ≡ false → running w.carrier w.seats w.services w.kept ≡ w
-still_running {C} w e = let with : Bool → WorldState C = λ b. record { carrier = w.carrier; seats = w.seats; services = w.services; kept = w.kept; stopped = b } in ap with (sym e)
-
-pub event_steps : {C : Type 0} (calls : Calls C) (e : Event) (old : WorldState C) (r : Result (Unit {0}) WorldFault) (new : WorldState C) → old.stopped ≡ false
-    → EventGives calls (running old.carrier old.seats old.services old.kept) e r new → StepGives calls old e r new
-event_steps {C} calls e old r new run gives =
-    let mine : EventGives calls old e r new = subst (λ (w : WorldState C). EventGives calls w e r new) (still_running old run) gives in
-    subst (λ (b : Bool). MatchBool b (Refuses (Carrier fault.Stopped) old r new) (EventGives calls old e r new)) (sym run) mine

@@ -70,12 +70,12 @@ module _ {C : Type 0} (own : Calls C) (hosts : List Host) where
   pub calm_whole : (times : ℕ) (old : WorldState C) (r : Result (Unit {0}) WorldFault) (new : WorldState C) → IsWhole own.seen hosts old → CalmGives (shown own) times old r new → IsWhole own.seen hosts new
   calm_whole times old r new w h = among_whole nobody no_one own.seen hosts new (calm_among own nobody hosts times old r new (whole_among nobody no_one own.seen hosts old w) h)
 
-pub opening_nobody : {C : Type 0} (calls : Calls C) (strange : Host → Bool) → ((h : Host) → strange h ≡ false) → (c : C) → opening_among calls strange c ≡ opening_world calls c
-opening_nobody {C} calls strange none c = ap (λ (hs : List Host). at_first hs) (all_programs strange none (calls.seen c).hosts) where
+pub opening_nobody : {C : Type 0} (calls : Calls C) (c : C) → opening_among calls [] c ≡ opening_world calls c
+opening_nobody {C} calls c = ap (λ (hs : List Host). at_first hs) (all_programs nobody no_one (calls.seen c).hosts) where
   at_first : List Host → WorldState C
   at_first hs = record (opening_world calls c) { seats = opening_seats hs; services = opening_services hs }
 
 pub opening_whole : {C : Type 0} (own : Calls C) (c : C) → IsWhole own.seen (own.seen c).hosts (opening_world (shown own) c)
 opening_whole own c =
     among_whole nobody no_one own.seen (own.seen c).hosts (opening_world (shown own) c)
-    (subst (λ (w : WorldState _). IsWholeAmong nobody own.seen (own.seen c).hosts w) (opening_nobody (shown own) nobody no_one c) (opening_among_whole own nobody c))
+    (subst (λ (w : WorldState _). IsWholeAmong nobody own.seen (own.seen c).hosts w) (opening_nobody (shown own) c) (opening_among_whole own [] c))

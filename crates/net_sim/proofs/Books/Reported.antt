@@ -1,5 +1,5 @@
 -- After every event of a world, what services have reported is so, and all that runs is as its host was notified.
-use Rattle.net_sim.proofs.Common.{◌≡◌, ℕ, Bool, true, false, if◌then◌else◌, find, List, [], ◌∷◌, ◌++◌, length, Option, Some, Ok, refl, sym, subst, ◌∙◌, All-cons, All-head, All-nil, All-tail, Calls, crossing_of, step_crossings, is_memory, Host, same_host, Crossing, HostMessage, Notice, accepted, NcpState, served, served_notices, offered, Request, ServiceDeskState, ServicesState, no_services, opening_desk, server_begun, user_begun, Reported, Kept, all_asked, all_crossed, all_told, asked, book_told, crossed, IsBacked, IsRunning, told_to, Each, WorldState, ServiceSeat, all_emptied, noticed, opening_services, opening_world, served_at, serviced, services_in, services_of, tended, with_services, world_heard, world_moved, CalmGives, Halts, RunGives, StepGives}
+use Rattle.net_sim.proofs.Common.{◌≡◌, ℕ, Bool, true, false, if◌then◌else◌, find, List, [], ◌∷◌, ◌++◌, length, Option, Some, Ok, refl, sym, subst, ◌∙◌, All-cons, All-head, All-nil, All-tail, Calls, is_host, crossing_of, step_crossings, is_memory, Host, same_host, Crossing, HostMessage, Notice, accepted, NcpState, served, served_notices, offered, Request, ServiceDeskState, ServicesState, no_services, opening_desk, server_begun, user_begun, Reported, Kept, all_asked, all_crossed, all_told, asked, book_told, crossed, IsBacked, IsRunning, told_to, Each, WorldState, ServiceSeat, all_emptied, noticed, opening_services, opening_world, served_at, serviced, services_in, services_of, tended, with_services, world_heard, world_moved, CalmGives, Halts, RunGives, StepGives}
 use Rattle.std.proofs.Common.{All}
 use Rattle.std.proofs.lemmas.List.Elements.{All-append}
 use Rattle.interface.specs.declared.crossing.Crossing.TheVariants as crossing
@@ -203,5 +203,5 @@ module _ {C : Type 0} (calls : Calls C) where
   pub opening_reported : (c : C) → AreReported (opening_world calls c)
   opening_reported c = record { reports = All-nil (IsBacked []); services = λ running. opening_run (calls.seen c).hosts }
 
-  pub among_reported : (strange : Host → Bool) (c : C) → AreReported (opening_among calls strange c)
-  among_reported strange c = record { reports = All-nil (IsBacked []); services = λ running. opening_run (with_programs strange (calls.seen c).hosts) }
+  pub among_reported : (strangers : List Host) (c : C) → AreReported (opening_among calls strangers c)
+  among_reported strangers c = record { reports = All-nil (IsBacked []); services = λ running. opening_run (with_programs (λ h. is_host strangers h) (calls.seen c).hosts) }

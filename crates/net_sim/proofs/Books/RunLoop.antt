@@ -1,7 +1,7 @@
 -- A run, event by event.
 use Rattle.net_sim.proofs.Common.{◌≡◌, ℕ, ◌+◌, Bool, true, false, List, ◌∷◌, drop, refl, sym, subst, MatchBool, WorldState, WorldFault, Carrier, Refuses, StepGives, Runs, RunGives, stops, Calls}
 use Rattle.std.proofs.Common.{Result}
-use Rattle.net_sim.specs.MixedWorlds.{MixedRunGives, MixedRuns, MixedState, MixedStepGives, RefusesMixed}
+use Rattle.net_sim.specs.MixedWorlds.{MixedRunGives, MixedRuns, MixedStepGives}
 use Rattle.net_sim.specs.World.{Event}
 use Rattle.interface.specs.declared.carrier.CarrierFault.TheVariants as fault
 
@@ -27,11 +27,11 @@ runs_on {C} calls events old r new running runs = subst (λ (b : Bool). MatchBoo
 -- ---- with strangers, where each event is taken out of the list
 
 module _ {C : Type 0} (calls : Calls C) (left later : List Event) (e : Event) (is : left ≡ e ∷ later)
-    (old mid : MixedState C) (answer : Result (Unit {0}) WorldFault) (step : MixedStepGives calls old e answer mid) where
-  abbrev Ends : Bool → Result (Unit {0}) WorldFault → MixedState C → Type 0
+    (old mid : WorldState C) (answer : Result (Unit {0}) WorldFault) (step : MixedStepGives calls old e answer mid) where
+  abbrev Ends : Bool → Result (Unit {0}) WorldFault → WorldState C → Type 0
   Ends b r new = MatchBool b ((r ≡ answer) × (new ≡ mid)) (MixedRuns calls mid later r new)
 
-  pub mixed_more : stops answer ≡ false → (r : Result (Unit {0}) WorldFault) (new : MixedState C)
+  pub mixed_more : stops answer ≡ false → (r : Result (Unit {0}) WorldFault) (new : WorldState C)
       → MixedRuns calls mid later r new → MixedRuns calls old left r new
   mixed_more on r new rest =
       let now : Ends (stops answer) r new = subst (λ (b : Bool). Ends b r new) (sym on) rest in
@@ -42,10 +42,10 @@ module _ {C : Type 0} (calls : Calls C) (left later : List Event) (e : Event) (i
       let now : Ends (stops answer) answer mid = subst (λ (b : Bool). Ends b answer mid) (sym off) (refl, refl) in
       subst (λ (es : List Event). MixedRuns calls old es answer mid) (sym is) (answer, mid, step, now)
 
-pub mixed_on : {C : Type 0} (calls : Calls C) (events : List Event) (old : MixedState C)
-    (r : Result (Unit {0}) WorldFault) (new : MixedState C) → old.world.stopped ≡ false
+pub mixed_on : {C : Type 0} (calls : Calls C) (events : List Event) (old : WorldState C)
+    (r : Result (Unit {0}) WorldFault) (new : WorldState C) → old.stopped ≡ false
     → MixedRuns calls old events r new → MixedRunGives calls old events r new
 mixed_on {C} calls events old r new running runs =
     let Gives : Bool → Type 0 = λ b.
-    MatchBool b (RefusesMixed (Carrier fault.Stopped) old r new) (MixedRuns calls old events r new) in
+    MatchBool b (Refuses (Carrier fault.Stopped) old r new) (MixedRuns calls old events r new) in
     subst Gives (sym running) runs

@@ -390,14 +390,14 @@ some_hosts test (g ∷ hosts) h is = by (λ later. some_hosts test hosts h later
   by rest true e = more rest (same_host h g) refl (rw e at is)
   by rest false e = let there : is_host hosts h ≡ true = rest (rw e at is) in rw there (later_host g h true)
 
-pub opening_among_whole : {C : Type 0} (own : Calls C) (strange : Host → Bool) (c : C) → IsWholeAmong strange own.seen (own.seen c).hosts (opening_among (shown own) strange c)
-opening_among_whole own strange c = record {
+pub opening_among_whole : {C : Type 0} (own : Calls C) (strangers : List Host) (c : C) → IsWholeAmong (λ h. is_host strangers h) own.seen (own.seen c).hosts (opening_among (shown own) strangers c)
+opening_among_whole own strangers c = record {
   moments = [];
   mixed = tt;
   network = refl;
   crossings = refl;
   contacts = refl;
   kept = refl;
-  seats = λ running. opening_by (own.seen c).hosts (with_programs strange (own.seen c).hosts) (some_hosts (λ h. not (strange h)) (own.seen c).hosts);
-  services = λ running. opening_served (with_programs strange (own.seen c).hosts);
+  seats = λ running. opening_by (own.seen c).hosts (with_programs (λ h. is_host strangers h) (own.seen c).hosts) (some_hosts (λ h. not (is_host strangers h)) (own.seen c).hosts);
+  services = λ running. opening_served (with_programs (λ h. is_host strangers h) (own.seen c).hosts);
 }

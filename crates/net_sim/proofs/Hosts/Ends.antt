@@ -11,8 +11,8 @@ use Rattle.sockets.specs.declared.request.Request.TheVariants as request
 use Rattle.net_sim.specs.World.{turn_of}
 use Rattle.net_sim.proofs.Hosts.SeatLemmas.{sits_gives}
 
-halts : {C : Type 0} (c : C) (old : WorldState C) (seats : List Seat) (ss : List ServiceSeat) (k : Kept) (f : WorldFault) → wants_memory f ≡ true → k ≡ old.kept → Halts c old (Err f) (world_ended c seats ss k (Err f))
-halts c old seats ss k f memory kept = record { fault = f; answer = refl; memory = memory; carrier = refl; kept = kept; stopped = memory }
+halts : {C : Type 0} (c : C) (old : WorldState C) (seats : List Seat) (ss : List ServiceSeat) (k : Kept) (f : WorldFault) → wants_memory f ≡ true → [] ≡ old.strangers → k ≡ old.kept → Halts c old (Err f) (world_ended c seats ss k (Err f))
+halts c old seats ss k f memory strangers kept = record { fault = f; answer = refl; memory = memory; carrier = refl; strangers = strangers; kept = kept; stopped = memory }
 
 memory_of : (f : WorldFault) → f ≡ Program problem.OutOfMemory → wants_memory f ≡ true
 memory_of f is = ap (λ (x : WorldFault). wants_memory x) is
@@ -33,7 +33,7 @@ moved_ends {C} h x turn c0 c1 seats seats1 ss ss1 k k1 news (Ok tt) is done kept
     let now : AreDone h (turn_of h (length k.book.notices) (services_of h ss) turn) seats ss (all_told h turn.1 (crossed x k)) seats1 ss1 k1 =
     subst (λ (cs : List Crossing). AreDone h (turn_of h (length k.book.notices) (services_of h ss) turn) seats ss (all_told h turn.1 (all_crossed cs k)) seats1 ss1 k1) is done in
     inl (refl, tended_is h (turn_of h (length k.book.notices) (services_of h ss) turn) c1 seats seats1 ss ss1 (all_told h turn.1 (crossed x k)) k1 now)
-moved_ends {C} h x turn c0 c1 seats seats1 ss ss1 k k1 news (Err f) is done kept = inr (halts c1 (running c0 seats ss k) seats1 ss1 k1 f (memory_of f kept.0) kept.1)
+moved_ends {C} h x turn c0 c1 seats seats1 ss ss1 k k1 news (Err f) is done kept = inr (halts c1 (running c0 seats ss k) seats1 ss1 k1 f (memory_of f kept.0) refl kept.1)
 
 pub take_ends : {C : Type 0} (calls : Calls C) (h : Host) (place : ℕ) (s : NcpState) (i : Inbound) (c0 c1 : C) (seats seats1 : List Seat) (ss ss1 : List ServiceSeat) (k k1 : Kept) (news : List Crossing) (r : Result (Unit {0}) WorldFault)
     → Sits h place s seats → calls.takes c0 h (Ok (Some i)) c1 → reverse news ≡ crossing_of i ∷ []
@@ -70,7 +70,7 @@ pub offer_halts : {C : Type 0} (calls : Calls C) (h : Host) (place : ℕ) (s : N
 offer_halts {C} calls h place s c0 seats ss k f r sits says is e =
     let m : (m : HostMessage) × next_out s ≡ Some m = some_message (next_out s) says in
     let stops : Halts c0 (running c0 seats ss k) r (world_ended c0 seats ss k r) =
-    subst (λ (x : Result (Unit {0}) WorldFault). Halts c0 (running c0 seats ss k) x (world_ended c0 seats ss k x)) (sym e) (halts c0 (running c0 seats ss k) seats ss k f (memory_of f is) refl) in
+    subst (λ (x : Result (Unit {0}) WorldFault). Halts c0 (running c0 seats ss k) x (world_ended c0 seats ss k x)) (sym e) (halts c0 (running c0 seats ss k) seats ss k f (memory_of f is) refl refl) in
     sits_gives (λ s. OfferGives calls h s (next_out s) (running c0 seats ss k) r (world_ended c0 seats ss k r)) h place s (running c0 seats ss k) r (world_ended c0 seats ss k r) sits
     (offer_some calls h s m.0 (running c0 seats ss k) r (world_ended c0 seats ss k r) m.1 (inl stops))
 
@@ -96,12 +96,12 @@ served_ends : {C : Type 0} (h : Host) (q : Request) (s : NcpState) (c : C) (seat
     → IsServed h q s seats seats1 ss ss1 k k1 r → AskGives h q s None (running c seats ss k) r (world_ended c seats1 ss1 k1 r)
 served_ends {C} h q s c seats seats1 ss ss1 k k1 (Ok tt) m =
     inl (refl, tended_is h (turn_of h (length k.book.notices) (services_of h ss) (served s q, served_notices s q)) c seats seats1 ss ss1 (all_told h (served_notices s q) (asked h q k)) k1 m)
-served_ends {C} h q s c seats seats1 ss ss1 k k1 (Err f) m = inr (halts c (running c seats ss k) seats1 ss1 k1 f (memory_of f m.0) m.1)
+served_ends {C} h q s c seats seats1 ss ss1 k k1 (Err f) m = inr (halts c (running c seats ss k) seats1 ss1 k1 f (memory_of f m.0) refl m.1)
 
 refused_is : {C : Type 0} (f : NcpFault) (c : C) (seats seats1 : List Seat) (ss ss1 : List ServiceSeat) (k k1 : Kept) (r : Result (Unit {0}) WorldFault) → wants_memory (Program f) ≡ false
     → IsRefused f seats seats1 ss ss1 k k1 r → Refuses (Program f) (running c seats ss k) r (world_ended c seats1 ss1 k1 r)
 refused_is {C} f c seats seats1 ss ss1 k k1 r calm m =
-    let with : Bool → WorldState C = λ b. record { carrier = c; seats = seats1; services = ss1; kept = k1; stopped = b } in (
+    let with : Bool → WorldState C = λ b. record { carrier = c; strangers = []; seats = seats1; services = ss1; kept = k1; stopped = b } in (
       m.0,
       ap (λ (x : Result (Unit {0}) WorldFault). world_ended c seats1 ss1 k1 x) m.0 ∙ ap with calm ∙ ap (λ (x : List Seat). running c x ss1 k1) m.1.0 ∙ ap (λ (x : List ServiceSeat). running c seats x k1) m.1.1.0
           ∙ ap (λ (b : Kept). running c seats ss b) m.1.1.1,
@@ -200,7 +200,7 @@ begun_ends : {C : Type 0} (h : Host) (t : ServicesState × ServiceDeskState) (c 
     → OnOk r (AreDone h t seats ss k seats1 ss1 k1) → IfErr r (λ f. (f ≡ Program problem.OutOfMemory) × (k1 ≡ k))
     → DoesOrHalts (tended h t (running c seats ss k)) (running c seats ss k) r (world_ended c seats1 ss1 k1 r)
 begun_ends {C} h t c seats seats1 ss ss1 k k1 (Ok tt) done kept = inl (refl, tended_is h t c seats seats1 ss ss1 k k1 done)
-begun_ends {C} h t c seats seats1 ss ss1 k k1 (Err f) done kept = inr (halts c (running c seats ss k) seats1 ss1 k1 f (memory_of f kept.0) kept.1)
+begun_ends {C} h t c seats seats1 ss ss1 k k1 (Err f) done kept = inr (halts c (running c seats ss k) seats1 ss1 k1 f (memory_of f kept.0) refl kept.1)
 
 pub server_ends : {C : Type 0} (h : Host) (listen base place : ℕ) (s : NcpState) (c : C) (seats seats1 : List Seat) (ss ss1 : List ServiceSeat) (k k1 : Kept) (r : Result (Unit {0}) WorldFault) → Sits h place s seats
     → OnOk r (AreDone h (server_begun listen base (services_of h ss) (opening_desk h (length k.book.notices) s)) seats ss k seats1 ss1 k1) → IfErr r (λ f. (f ≡ Program problem.OutOfMemory) × (k1 ≡ k))

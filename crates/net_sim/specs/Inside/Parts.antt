@@ -27,16 +27,14 @@ abbrev pub runs_out : Result (Unit {0}) WorldFault → Bool
 runs_out (Ok done) = false
 runs_out (Err f) = wants_memory f
 
+-- a world with no strangers, that hasn't stopped
 abbrev pub running : {C : Type 0} → C → List Seat → List ServiceSeat → Kept → WorldState C
-running c seats services k = record { carrier = c; seats = seats; services = services; kept = k; stopped = false }
+running c seats services k = record { carrier = c; strangers = []; seats = seats; services = services; kept = k; stopped = false }
 
 abbrev pub world_ended : {C : Type 0} → C → List Seat → List ServiceSeat → Kept → Result (Unit {0}) WorldFault → WorldState C
-world_ended c seats services k r = record { carrier = c; seats = seats; services = services; kept = k; stopped = runs_out r }
+world_ended c seats services k r = record { carrier = c; strangers = []; seats = seats; services = services; kept = k; stopped = runs_out r }
 
--- a world of a carrier and hosts: as it is, while it runs, and after an event with this answer
-abbrev pub world_of_hosts : {C : Type 0} → C → HostsState → Bool → WorldState C
-world_of_hosts c h stopped = record { carrier = c; seats = h.seats; services = h.services; kept = h.book; stopped = stopped }
-
+-- a world of a carrier and hosts, with no strangers: while it runs, and after an event with this answer
 abbrev pub world_of : {C : Type 0} → C → HostsState → WorldState C
 world_of c h = running c h.seats h.services h.book
 

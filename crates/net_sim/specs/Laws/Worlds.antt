@@ -14,7 +14,7 @@ use Rattle.interface.specs.declared.message.HostMessage.{HostMessage}
 use Rattle.ncp_control.specs.Phases.{is_ready}
 use Rattle.net_sim.specs.Carriers.{IsBooked, shown}
 use Rattle.net_sim.specs.Clean.{HaveAddresses, IsFresh, IsLawful, IsText, IsUnheard, is_through}
-use Rattle.net_sim.specs.MixedWorlds.{IsLawfulAmong, MixedCalmGives, MixedRunGives, MixedState, MixedStepGives, opening_among, strange_in}
+use Rattle.net_sim.specs.MixedWorlds.{IsLawfulAmong, MixedRunGives, MixedStepGives, opening_among, strange_in}
 use Rattle.net_sim.specs.Projection.{Agrees, IsApart, event_by, event_of, message_on}
 use Rattle.net_sim.specs.Story as story
 use Rattle.net_sim.specs.Story.{Crossed, Moment, places}
@@ -203,25 +203,25 @@ pub record LawfulWorlds {C : Type 0} (calls : Calls C) : Type 0 where
 -- their programs say.
 pub record MixedWorlds {C : Type 0} (calls : Calls C) : Type 0 where
   pub opening :
-      (strange : Host → Bool) (c : C) → (calls.seen c).log ≡ [] → HaveAddresses (calls.seen c).hosts →
-      ((h : Host) → strange h ≡ true → is_host (calls.seen c).hosts h ≡ true) →
-      IsLawfulAmong strange calls.seen (calls.seen c).hosts (opening_among (shown calls) strange c)
+      (strangers : List Host) (c : C) → (calls.seen c).log ≡ [] → HaveAddresses (calls.seen c).hosts →
+      ((h : Host) → is_host strangers h ≡ true → is_host (calls.seen c).hosts h ≡ true) →
+      IsLawfulAmong (λ h. is_host strangers h) calls.seen (calls.seen c).hosts (opening_among (shown calls) strangers c)
   -- by one event, where users name hosts by addresses and the carrier's log is still a run of the mailboxes
   pub step :
-      (hosts : List Host) (old new : MixedState C) (e : Event) (r : Result (Unit {0}) WorldFault) →
-      IsLawfulAmong (strange_in old) calls.seen hosts old.world → IsNamed e →
-      MixedStepGives (shown calls) old e r new → IsRun hosts (calls.seen new.world.carrier).log →
-      IsLawfulAmong (strange_in new) calls.seen hosts new.world
+      (hosts : List Host) (old new : WorldState C) (e : Event) (r : Result (Unit {0}) WorldFault) →
+      IsLawfulAmong (strange_in old) calls.seen hosts old → IsNamed e →
+      MixedStepGives (shown calls) old e r new → IsRun hosts (calls.seen new.carrier).log →
+      IsLawfulAmong (strange_in new) calls.seen hosts new
   -- by a list of events, and by this many quiet rounds, in which strangers take nothing
   pub run :
-      (hosts : List Host) (old new : MixedState C) (events : List Event) (r : Result (Unit {0}) WorldFault) →
-      IsLawfulAmong (strange_in old) calls.seen hosts old.world → Each IsNamed events →
-      MixedRunGives (shown calls) old events r new → IsRun hosts (calls.seen new.world.carrier).log →
-      IsLawfulAmong (strange_in new) calls.seen hosts new.world
+      (hosts : List Host) (old new : WorldState C) (events : List Event) (r : Result (Unit {0}) WorldFault) →
+      IsLawfulAmong (strange_in old) calls.seen hosts old → Each IsNamed events →
+      MixedRunGives (shown calls) old events r new → IsRun hosts (calls.seen new.carrier).log →
+      IsLawfulAmong (strange_in new) calls.seen hosts new
   pub calm :
-      (hosts : List Host) (old new : MixedState C) (times : ℕ) (r : Result (Unit {0}) WorldFault) →
-      IsLawfulAmong (strange_in old) calls.seen hosts old.world → MixedCalmGives (shown calls) times old r new →
-      IsRun hosts (calls.seen new.world.carrier).log → IsLawfulAmong (strange_in new) calls.seen hosts new.world
+      (hosts : List Host) (old new : WorldState C) (times : ℕ) (r : Result (Unit {0}) WorldFault) →
+      IsLawfulAmong (strange_in old) calls.seen hosts old → CalmGives (shown calls) times old r new →
+      IsRun hosts (calls.seen new.carrier).log → IsLawfulAmong (strange_in new) calls.seen hosts new
   -- without strangers such a world is lawful as any world is, and a lawful one is such a world
   pub nobody :
       (strange : Host → Bool) (hosts : List Host) (w : WorldState C) → ((h : Host) → strange h ≡ false) →

@@ -7,7 +7,7 @@ pub returns : goal.returns
 returns g c =
     let calls : Calls g.row.C.Denot = g.C.Carrier.calls in
     record {
-      opening = λ strange x none addresses strangers. opening_mixed calls strange x none addresses strangers;
+      opening = λ strangers x none addresses hosts. opening_mixed calls strangers x none addresses hosts;
       step = λ hosts old new e r lawful named h is. step_mixed calls hosts old new r lawful is e named h;
       run = λ hosts old new events r lawful named h is. run_mixed calls hosts old new r lawful is events named h;
       calm = λ hosts old new times r lawful h is. calm_mixed calls hosts old new r lawful is times h;

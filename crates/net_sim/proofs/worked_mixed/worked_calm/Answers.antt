@@ -13,7 +13,7 @@ use Rattle.net_sim.proofs.Hosts.Unresting.{given_moves}
 use Rattle.net_sim.proofs.worked_mixed.worked_calm.Goals as goal
 
 abbrev world : WorldState Seen
-world = beside_third.world
+world = beside_third
 
 -- a quiet round may change nothing
 still : Leaves waiting_carrier world Quiet
@@ -49,14 +49,12 @@ pub returns-clause-rests : goal.returns-clause-rests
 returns-clause-rests c = rests
 
 pub returns-clause-stays : goal.returns-clause-stays
-returns-clause-stays c rounds = (
-  begun waiting_carrier rounds world (Ok tt) world refl
-      (rest_passed waiting_carrier rounds 0 world world (none_passed waiting_carrier rounds world) rests),
-  refl,
-)
+returns-clause-stays c rounds =
+    begun waiting_carrier rounds world (Ok tt) world refl
+    (rest_passed waiting_carrier rounds 0 world world (none_passed waiting_carrier rounds world) rests)
 
 pub returns-clause-comes : goal.returns-clause-comes
 returns-clause-comes c rest =
     let t = (rest.takings third).step in
-    given_moves waiting_carrier third (opening_state third) t.2.0.0 t.1 t.0 beside_nobody.world
+    given_moves waiting_carrier third (opening_state third) t.2.0.0 t.1 t.0 beside_nobody
     (rest.takings third).answer t.2.0.1 t.3 (rest.takings third).continues

@@ -5,4 +5,4 @@ use Rattle.net_sim.proofs.mixed_world.MixedWorld.handed.Goals as goal
 pub returns-clause-empty : goal.returns-clause-empty
 returns-clause-empty g c =
     among_unhanded (strange_in c.args.self.now) g.C.Carrier.calls.seen
-    (g.C.Carrier.calls.seen c.args.self.now.world.carrier).hosts c.args.self.now.world c.book.ensures.lawful
+    (g.C.Carrier.calls.seen c.args.self.now.carrier).hosts c.args.self.now c.book.ensures.lawful

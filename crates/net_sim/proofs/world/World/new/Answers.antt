@@ -1,10 +1,8 @@
-use Rattle.net_sim.proofs.Common.{◌≡◌, List, [], ap, subst, ◌∙◌, sym, shown, Calls, InOrder, Host, IsAddress, IsOnce, opening_world}
+use Rattle.net_sim.proofs.Common.{◌≡◌, List, ap, subst, ◌∙◌, sym, Calls, InOrder, Host, IsAddress, IsOnce}
 use Rattle.std.specs.List.{All}
-use Rattle.net_sim.specs.Inside.Mixed.{mixed_with}
 use Rattle.net_sim.specs.Inside.Parts.{opening_hosts}
 use Rattle.net_sim.proofs.Books.Held.{once_in_order}
 use Rattle.net_sim.proofs.Books.HeldMixed.{opening_held}
-use Rattle.net_sim.proofs.Books.SomeWorld.{among_some}
 use Rattle.net_sim.proofs.world.World.new.Goals as goal
 
 pub new-requires : goal.new-requires
@@ -17,13 +15,4 @@ of_parts-requires g c =
     let addresses : All (λ (h : Host). IsAddress h) (g.C.Carrier.calls.seen c.args.carrier).hosts = subst (All (λ (h : Host). IsAddress h)) c.hosts-2.ensures.value c.are_addresses.ensures in
     let hosts : c.in_ok-hosts.hosts ≡ opening_hosts (g.C.Carrier.calls.seen c.args.carrier).hosts =
     c.in_ok-hosts.ensures ∙ ap (λ (hs : List Host). opening_hosts hs) c.hosts.ensures.value in
-    rw hosts (among_some calls.seen (mixed_with (opening_world (shown calls) c.args.carrier) []) (opening_held calls c.args.carrier c.requires.unused order addresses))
-
-pub invariant_of-result : goal.invariant_of-result
-invariant_of-result g c =
-    let calls : Calls g.row.C.Denot = g.C.Carrier.calls in
-    let order : InOrder (g.C.Carrier.calls.seen c.args.carrier).hosts = c.hosts.ensures.ordered in
-    let addresses : All (λ (h : Host). IsAddress h) (g.C.Carrier.calls.seen c.args.carrier).hosts = subst (All (λ (h : Host). IsAddress h)) c.hosts-2.ensures.value c.are_addresses.ensures in
-    let hosts : c.in_ok-hosts.hosts ≡ opening_hosts (g.C.Carrier.calls.seen c.args.carrier).hosts =
-    c.in_ok-hosts.ensures ∙ ap (λ (hs : List Host). opening_hosts hs) c.hosts.ensures.value in
-    rw (c.of_parts.ensures, hosts) (opening_held calls c.args.carrier c.requires.unused order addresses)
+    rw hosts (opening_held calls c.args.carrier c.requires.unused order addresses)

@@ -1,6 +1,6 @@
-use Rattle.net_sim.proofs.Common.{rules, ◌≡◌, shown, world_ended, running, runs_out, EventGives, Calls}
-use Rattle.net_sim.specs.Inside.Core.{IsSomeWorld}
-use Rattle.net_sim.proofs.Books.SomeWorld.{core_live, followed_some}
+use Rattle.net_sim.proofs.Common.{rules, ◌≡◌, shown, world_ended, running, runs_out, EventGives, WorldState, Calls}
+use Rattle.net_sim.specs.Inside.Mixed.{IsHeldAmong, among}
+use Rattle.net_sim.proofs.Books.HeldMixed.{core_live, event_steps, step_held}
 use Rattle.net_sim.proofs.world_core.WorldCore.step_near.Goals as goal
 
 pub follow_near-done-requires : goal.follow_near-done-requires
@@ -11,7 +11,19 @@ follow_near-done-requires g c = record {
 pub invariant_of-self : goal.invariant_of-self
 invariant_of-self g c =
     let calls : Calls g.row.C.Denot = g.C.Carrier.calls in
-    let some : IsSomeWorld g.C.Carrier.calls.seen c.args.self.now = search rules in
+    let old : WorldState g.row.C.Denot = c.args.self.now in
+    let new : WorldState g.row.C.Denot = world_ended c.follow_near-done.new.carrier c.follow_near-done.new.hosts.seats c.follow_near-done.new.hosts.services c.follow_near-done.new.hosts.book c.follow_near-done.result in
+    let held : IsHeldAmong g.C.Carrier.calls.seen c.args.self.now = search rules in
     let stop : c.runs_out-self-inside.result ≡ runs_out c.follow_near-done.result = search rules in
-    let gives : EventGives (shown calls) (running c.args.self.now.carrier c.args.self.now.seats c.args.self.now.services c.args.self.now.kept) c.args.event.now c.follow_near-done.result (world_ended c.follow_near-done.new.carrier c.follow_near-done.new.hosts.seats c.follow_near-done.new.hosts.services c.follow_near-done.new.hosts.book c.follow_near-done.result) = search rules in
-    rw stop (followed_some calls c.args.event.now c.args.self.now c.follow_near-done.new.carrier c.follow_near-done.new.hosts.seats c.follow_near-done.new.hosts.services c.follow_near-done.new.hosts.book c.follow_near-done.result some c.is_named.ensures (search rules) gives c.log.ensures.run)
+    let gives : EventGives (shown calls) (running old.carrier old.seats old.services old.kept) c.args.event.now c.follow_near-done.result new = search rules in
+    rw stop (step_held calls old (among old.strangers new) c.follow_near-done.result held c.log.ensures.run c.args.event.now c.is_named.ensures
+    (event_steps (shown calls) c.args.event.now old c.follow_near-done.result new (search rules) gives))
+
+pub returns : goal.returns
+returns g c =
+    let calls : Calls g.row.C.Denot = g.C.Carrier.calls in
+    let old : WorldState g.row.C.Denot = c.args.self.now in
+    let new : WorldState g.row.C.Denot = world_ended c.follow_near-done.new.carrier c.follow_near-done.new.hosts.seats c.follow_near-done.new.hosts.services c.follow_near-done.new.hosts.book c.follow_near-done.result in
+    let stop : c.runs_out-self-inside.result ≡ runs_out c.follow_near-done.result = search rules in
+    let gives : EventGives (shown calls) (running old.carrier old.seats old.services old.kept) c.args.event.now c.follow_near-done.result new = search rules in
+    rw stop (event_steps (shown calls) c.args.event.now old c.follow_near-done.result new (search rules) gives)
