@@ -6,7 +6,8 @@ use Rattle.interface.specs.Host.{Host}
 use Rattle.leader1822.specs.Boxes.{plain_calls}
 use Rattle.mixed_worlds.specs.Laws.{KeepsAmong, KeepsToward}
 use Rattle.net_sim.specs.Carriers.{shown}
-use Rattle.net_sim.specs.MixedWorlds.{MixedState, opening_mixed, strange_in}
+use Rattle.net_sim.specs.MixedWorlds.{opening_mixed, strange_in}
+use Rattle.net_sim.specs.World.{WorldState}
 use Rattle.promise.specs.declared.life.Life.{Life}
 use Rattle.replay.specs.declared.print.Detail.{Detail}
 use Rattle.script.specs.Input.{IsParted}
@@ -76,22 +77,22 @@ IsMixedFault octets fault.BadOptions = ⊥
 -- this world, and the lives are those of its book. The book keeps what is promised among hosts with programs and, of each of these, toward all others
 pub record MixedShowsFrom {C : Type 0} (calls : Calls C) (strangers : List Host) (opening : C)
     (events : List WorldEvent) (lives : List Life) (shows : List lines.Shown) : Type 0 where
-  pub last : MixedState C
+  pub last : WorldState C
   pub replayed : ReplaysBy (mixed_kind (shown calls)) (opening_mixed (shown calls) opening strangers) events last shows
-  pub booked : ShowsBook last.world.kept.book shows
-  pub left : lives ≡ last.world.kept.book.lives
-  pub among : KeepsAmong (strange_in last) (calls.seen last.world.carrier).hosts last.world
-  pub toward : KeepsToward (strange_in last) last.world
+  pub booked : ShowsBook last.kept.book shows
+  pub left : lives ≡ last.kept.book.lives
+  pub among : KeepsAmong (strange_in last) (calls.seen last.carrier).hosts last
+  pub toward : KeepsToward (strange_in last) last
 
 -- memory ran out in one of the events: the lines that were shown by then have what is in the world's book, which keeps the same
 pub record MixedStopsFrom {C : Type 0} (calls : Calls C) (strangers : List Host) (opening : C)
     (events : List WorldEvent) (shows : List lines.Shown) : Type 0 where
-  pub last : MixedState C
+  pub last : WorldState C
   pub stopped : RunsOutBy (mixed_kind (shown calls))
       (opening_mixed (shown calls) opening strangers) events last shows
-  pub booked : ShowsBook last.world.kept.book shows
-  pub among : KeepsAmong (strange_in last) (calls.seen last.world.carrier).hosts last.world
-  pub toward : KeepsToward (strange_in last) last.world
+  pub booked : ShowsBook last.kept.book shows
+  pub among : KeepsAmong (strange_in last) (calls.seen last.carrier).hosts last
+  pub toward : KeepsToward (strange_in last) last
 
 -- these lines are written
 abbrev pub MixedWritesPart : {C : Type 0} → Detail → Calls C → List Host → C → List WorldEvent → Option (List ℕ)

@@ -8,7 +8,8 @@ use Rattle.leader1822.specs.Boxes.{plain_calls}
 use Rattle.mixed_worlds.specs.Laws.{KeepsAmong, KeepsToward}
 use Rattle.net_sim.specs.Carriers.{shown}
 use Rattle.net_sim.specs.Handed.{AreUnhanded}
-use Rattle.net_sim.specs.MixedWorlds.{MixedState, absent_in, opening_mixed, strange_in}
+use Rattle.net_sim.specs.MixedWorlds.{absent_in, opening_mixed, strange_in}
+use Rattle.net_sim.specs.World.{WorldState}
 use Rattle.promise.specs.Fates.{AreFated}
 use Rattle.subnet.specs.Working.{subnet_calls}
 use Rattle.topology.specs.Mixed.{MixedFields}
@@ -33,15 +34,15 @@ pub record MixedLogsFrom {C : Type 0} (calls : Calls C) (strangers : List Host) 
     (events : List WorldEvent) (before after : Option (List ℕ)) : Type 0 where
   pub there : absent_in (calls.seen opening).hosts strangers ≡ None
   pub named : AreStrangers strangers
-  pub last : MixedState C
+  pub last : WorldState C
   pub shows : List Shown
   pub replayed : ReplaysBy (mixed_kind (shown calls)) (opening_mixed (shown calls) opening strangers) events last shows
-  pub among : KeepsAmong (strange_in last) (calls.seen last.world.carrier).hosts last.world
-  pub toward : KeepsToward (strange_in last) last.world
-  pub lists : AreUnhanded last.world.kept.book.lives last.world.kept.handed
-  pub fated : AreFated last.world.kept.book.lives last.world.kept.fates
-  pub written : Appends before after (strangers_text strangers ++ log_text (world_book last.world.kept))
-  pub valid : IsBook (world_book last.world.kept)
+  pub among : KeepsAmong (strange_in last) (calls.seen last.carrier).hosts last
+  pub toward : KeepsToward (strange_in last) last
+  pub lists : AreUnhanded last.kept.book.lives last.kept.handed
+  pub fated : AreFated last.kept.book.lives last.kept.fates
+  pub written : Appends before after (strangers_text strangers ++ log_text (world_book last.kept))
+  pub valid : IsBook (world_book last.kept)
 
 -- over the carrier that a topology names: plain mailboxes between its hosts, or the subnet of its IMPs and lines
 abbrev pub MixedLogsOver : CarrierKind → MixedFields → List WorldEvent → Option (List ℕ) → Option (List ℕ)

@@ -24,9 +24,9 @@ use net_sim::{Book, MixedWorld};
 ///
 /// Nothing is promised to arrive, and of a stranger nothing at all.
 pub fn book_among<C: Carrier>(world: &MixedWorld<C>) -> Book<'_>
-    ensures value { result ≡ world.now.world.kept }
-    ensures among { KeepsAmong (strange_in world.now) (C.calls.seen world.now.world.carrier).hosts world.now.world }
-    ensures toward { KeepsToward (strange_in world.now) world.now.world }
+    ensures value { result ≡ world.now.kept }
+    ensures among { KeepsAmong (strange_in world.now) (C.calls.seen world.now.carrier).hosts world.now }
+    ensures toward { KeepsToward (strange_in world.now) world.now }
 {
     worlds::<C>();
     world.book()

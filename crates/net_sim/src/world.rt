@@ -93,6 +93,14 @@ impl<C: Carrier> World<C> {
         self.core.carrier()
     }
 
+    /// Returns its strangers, of which there are none.
+    pub fn strangers(&self) -> &[HostAddr]
+        ensures value { result.now ≡ self.now.strangers }
+        ensures none { self.now.strangers ≡ [] }
+    {
+        self.core.strangers()
+    }
+
     /// Returns what runs on the hosts beside their programs, in the carrier's order.
     pub fn services(&self) -> &[ServiceSeat]
         ensures { result.now ≡ self.now.services }

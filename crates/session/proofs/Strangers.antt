@@ -1,11 +1,11 @@
 -- What is printed of scripts on each kind of network.
-use Rattle.std.proofs.Common.{◌≡◌, ◌≤◌, ◌∙◌, ℕ, Bool, true, List, [], ◌++◌, Option, Result, Ok, Err, OnOk, Some, ap, codes, false, refl, reverse, subst, sym, take}
+use Rattle.std.proofs.Common.{◌≡◌, ◌∙◌, ℕ, Bool, true, List, [], ◌++◌, Some, ap, codes, false, refl, reverse, subst, sym}
 use Rattle.std.proofs.lemmas.List.{append-nil}
 use Rattle.interface.specs.Calls.{Calls}
 use Rattle.interface.specs.Host.{Host}
 use Rattle.leader1822.specs.Boxes.{Boxes, plain_calls}
 use Rattle.net_sim.specs.Carriers.{shown}
-use Rattle.net_sim.specs.MixedWorlds.{MixedState, opening_mixed}
+use Rattle.net_sim.specs.MixedWorlds.{opening_mixed}
 use Rattle.replay.specs.declared.print.Detail.TheVariants.{Texts}
 use Rattle.subnet.specs.Calls.{Kept}
 use Rattle.subnet.specs.Working.{subnet_calls}
@@ -34,19 +34,19 @@ use Rattle.session.specs.Session.{among, on, on_mixed, over}
 use Rattle.session.specs.Turns.{Leads, Prints}
 use Rattle.session.proofs.Sessions.{Translates}
 
-pub mixed_prints : {C : Type 0} (calls : Calls C) (strangers : List Host) (carrier : C) (opening : MixedState C)
+pub mixed_prints : {C : Type 0} (calls : Calls C) (strangers : List Host) (carrier : C) (opening : WorldState C)
     → opening ≡ opening_mixed (shown calls) carrier strangers → (script said : List ℕ)
     → Prints world_spelling (IsWorldEvent true) (ReplaysWith (HappensBy (mixed_kind (shown calls))) (lines.shown_text Texts) (KeepsAll calls)) opening script said
     → (among calls strangers carrier).Prints script said
 mixed_prints {C} calls strangers carrier opening is script said (last, h) =
     let from : ReplaysBy (mixed_kind (shown calls)) (opening_mixed (shown calls) carrier strangers) h.events last h.replayed.0 =
-    subst (λ (w : MixedState C). ReplaysBy (mixed_kind (shown calls)) w h.events last h.replayed.0) is h.replayed.1 in
+    subst (λ (w : WorldState C). ReplaysBy (mixed_kind (shown calls)) w h.events last h.replayed.0) is h.replayed.1 in
     let gains = replays_show (mixed_kind (shown calls)) (opening_mixed (shown calls) carrier strangers) h.events last h.replayed.0 from in (
       h.events,
       h.asked,
       record {
         shown = h.replayed.0;
-        lives = last.world.kept.book.lives;
+        lives = last.kept.book.lives;
         shows = record {
           last = last;
           replayed = from;

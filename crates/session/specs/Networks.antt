@@ -3,7 +3,8 @@ use Rattle.std.specs.Prelude.{◌≡◌, ℕ, List}
 use Rattle.interface.specs.Calls.{Calls}
 use Rattle.interface.specs.Mailboxes.{IsRun}
 use Rattle.mixed_worlds.specs.Laws.{KeepsAmong, KeepsToward}
-use Rattle.net_sim.specs.MixedWorlds.{MixedState, strange_in}
+use Rattle.net_sim.specs.MixedWorlds.{strange_in}
+use Rattle.net_sim.specs.World.{WorldState}
 use Rattle.replay.specs.InTurn.{Happening, InTurn, text_of}
 use Rattle.session.specs.Turns.{Replaying}
 
@@ -12,8 +13,8 @@ abbrev pub ReplaysWith : {S E L : Type 0} → Happening S E L → (L → List �
 ReplaysWith {S} {E} {L} Happens text Keeps old events new said = (lines : List L) × InTurn Happens old events new lines × (said ≡ text_of text lines) × Keeps new
 
 -- its book keeps what is promised among hosts with programs and, of each of these, toward all others
-abbrev pub KeepsAll : {C : Type 0} → Calls C → MixedState C → Type 0
-KeepsAll calls s = KeepsAmong (strange_in s) (calls.seen s.world.carrier).hosts s.world × KeepsToward (strange_in s) s.world
+abbrev pub KeepsAll : {C : Type 0} → Calls C → WorldState C → Type 0
+KeepsAll calls s = KeepsAmong (strange_in s) (calls.seen s.carrier).hosts s × KeepsToward (strange_in s) s
 
 -- what crossed is a run of the mailboxes, on which every host may rely
 abbrev pub KeepsRun : {C : Type 0} → Calls C → C → Type 0

@@ -12,7 +12,7 @@ pub use Rattle.interface.specs.Host.{Host}
 pub use Rattle.interface.specs.declared.crossing.Crossing.{Crossing}
 pub use Rattle.leader1822.specs.Boxes.{plain_calls}
 pub use Rattle.net_sim.specs.Carriers.{shown}
-pub use Rattle.net_sim.specs.MixedWorlds.{MixedState, opening_mixed}
+pub use Rattle.net_sim.specs.MixedWorlds.{opening_mixed}
 pub use Rattle.net_sim.specs.World.{WorldState, opening_world}
 pub use Rattle.net_sim.specs.declared.event.Event.{Event}
 pub use Rattle.replay.proofs.lemmas.{ends_front, in_turn_once, on_ok}

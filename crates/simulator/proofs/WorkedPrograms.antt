@@ -96,10 +96,10 @@ no_rest (x ∷ front) rest e = cc
 nothing_logged_among : (carrier : CarrierKind) (t : MixedFields) (events : List WorldEvent)
     → MixedLogsOver carrier t events (Some []) (Some []) → ⊥
 nothing_logged_among kind.Plain t events h =
-    let b : Book = world_book h.last.world.kept in
+    let b : Book = world_book h.last.kept in
     some_log b (no_rest (strangers_text t.strangers) (log_text b) h.written)
 nothing_logged_among kind.Subnet t events h =
-    let b : Book = world_book h.last.world.kept in
+    let b : Book = world_book h.last.kept in
     some_log b (no_rest (strangers_text t.strangers) (log_text b) h.written)
 
 none_logged : LoggedEither (Some []) (Some []) → ⊥

@@ -3,7 +3,8 @@ use Rattle.std.specs.Prelude.{◌≡◌, ◌⊎◌, ℕ, List, Option, IfSome, l
 use Rattle.interface.specs.Calls.{Calls}
 use Rattle.leader1822.specs.Boxes.{plain_calls}
 use Rattle.net_sim.specs.Carriers.{shown}
-use Rattle.net_sim.specs.MixedWorlds.{MixedState, opening_mixed}
+use Rattle.net_sim.specs.MixedWorlds.{opening_mixed}
+use Rattle.net_sim.specs.World.{WorldState}
 use Rattle.subnet.specs.Working.{subnet_calls}
 use Rattle.subnet_trace.specs.Traced.{subnet_inside}
 use Rattle.topology.specs.Mixed.{MixedFields}
@@ -22,12 +23,12 @@ use Rattle.simulator.specs.Traced.{IsScriptOf, TraceStops, Traced, TracedInPart,
 -- their trace is written: first the network with its strangers, and then a line for each event, of a calm for each of its own that prints
 -- or changes something, and nothing else
 pub record MixedTracesFrom {C : Type 0} (calls : Calls C) (members : C → AllParts) (t : MixedFields) (opening : C) (events : List (ℕ × WorldEvent)) (before after : Option (List ℕ)) : Type 0 where
-  pub last : MixedState C
+  pub last : WorldState C
   pub traced : WritesMixed calls members t.network (opening_mixed calls opening t.strangers) events last before after
 
 -- memory ran out in one of them
 pub record MixedTraceEndsFrom {C : Type 0} (calls : Calls C) (members : C → AllParts) (t : MixedFields) (opening : C) (events : List (ℕ × WorldEvent)) (before after : Option (List ℕ)) : Type 0 where
-  pub last : MixedState C
+  pub last : WorldState C
   pub traced : WritesMixedPart calls members t.network (opening_mixed calls opening t.strangers) events last before after
 
 -- in one of them, or before the first line

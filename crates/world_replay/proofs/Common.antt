@@ -9,7 +9,7 @@ pub use Rattle.interface.specs.declared.crossing.Crossing.{Crossing}
 pub use Rattle.net_sim.proofs.lemmas.{calm_keeps}
 pub use Rattle.net_sim.specs.Book.{Kept, all_asked, all_crossed, all_told, asked, book_told, crossed}
 pub use Rattle.net_sim.specs.Carriers.{shown}
-pub use Rattle.net_sim.specs.MixedWorlds.{FetchEnds, MixedState, OutEnds, RefusesMixed}
+pub use Rattle.net_sim.specs.MixedWorlds.{FetchEnds, OutEnds}
 pub use Rattle.net_sim.specs.Worked.{any_carrier, fresh, message}
 pub use Rattle.net_sim.specs.World.{AskGives, AtProgram, AtSeat, CalmGives, Calms, Does, DoesOrHalts, Halts, NetEnds, OfferEnds, OfferGives, Passes, QuietEnds, Refuses, Repeats, StepGives, TakeEnds, TakeGives, TurnsOf, TypeGives, WorldState, changed, done_by, noticed, seat_of, served_at, services_of, stops, up_in, with_carrier, with_server, with_user, world_moved}
 pub use Rattle.net_sim.specs.declared.event.Event.{Event}

@@ -1,5 +1,5 @@
 -- What a replay needs of worlds, of those with strangers as well.
-use Rattle.world_replay.proofs.Common.{◌≡◌, ℕ, ◌+◌, zero, suc, Bool, true, false, List, ◌++◌, Result, Ok, Err, refl, ap₂, subst, ◌∙◌, arith, Calls, CalmGives, Calms, WorldState, stops, WorldFault, Gains, MixedState, gained, mixed_kind, world_kind, IsReplayable}
+use Rattle.world_replay.proofs.Common.{◌≡◌, ℕ, ◌+◌, zero, suc, Bool, true, false, List, ◌++◌, Result, Ok, refl, ap₂, subst, ◌∙◌, arith, Calls, CalmGives, Calms, WorldState, stops, WorldFault, Gains, gained, mixed_kind, world_kind, IsReplayable}
 use Rattle.world_replay.specs.Output.{Shown}
 use Rattle.world_replay.proofs.CalmRounds.{in_rounds, parted}
 use Rattle.world_replay.proofs.Grown.{Grew, grew_more}
@@ -65,13 +65,13 @@ module _ {C : Type 0} (calls : Calls C) where
     ends = λ k old new r g halts. ends k old new r g halts old.stopped refl;
   }
 
-  -- ---- with strangers, a calm is that of the world
+  -- ---- with strangers
 
   pub mixed_replayable : IsReplayable (mixed_kind calls)
   mixed_replayable = record {
-    well = λ n old r new g on. well n old.world r new.world g.0 on;
+    well = λ n old r new g on. well n old r new g on;
     gains = λ e old r new h. mixed_event_gains calls e old r new h;
-    more = λ n k old mid new r q g on h. (more n k old.world mid.world new.world r q g.0 on h.0, h.1 ∙ g.1);
-    shows = λ n k old mid new r q first next g h all. shows n k old.world mid.world new.world r q first.0 next.0 g h all;
-    ends = λ k old new r g halts. (ends k old.world new.world r g.0 halts old.world.stopped refl, g.1);
+    more = λ n k old mid new r q g on h. more n k old mid new r q g on h;
+    shows = λ n k old mid new r q first next g h all. shows n k old mid new r q first next g h all;
+    ends = λ k old new r g halts. ends k old new r g halts old.stopped refl;
   }

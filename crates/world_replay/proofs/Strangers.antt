@@ -1,5 +1,5 @@
 -- What is shown of a stranger in a small world.
-use Rattle.world_replay.proofs.Common.{◌≡◌, inl, inr, ℕ, Bool, true, false, List, [], ◌∷◌, ◌++◌, Option, None, Some, Result, Ok, Err, refl, ap, sym, subst, ◌∙◌, append-nil, Calls, Seen, crossing_of, Host, Crossing, StepGives, WorldState, AtProgram, AtSeat, OfferGives, QuietEnds, TakeEnds, TakeGives, changed, stops, seat_of, world_moved, Event, Ask, Net, Offer, Quiet, Server, Take, Typed, User, WorldFault, Kept, crossed, Gains, NcpState, first, second, message, Seat, IsOfCalm, if◌then◌else◌, same_host, calm_keeps, FetchEnds, MixedState, OutEnds, Refuses, Out, any_carrier, Told, opening_state, third, gained, HappensBy, mixed_kind, Noticed, shown_refusal, WorldEvent}
+use Rattle.world_replay.proofs.Common.{◌≡◌, inl, inr, ℕ, Bool, true, false, List, [], ◌∷◌, ◌++◌, Option, None, Some, Result, Ok, Err, refl, ap, sym, subst, ◌∙◌, append-nil, Calls, Seen, crossing_of, Host, Crossing, StepGives, WorldState, AtProgram, AtSeat, OfferGives, QuietEnds, TakeEnds, TakeGives, changed, stops, seat_of, world_moved, Event, Ask, Net, Offer, Quiet, Server, Take, Typed, User, WorldFault, Kept, crossed, Gains, NcpState, first, second, message, Seat, IsOfCalm, if◌then◌else◌, same_host, calm_keeps, FetchEnds, OutEnds, Refuses, Out, any_carrier, Told, opening_state, third, gained, HappensBy, mixed_kind, Noticed, shown_refusal, WorldEvent}
 use Rattle.bit_messages.specs.Octets.{octets_of}
 use Rattle.host_pairs.specs.Control.{orders_of}
 use Rattle.host_pairs.specs.declared.notice.Notice.TheVariants as notice
@@ -38,24 +38,24 @@ moved c k j g is =
     same_news k j (crossed c k) g one (gains_once k j (crossed c k) g one is)
 
 abbrev world : WorldState Seen
-world = beside_third.world
+world = beside_third
 
 -- ---- refusals
 
-pub refused_only : (calls : Calls Seen) (e : WorldEvent) (f : WorldFault) (new : MixedState Seen)
+pub refused_only : (calls : Calls Seen) (e : WorldEvent) (f : WorldFault) (new : WorldState Seen)
     (shown : List Shown) (h : HappensBy (mixed_kind calls) beside_third e new shown)
-    → Refuses f world h.outcome new.world → shown ≡ Refused f ∷ []
+    → Refuses f world h.outcome new → shown ≡ Refused f ∷ []
 refused_only calls e f new shown h refuses =
-    h.lines ∙ ap (λ (xs : List Shown). xs ++ shown_refusal h.outcome) (unmoved beside_third.world.kept new.world.kept h.gains (ap (λ (w : WorldState Seen). w.kept) refuses.1))
+    h.lines ∙ ap (λ (xs : List Shown). xs ++ shown_refusal h.outcome) (unmoved beside_third.kept new.kept h.gains (ap (λ (w : WorldState Seen). w.kept) refuses.1))
     ∙ ap shown_refusal refuses.0
 
 -- ---- what it says and takes
 
-went_well : (c : Crossing) (e : WorldEvent) (calls : Calls Seen) (new : MixedState Seen) (shown : List Shown)
+went_well : (c : Crossing) (e : WorldEvent) (calls : Calls Seen) (new : WorldState Seen) (shown : List Shown)
     (h : HappensBy (mixed_kind calls) beside_third e new shown)
-    → (new.world.kept ≡ crossed c beside_third.world.kept) × (h.outcome ≡ Ok tt) → shown ≡ Crossed c ∷ []
+    → (new.kept ≡ crossed c beside_third.kept) × (h.outcome ≡ Ok tt) → shown ≡ Crossed c ∷ []
 went_well c e calls new shown h (kept, well) =
-    h.lines ∙ ap (λ (xs : List Shown). xs ++ shown_refusal h.outcome) (moved c beside_third.world.kept new.world.kept h.gains kept)
+    h.lines ∙ ap (λ (xs : List Shown). xs ++ shown_refusal h.outcome) (moved c beside_third.kept new.kept h.gains kept)
     ∙ ap (λ (r : Result (Unit {0}) WorldFault). Crossed c ∷ shown_refusal r) well
 
 said : (m : HostMessage) (a : Result (Unit {0}) CarrierFault) (c : Seen) (q : Result (Unit {0}) WorldFault)
@@ -75,20 +75,20 @@ took i (Ok (Some j)) c q w is (inl d) on = (j, ap (λ (x : WorldState Seen). x.k
 took i (Ok (Some j)) c q w is (inr h) on = absurd (halts_stop c world q w h on)
 took i (Err e) c q w is ends on = absurd (cc)
 
-pub says_only : (new : MixedState Seen) (shown : List Shown)
+pub says_only : (new : WorldState Seen) (shown : List Shown)
     → HappensBy (mixed_kind accepting_carrier) beside_third (script.Happen (Out (message third first 2))) new shown
     → shown ≡ Crossed (crossing.Out (message third first 2)) ∷ []
 says_only new shown h =
-    let ((a, c, call, ends), same) = h.gives in
+    let (a, c, call, ends) = h.gives in
     went_well (crossing.Out (message third first 2)) (script.Happen (Out (message third first 2))) accepting_carrier new shown h
-    (said (message third first 2) a c h.outcome new.world call.0 ends h.goes_on)
+    (said (message third first 2) a c h.outcome new call.0 ends h.goes_on)
 
-pub takes_only : (new : MixedState Seen) (shown : List Shown)
+pub takes_only : (new : WorldState Seen) (shown : List Shown)
     → HappensBy (mixed_kind waiting_carrier) beside_third (script.Happen (Take third)) new shown
     → (i : Inbound) × (shown ≡ Crossed (crossing_of i) ∷ [])
 takes_only new shown h =
-    let ((a, c, ((i, given), seen), ends), same) = h.gives in
-    let (j, kept, well) = took i a c h.outcome new.world given ends h.goes_on in
+    let (a, c, ((i, given), seen), ends) = h.gives in
+    let (j, kept, well) = took i a c h.outcome new given ends h.goes_on in
     (j, went_well (crossing_of j) (script.Happen (Take third)) waiting_carrier new shown h (kept, well))
 
 -- ---- a calm
@@ -170,12 +170,12 @@ step_stays : (e : Event) (old : WorldState Seen) (r : Result (Unit {0}) WorldFau
     → IsOfCalm e → Stays old → StepGives waiting_carrier old e r new → Stays new
 step_stays e old r new n p h = if_stopped waiting_carrier (EventGives waiting_carrier old e r new) (Stays new) old r new old.stopped (λ is. still old new p is) (λ t. event_stays e old r new n p t) h
 
-pub waits : (rounds : ℕ) (new : MixedState Seen) (shown : List Shown)
+pub waits : (rounds : ℕ) (new : WorldState Seen) (shown : List Shown)
     → HappensBy (mixed_kind waiting_carrier) beside_third (script.Calm rounds) new shown → shown ≡ []
 waits rounds new shown h =
-    let stays : Stays new.world = calm_keeps waiting_carrier Stays IsOfCalm tt (λ x. tt) (λ x. tt) (λ e old r w n p s. step_stays e old r w n p s) rounds world h.outcome new.world (refl, refl) h.gives.0 in
+    let stays : Stays new = calm_keeps waiting_carrier Stays IsOfCalm tt (λ x. tt) (λ x. tt) (λ e old r w n p s. step_stays e old r w n p s) rounds world h.outcome new (refl, refl) h.gives in
     let well : h.outcome ≡ Ok tt = (mixed_replayable waiting_carrier).well rounds beside_third h.outcome new h.gives h.goes_on in
-    h.lines ∙ ap (λ (xs : List Shown). xs ++ shown_refusal h.outcome) (unmoved beside_third.world.kept new.world.kept h.gains stays.0) ∙ ap shown_refusal well
+    h.lines ∙ ap (λ (xs : List Shown). xs ++ shown_refusal h.outcome) (unmoved beside_third.kept new.kept h.gains stays.0) ∙ ap shown_refusal well
 
 -- ---- it hails a host, which answers
 
@@ -183,19 +183,19 @@ abbrev there : Calls Seen
 there = any_carrier
 
 -- after each of the three events
-abbrev pub sent : MixedState Seen
-sent = record beside_third { world = changed (grown three_seen (crossing.Out hail ∷ [])) (crossing.Out hail ∷ []) world }
+abbrev pub sent : WorldState Seen
+sent = changed (grown three_seen (crossing.Out hail ∷ [])) (crossing.Out hail ∷ []) world
 
-abbrev heard : MixedState Seen
-heard = record sent { world = world_moved (grown sent.world.carrier (crossing.In hail ∷ [])) first (crossing.In hail) (accepted (opening_state first) (inbound.Message hail) 1) sent.world }
+abbrev heard : WorldState Seen
+heard = world_moved (grown sent.carrier (crossing.In hail ∷ [])) first (crossing.In hail) (accepted (opening_state first) (inbound.Message hail) 1) sent
 
-abbrev answered : MixedState Seen
-answered = record heard { world = changed (grown heard.world.carrier (crossing.Answer answer.Rfnm hail.flow ∷ [])) (crossing.Answer answer.Rfnm hail.flow ∷ []) heard.world }
+abbrev answered : WorldState Seen
+answered = changed (grown heard.carrier (crossing.Answer answer.Rfnm hail.flow ∷ [])) (crossing.Answer answer.Rfnm hail.flow ∷ []) heard
 
 pub goes_out : HappensBy (mixed_kind there) beside_third (script.Happen (Out hail)) sent (Crossed (crossing.Out hail) ∷ [])
 goes_out = record {
   outcome = Ok tt;
-  gives = ((Ok tt, grown three_seen (crossing.Out hail ∷ []), record { running = refl; shown = refl }, inl (refl, refl)), refl);
+  gives = (Ok tt, grown three_seen (crossing.Out hail ∷ []), record { running = refl; shown = refl }, inl (refl, refl));
   goes_on = refl;
   gains = record { crossings = crossing.Out hail ∷ []; notices = []; reports = []; crossed = refl; told = refl; said = refl };
   lines = refl;
@@ -208,7 +208,7 @@ comes_in : HappensBy (mixed_kind there) sent (script.Happen (Take first)) heard 
 unfolding accepted services.services_told octets_of packed_count command_of read_of orders_of
 comes_in = record {
   outcome = Ok tt;
-  gives = ((Ok (Some (inbound.Message hail)), grown sent.world.carrier (crossing.In hail ∷ []), (record { running = refl; shown = refl }, refl), inl (refl, refl)), refl);
+  gives = (Ok (Some (inbound.Message hail)), grown sent.carrier (crossing.In hail ∷ []), (record { running = refl; shown = refl }, refl), inl (refl, refl));
   goes_on = refl;
   gains = record { crossings = crossing.In hail ∷ []; notices = told ∷ []; reports = []; crossed = refl; told = refl; said = refl };
   lines = refl;
@@ -217,9 +217,9 @@ comes_in = record {
 is_answered : HappensBy (mixed_kind there) heard (script.Happen (Take third)) answered (Crossed (crossing.Answer answer.Rfnm hail.flow) ∷ [])
 is_answered = record {
   outcome = Ok tt;
-  gives = ((Ok (Some (inbound.Answer answer.Rfnm hail.flow)), grown heard.world.carrier (crossing.Answer answer.Rfnm hail.flow ∷ []), (record { running = refl; shown = refl }, refl), inl (refl, refl)), refl);
+  gives = (Ok (Some (inbound.Answer answer.Rfnm hail.flow)), grown heard.carrier (crossing.Answer answer.Rfnm hail.flow ∷ []), (record { running = refl; shown = refl }, refl), inl (refl, refl));
   goes_on = refl;
-  gains = record { crossings = crossing.Answer answer.Rfnm hail.flow ∷ []; notices = []; reports = []; crossed = refl; told = sym (append-nil heard.world.kept.book.notices); said = sym (append-nil heard.world.kept.book.reports) };
+  gains = record { crossings = crossing.Answer answer.Rfnm hail.flow ∷ []; notices = []; reports = []; crossed = refl; told = sym (append-nil heard.kept.book.notices); said = sym (append-nil heard.kept.book.reports) };
   lines = refl;
 }
 

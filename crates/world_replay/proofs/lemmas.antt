@@ -4,7 +4,7 @@ pub use Rattle.world_replay.proofs.CalmRounds
 pub use Rattle.world_replay.proofs.Driven
 pub use Rattle.world_replay.proofs.Gained
 pub use Rattle.world_replay.proofs.Grown.{at_seat, if_stopped, one_crossed}
-pub use Rattle.world_replay.proofs.MixedOnce.{happens_once, mixed_first_part, one_mixed_replay, same_state}
+pub use Rattle.world_replay.proofs.MixedOnce.{happens_once, mixed_first_part, one_mixed_replay}
 pub use Rattle.world_replay.proofs.News
 pub use Rattle.world_replay.proofs.Replays
 pub use Rattle.world_replay.proofs.Rounds.{when_false, when_true}

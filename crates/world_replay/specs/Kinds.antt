@@ -3,8 +3,8 @@ use Rattle.std.specs.Prelude.{◌≡◌, ℕ, ◌≤◌, true, false, List, [], 
 use Rattle.interface.specs.Calls.{Calls}
 use Rattle.net_sim.specs.Book.{Kept}
 use Rattle.net_sim.specs.Rest.{IsAtRest}
-use Rattle.net_sim.specs.MixedWorlds.{MixedCalmGives, MixedState, MixedStepGives}
-use Rattle.net_sim.specs.World.{stops}
+use Rattle.net_sim.specs.MixedWorlds.{MixedStepGives}
+use Rattle.net_sim.specs.World.{CalmGives, WorldState, stops}
 use Rattle.net_sim.specs.declared.event.WorldFault.{WorldFault}
 use Rattle.replay.specs.InTurn.{EndsInTurn, Happening, InTurn}
 use Rattle.world_replay.specs.Gains.{Gains, gained}
@@ -79,14 +79,14 @@ BreaksOffBy kind old events new shown = EndsBy kind (MayDoBy kind) old events ne
 
 -- ---- worlds with strangers
 
-abbrev pub EventGivesAmong : {C : Type 0} → Calls C → MixedState C → WorldEvent → Result (Unit {0}) WorldFault
-    → MixedState C → Type 0
+abbrev pub EventGivesAmong : {C : Type 0} → Calls C → WorldState C → WorldEvent → Result (Unit {0}) WorldFault
+    → WorldState C → Type 0
 EventGivesAmong calls old (script.Happen e) r new = MixedStepGives calls old e r new
-EventGivesAmong calls old (script.Calm rounds) r new = MixedCalmGives calls rounds old r new
+EventGivesAmong calls old (script.Calm rounds) r new = CalmGives calls rounds old r new
 
-abbrev pub mixed_kind : {C : Type 0} → Calls C → Kind (MixedState C)
+abbrev pub mixed_kind : {C : Type 0} → Calls C → Kind (WorldState C)
 mixed_kind {C} calls = record {
-  kept = λ (s : MixedState C). s.world.kept;
+  kept = λ (w : WorldState C). w.kept;
   gives = EventGivesAmong calls;
-  rests = λ (s : MixedState C). IsAtRest calls s.world;
+  rests = λ (w : WorldState C). IsAtRest calls w;
 }

@@ -1,11 +1,10 @@
 -- The laws of src/ that are longer than a line: each is a record, and its fields are the clauses.
 use Rattle.std.specs.List.{All}
-use Rattle.std.specs.Prelude.{List, None, Result, Some, [], false, true, ℕ, ◌++◌, ◌∷◌, ◌↔◌, ◌≡◌}
+use Rattle.std.specs.Prelude.{List, Result, [], false, true, ℕ, ◌++◌, ◌∷◌, ◌↔◌, ◌≡◌}
 use Rattle.interface.specs.Calls.{Calls}
 use Rattle.interface.specs.Host.{Host}
 use Rattle.interface.specs.declared.carrier.CarrierFault.TheVariants as fault
 use Rattle.net_sim.specs.Carriers.{shown}
-use Rattle.net_sim.specs.MixedWorlds.{MixedState}
 use Rattle.net_sim.specs.World.{StepGives, WorldState, stops}
 use Rattle.net_sim.specs.declared.event.Event.{Event}
 use Rattle.net_sim.specs.declared.event.WorldFault.TheVariants.{Carrier}
@@ -41,11 +40,11 @@ pub record OneReplay {C : Type 0} (calls : Calls C) : Type 0 where
 -- The same where some hosts are strangers: nothing but the script says what these send and take.
 pub record OneMixedReplay {C : Type 0} (calls : Calls C) : Type 0 where
   pub same :
-      AreSettled calls → (old new other : MixedState C) (events : List WorldEvent) (lines more : List Shown) →
+      AreSettled calls → (old new other : WorldState C) (events : List WorldEvent) (lines more : List Shown) →
       ReplaysBy (mixed_kind (shown calls)) old events new lines →
       ReplaysBy (mixed_kind (shown calls)) old events other more → (new ≡ other) × (lines ≡ more)
   pub first_part :
-      AreSettled calls → (old new other : MixedState C) (events : List WorldEvent) (part whole : List Shown) →
+      AreSettled calls → (old new other : WorldState C) (events : List WorldEvent) (part whole : List Shown) →
       RunsOutBy (mixed_kind (shown calls)) old events new part →
       ReplaysBy (mixed_kind (shown calls)) old events other whole → (rest : List Shown) × (whole ≡ part ++ rest)
 

@@ -1,12 +1,13 @@
 -- Words for worked examples of what a world with a stranger continues after, and what it ends at. Hosts `first` and `second` run the
 -- program, and `third` runs anything.
-use Rattle.std.specs.Prelude.{◌≡◌, false, List, None, Ok, Err, Result}
+use Rattle.std.specs.Prelude.{◌≡◌, List, None, Ok, Err, Result}
 use Rattle.interface.specs.Calls.{Calls, Seen, ShowsOffer, ShowsTake}
 use Rattle.interface.specs.declared.carrier.CarrierFault.TheVariants as fault
 use Rattle.interface.specs.declared.message.HostMessage.{HostMessage}
-use Rattle.net_sim.specs.MixedWorlds.{MixedRunGives, MixedState, MixedStepGives}
+use Rattle.net_sim.specs.MixedWorlds.{MixedRunGives, MixedStepGives}
 use Rattle.net_sim.specs.Worked.{any_carrier}
 use Rattle.net_sim.specs.WorkedMixed.{beside_third}
+use Rattle.net_sim.specs.World.{WorldState}
 use Rattle.net_sim.specs.declared.event.Event.{Event}
 use Rattle.net_sim.specs.declared.event.Event.TheVariants.{Out}
 use Rattle.net_sim.specs.declared.event.WorldFault.{WorldFault}
@@ -33,10 +34,10 @@ tired_carrier = record any_carrier { offers = λ old m r new. (r ≡ Err fault.O
 -- an event is answered so, and nothing but the carrier changes
 abbrev pub AnswersAs : Calls Seen → Event → Result (Unit {0}) WorldFault → Type 0
 AnswersAs calls e answer =
-    (r : Result (Unit {0}) WorldFault) (new : MixedState Seen) → MixedStepGives calls beside_third e r new
-    → (r ≡ answer) × (new.world ≡ record beside_third.world { carrier = new.world.carrier })
+    (r : Result (Unit {0}) WorldFault) (new : WorldState Seen) → MixedStepGives calls beside_third e r new
+    → (r ≡ answer) × (new ≡ record beside_third { carrier = new.carrier })
 
 -- a list of events ends so
 abbrev pub EndsAs : Calls Seen → List Event → Result (Unit {0}) WorldFault → Type 0
 EndsAs calls events answer =
-    (r : Result (Unit {0}) WorldFault) (new : MixedState Seen) → MixedRunGives calls beside_third events r new → r ≡ answer
+    (r : Result (Unit {0}) WorldFault) (new : WorldState Seen) → MixedRunGives calls beside_third events r new → r ≡ answer

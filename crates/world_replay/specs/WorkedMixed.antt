@@ -6,8 +6,8 @@ use Rattle.interface.specs.declared.crossing.Crossing.TheVariants as crossing
 use Rattle.interface.specs.declared.crossing.Inbound.{Inbound}
 use Rattle.interface.specs.declared.message.HostMessage.{HostMessage}
 use Rattle.host_pairs.specs.declared.notice.Notice.TheVariants as notice
-use Rattle.net_sim.specs.MixedWorlds.{MixedState}
 use Rattle.net_sim.specs.WorkedMixed.{beside_third}
+use Rattle.net_sim.specs.World.{WorldState}
 use Rattle.sockets.specs.Worked.{control, first, third}
 use Rattle.world_replay.specs.Kinds.{HappensBy, ReplaysBy, mixed_kind}
 use Rattle.world_replay.specs.Output.{Crossed, Noticed, Shown}
@@ -19,16 +19,16 @@ hail = control third first (12 ∷ [])
 
 -- these events may show these lines, over this carrier
 abbrev pub MayShow : Calls Seen → List WorldEvent → List Shown → Type 0
-MayShow calls events lines = (new : MixedState Seen) × ReplaysBy (mixed_kind calls) beside_third events new lines
+MayShow calls events lines = (new : WorldState Seen) × ReplaysBy (mixed_kind calls) beside_third events new lines
 
 -- an event shows no others
 abbrev pub ShowsOnly : Calls Seen → WorldEvent → List Shown → Type 0
-ShowsOnly calls e lines = (new : MixedState Seen) (shown : List Shown) → HappensBy (mixed_kind calls) beside_third e new shown → shown ≡ lines
+ShowsOnly calls e lines = (new : WorldState Seen) (shown : List Shown) → HappensBy (mixed_kind calls) beside_third e new shown → shown ≡ lines
 
 -- an event shows one crossing, of something that came in
 abbrev pub ShowsOneTaken : Calls Seen → WorldEvent → Type 0
 ShowsOneTaken calls e =
-    (new : MixedState Seen) (shown : List Shown) → HappensBy (mixed_kind calls) beside_third e new shown → (i : Inbound) × (shown ≡ Crossed (crossing_of i) ∷ [])
+    (new : WorldState Seen) (shown : List Shown) → HappensBy (mixed_kind calls) beside_third e new shown → (i : Inbound) × (shown ≡ Crossed (crossing_of i) ∷ [])
 
 -- it goes out and comes in, the first host's user is notified, and the stranger takes the RFNM
 abbrev pub hailed : List Shown

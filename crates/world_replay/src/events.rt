@@ -85,7 +85,7 @@ pub fn replay_mixed_events<C: Carrier, W: Output>(
     requires { W.failed writer.old ≡ false }
 
     // each RFNM belongs to one message, which was taken exactly once, whatever strangers say
-    ensures messages { SafeMessages world.new.world.kept.book.crossings }
+    ensures messages { SafeMessages world.new.kept.book.crossings }
 
     // each event in turn went as the world says that its calls may go, and what it showed was printed
     ensures replayed { OnOk result (Writes detail (ReplaysBy (mixed_kind (shown C.calls)) world.old events.items world.new) (W.contents writer.old) (W.contents writer.new)) }
@@ -153,16 +153,16 @@ pub fn replay_mixed_in_calm<C: Carrier, W: Output>(
     requires { W.failed writer.old ≡ false }
 
     // it went as that world says that its calls may go, and what the book gained was printed
-    ensures replayed { OnOk result (Writes detail (HappensInCalm (shown C.calls) world.old.world event world.new.world) (W.contents writer.old) (W.contents writer.new)) }
+    ensures replayed { OnOk result (Writes detail (HappensInCalm (shown C.calls) world.old event world.new) (W.contents writer.old) (W.contents writer.new)) }
 
     // memory ran out at it
-    ensures memory { result ≡ Err ReplayFault.OutOfMemory → Writes detail (StopsInCalm (shown C.calls) world.old.world event world.new.world) (W.contents writer.old) (W.contents writer.new) }
+    ensures memory { result ≡ Err ReplayFault.OutOfMemory → Writes detail (StopsInCalm (shown C.calls) world.old event world.new) (W.contents writer.old) (W.contents writer.new) }
 
     // `CannotWrite` is answered where a write failed, and nowhere else
     ensures failed { TellsCannotWrite result (W.failed writer.new) }
 
     // a write failed: the event had already happened
-    ensures cannot_write { result ≡ Err ReplayFault.CannotWrite → MayStep (shown C.calls) world.old.world event world.new.world }
+    ensures cannot_write { result ≡ Err ReplayFault.CannotWrite → MayStep (shown C.calls) world.old event world.new }
 
     // its strangers are the same
     ensures strangers { world.new.strangers ≡ world.old.strangers }

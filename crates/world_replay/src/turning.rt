@@ -45,7 +45,7 @@ impl<C: Carrier> Turning<C> for World<C> {
 }
 
 impl<C: Carrier> Turning<C> for MixedWorld<C> {
-    ghost state = { λ w. w.world };
+    ghost state = { λ w. w };
 
     ghost strangers = { λ w. w.strangers };
 

@@ -1,41 +1,39 @@
 -- Events of a world with strangers have their lines.
 use Rattle.world_trace.proofs.Common.{◌≡◌, inl, inr, ℕ, Bool, true, false, List, [], ◌∷◌, Option, Some, None, Result}
-use Rattle.world_trace.proofs.Common.{Ok, Err, ap, refl, sym, subst, ◌∙◌, false≢true, if◌then◌else◌, Appends, Calls}
-use Rattle.world_trace.proofs.Common.{Event, Host, Seat, ServiceSeat, Quiet, Take, ReplayFault, Spot, WorldFault}
-use Rattle.world_trace.proofs.Common.{WorldState, crossing_of, ended_line, is_of_network, shown, stops, text_of}
+use Rattle.world_trace.proofs.Common.{Ok, Err, ap, refl, sym, subst, ◌∙◌, if◌then◌else◌, Appends, Calls}
+use Rattle.world_trace.proofs.Common.{Event, Host, Seat, ServiceSeat, Take, ReplayFault, Spot, WorldFault}
+use Rattle.world_trace.proofs.Common.{WorldState, ended_line, is_of_network, shown, stops}
 use Rattle.world_trace.proofs.Common.{EventEnds, AllParts}
-use Rattle.std.specs.Bool.{MatchBool}
 use Rattle.interface.specs.declared.carrier.CarrierFault.{CarrierFault}
 use Rattle.interface.specs.declared.crossing.Inbound.{Inbound}
 use Rattle.interface.specs.declared.crossing.Inbound.TheVariants as inbound
 use Rattle.interface.specs.declared.message.HostMessage.{HostMessage}
-use Rattle.net_sim.specs.MixedWorlds.{AmongGives, AskedGives, FetchEnds, FetchGives, MixedState, MixedStepGives, OfWorld}
-use Rattle.net_sim.specs.MixedWorlds.{OutEnds, OutGives, RefusesMixed, asked_at, is_strange, strange_in}
+use Rattle.net_sim.specs.MixedWorlds.{AmongGives, AskedGives, FetchEnds, MixedStepGives}
+use Rattle.net_sim.specs.MixedWorlds.{OutEnds, asked_at, is_strange, strange_in}
 use Rattle.world_trace.proofs.Common.{Out}
-use Rattle.net_sim.specs.World.{StepGives}
+use Rattle.net_sim.specs.World.{Refuses, StepGives}
 use Rattle.replay.specs.declared.events.ReplayFault.TheVariants as fault
 use Rattle.replay.specs.declared.print.Detail.TheVariants.{Sizes}
-use Rattle.world_replay.specs.Kinds.{BreaksOffBy, EventGivesAmong, HappensBy, MayDoBy, ReplaysBy, RunsOutBy, StopsBy}
+use Rattle.world_replay.specs.Kinds.{BreaksOffBy, EventGivesAmong, HappensBy, MayDoBy, RunsOutBy, StopsBy}
 use Rattle.world_replay.specs.Kinds.{mixed_kind}
-use Rattle.world_replay.specs.Output.{Shown, Writes, output}
+use Rattle.world_replay.specs.Output.{Shown, output}
 use Rattle.world_replay.proofs.lemmas.{on_either}
 use Rattle.world_script.specs.declared.event.WorldEvent.{WorldEvent}
 use Rattle.world_script.specs.declared.event.WorldEvent.TheVariants as world
-use Rattle.world_trace.specs.MixedSteps.{HasPassedMixed, MixedEnds, EventEndsAmong, ShowsMixed, mixed_reach}
+use Rattle.world_trace.specs.MixedSteps.{HasPassedMixed, MixedEnds, EventEndsAmong, mixed_reach}
 use Rattle.world_trace.specs.MixedTraces.{StopsMixed, TellsMixed}
 use Rattle.world_trace.specs.Steps.{at_one, passed_line}
 use Rattle.world_trace.specs.Texts.{event_text, line_of}
 use Rattle.world_trace.specs.Traces.{change_of}
 use Rattle.world_trace.specs.declared.line.Passed.{Passed}
-use Rattle.world_trace.specs.declared.mixed.Reach.{Reach}
 use Rattle.world_trace.specs.declared.mixed.Reach.TheVariants as reach
 use Rattle.world_trace.proofs.Stays.{AtOthers, event_others, halts_not, hosts_same, same_others}
-use Rattle.world_trace.proofs.Telling.{failed_by, last_one, line_by, one_line, only_one}
+use Rattle.world_trace.proofs.Telling.{failed_by, last_one, line_by, one_line}
 
 -- ---- what a replay says of one event
 
 -- whichever fault ended it
-pub ended_mixed : {C : Type 0} (calls : Calls C) (old new : MixedState C) (e : Event) (f : ReplayFault)
+pub ended_mixed : {C : Type 0} (calls : Calls C) (old new : WorldState C) (e : Event) (f : ReplayFault)
     → (failed_by f ≡ Err fault.OutOfMemory → (lines : List Shown)
     × RunsOutBy (mixed_kind calls) old (world.Happen e ∷ []) new lines)
     → (failed_by f ≡ Err fault.CannotWrite → (lines : List Shown)
@@ -61,25 +59,25 @@ ended_mixed calls old new e fault.CannotWrite memory failed =
 
 -- ---- its line
 
-pub tells_mixed : {C : Type 0} (calls : Calls C) (members : C → AllParts) (spot : Spot) (old new : MixedState C)
+pub tells_mixed : {C : Type 0} (calls : Calls C) (members : C → AllParts) (spot : Spot) (old new : WorldState C)
     (e : Event) (p : Passed) (a b : Option (List ℕ))
-    → HasPassedMixed calls members old e new p → Appends a b (ended_line (passed_line spot 0 new.world p))
+    → HasPassedMixed calls members old e new p → Appends a b (ended_line (passed_line spot 0 new p))
     → MixedEnds calls members spot old e (Ok tt) new a b
 tells_mixed calls members spot old new e p a b h written =
     let (lines, happens, says) = h.shows in
     one_line (line_of spot 0 (event_text (world.Happen e)) happens.gains.crossings (output Sizes lines)
-    (change_of members old.world new.world))
+    (change_of members old new))
     (TellsMixed calls members spot old e new) a b (lines, happens, refl)
     (subst (λ (line : List ℕ). Appends a b (ended_line line))
-    (line_by members spot 0 old.world new.world (event_text (world.Happen e)) p.event.items p.printed.items p.changes.parts.items
+    (line_by members spot 0 old new (event_text (world.Happen e)) p.event.items p.printed.items p.changes.parts.items
     p.changes.programs.items p.changes.services.items p.crossed lines happens.gains h.event says h.crossed h.changes)
     written)
 
 -- ---- an event of a script
 
 pub calm_ends : {C : Type 0} (calls : Calls C) (members : C → AllParts) (spot : Spot) (rounds : ℕ)
-    (old new : MixedState C) (r : Result (Unit {0}) ReplayFault) (a b : Option (List ℕ))
-    → EventEnds calls members spot old.world (world.Calm rounds) r new.world a b → new.strangers ≡ old.strangers
+    (old new : WorldState C) (r : Result (Unit {0}) ReplayFault) (a b : Option (List ℕ))
+    → EventEnds calls members spot old (world.Calm rounds) r new a b → new.strangers ≡ old.strangers
     → EventEndsAmong calls members spot old (world.Calm rounds) r new a b
 calm_ends calls members spot rounds old new (Ok done) a b h same =
     record { shown = h.shown; is_shown = (h.is_shown, same); written = h.written }
@@ -88,7 +86,7 @@ calm_ends calls members spot rounds old new (Err fault.OutOfMemory) a b h same =
 calm_ends calls members spot rounds old new (Err fault.CannotWrite) a b (lines, h) same = (lines, (h, same))
 
 pub mixed_ends : {C : Type 0} (calls : Calls C) (members : C → AllParts) (spot : Spot) (e : Event)
-    (old new : MixedState C) (r : Result (Unit {0}) ReplayFault) (a b : Option (List ℕ))
+    (old new : WorldState C) (r : Result (Unit {0}) ReplayFault) (a b : Option (List ℕ))
     → MixedEnds calls members spot old e r new a b → EventEndsAmong calls members spot old (world.Happen e) r new a b
 mixed_ends calls members spot e old new (Ok done) a b h = h
 mixed_ends calls members spot e old new (Err fault.OutOfMemory) a b h = h
@@ -97,9 +95,9 @@ mixed_ends calls members spot e old new (Err fault.CannotWrite) a b h = h
 -- ---- what is at other hosts
 
 module _ {C : Type 0} (own : Calls C) where
-  unmoved : (o : Option Host) (f : WorldFault) (old : MixedState C) (r : Result (Unit {0}) WorldFault)
-      (new : MixedState C) → RefusesMixed f old r new → AtOthers own o old.world new.world
-  unmoved o f old r new n = same_others own o old.world new.world (ap (λ (s : MixedState C). s.world) n.1)
+  unmoved : (o : Option Host) (f : WorldFault) (old : WorldState C) (r : Result (Unit {0}) WorldFault)
+      (new : WorldState C) → Refuses f old r new → AtOthers own o old new
+  unmoved o f old r new n = same_others own o old new n.1
 
   -- only the carrier and what is kept are other
   carried : (o : Option Host) (old new : WorldState C) → new.seats ≡ old.seats → new.services ≡ old.services
@@ -130,37 +128,37 @@ module _ {C : Type 0} (own : Calls C) where
   said o m (Ok done) c old q new on (inr h) = halts_not own (AtOthers own o old new) c old new q on h
   said o m (Err e) c old q new on ends = carried o old new (ap seats_of ends.1) (ap served_in ends.1)
 
-  stepped : (e : Event) (old : MixedState C) (r : Result (Unit {0}) WorldFault) (new : MixedState C)
-      → is_of_network e ≡ false → stops r ≡ false → OfWorld (StepGives (shown own) old.world e) old r new
-      → AtOthers own (at_one e) old.world new.world
-  stepped e old r new not on (gives, same) = event_others own e old.world new.world r not on gives
+  stepped : (e : Event) (old : WorldState C) (r : Result (Unit {0}) WorldFault) (new : WorldState C)
+      → is_of_network e ≡ false → stops r ≡ false → StepGives (shown own) old e r new
+      → AtOthers own (at_one e) old new
+  stepped e old r new not on gives = event_others own e old new r not on gives
 
-  asked : (e : Event) (old : MixedState C) (r : Result (Unit {0}) WorldFault) (new : MixedState C)
+  asked : (e : Event) (old : WorldState C) (r : Result (Unit {0}) WorldFault) (new : WorldState C)
       → is_of_network e ≡ false → stops r ≡ false → AskedGives (shown own) old e r new
-      → AtOthers own (at_one e) old.world new.world
+      → AtOthers own (at_one e) old new
   asked e old r new not on g =
       on_either (is_strange (strange_in old) (asked_at e)) (λ s n. unmoved (at_one e) _ old r new n)
       (λ s t. stepped e old r new not on t) g
 
-  any_others : (e : Event) (old : MixedState C) (r : Result (Unit {0}) WorldFault) (new : MixedState C)
+  any_others : (e : Event) (old : WorldState C) (r : Result (Unit {0}) WorldFault) (new : WorldState C)
       → is_of_network e ≡ false → stops r ≡ false → AmongGives (shown own) old e r new
-      → AtOthers own (at_one e) old.world new.world
+      → AtOthers own (at_one e) old new
   any_others (Take h) old r new not on g =
       on_either (strange_in old h)
-      (λ s f. fetched (Some h) f.0.0 f.0.1 old.world r new.world on f.0.3)
+      (λ s f. fetched (Some h) f.0 f.1 old r new on f.3)
       (λ s t. stepped (Take h) old r new not on t) g
   any_others (Out m) old r new not on g =
       on_either (strange_in old m.flow.source)
-      (λ s f. said None m f.0.0 f.0.1 old.world r new.world on f.0.3)
+      (λ s f. said None m f.0 f.1 old r new on f.3)
       (λ s t. stepped (Out m) old r new not on t) g
   any_others e old r new not on g = asked e old r new not on g
 
-  reaches : (e : Event) (o : Option Host) (old : MixedState C) (r : Result (Unit {0}) WorldFault)
-      (new : MixedState C)
+  reaches : (e : Event) (o : Option Host) (old : WorldState C) (r : Result (Unit {0}) WorldFault)
+      (new : WorldState C)
       → mixed_reach e ≡ reach.At o → stops r ≡ false → AmongGives (shown own) old e r new
-      → AtOthers own o old.world new.world
+      → AtOthers own o old new
   reaches e o old r new at on g = by (is_of_network e) refl where
-    by : (b : Bool) → is_of_network e ≡ b → AtOthers own o old.world new.world
+    by : (b : Bool) → is_of_network e ≡ b → AtOthers own o old new
     by true is =
         absurd (let no : reach.All ≡ reach.At o =
         sym (ap (λ (b : Bool). if b then reach.All else reach.At (at_one e)) is) ∙ at in cc)
@@ -168,12 +166,12 @@ module _ {C : Type 0} (own : Calls C) where
         let here : reach.At (at_one e) ≡ reach.At o =
         sym (ap (λ (b : Bool). if b then reach.All else reach.At (at_one e)) is) ∙ at in
         let same : at_one e ≡ o = cc in
-        subst (λ (x : Option Host). AtOthers own x old.world new.world) same (any_others e old r new is on g)
+        subst (λ (x : Option Host). AtOthers own x old new) same (any_others e old r new is on g)
 
   -- an event leaves what it doesn't reach
-  pub mixed_others : (e : Event) (o : Option Host) (old : MixedState C) (r : Result (Unit {0}) WorldFault)
-      (new : MixedState C)
+  pub mixed_others : (e : Event) (o : Option Host) (old : WorldState C) (r : Result (Unit {0}) WorldFault)
+      (new : WorldState C)
       → mixed_reach e ≡ reach.At o → stops r ≡ false → MixedStepGives (shown own) old e r new
-      → AtOthers own o old.world new.world
+      → AtOthers own o old new
   mixed_others e o old r new at on g =
-      on_either old.world.stopped (λ s n. unmoved o _ old r new n) (λ s t. reaches e o old r new at on t) g
+      on_either old.stopped (λ s n. unmoved o _ old r new n) (λ s t. reaches e o old r new at on t) g

@@ -1,7 +1,9 @@
 -- The texts of programs and services say all of a world but its carrier and what is kept.
-use Rattle.world_trace.proofs.Common.{◌≡◌, List, [], ◌∷◌, Some, refl, sym, ◌∙◌, All-cons, All-head, All-nil, All-tail, All, no_services, Calls, Host, WorldState, opening_seats, opening_services, opening_world, opening_state, IsHostNamed, WorldEvent, AreNumbersTold, IsListenerTold, IsPairTold, IsSeatTold, IsServed, IsServiceTold, IsWorldTold}
+use Rattle.world_trace.proofs.Common.{◌≡◌, List, [], ◌∷◌, Some, refl, ap, sym, ◌∙◌, All-cons, All-head, All-nil, All-tail, All, no_services, Calls, Host, WorldState, opening_seats, opening_services, opening_world, opening_state, IsHostNamed, WorldEvent, AreNumbersTold, IsListenerTold, IsPairTold, IsSeatTold, IsServed, IsServiceTold, IsWorldTold}
 use Rattle.world_replay.specs.Output.{Shown}
-use Rattle.world_replay.specs.Replay.{Replays}
+use Rattle.net_sim.proofs.lemmas.{calm_same, step_same}
+use Rattle.world_replay.specs.Replay.{Happens, Replays}
+use Rattle.world_script.specs.declared.event.WorldEvent.TheVariants as script
 use Rattle.world_trace.specs.Told.{HaveSameTexts}
 use Rattle.world_trace.proofs.Programs.{programs_once}
 use Rattle.world_trace.proofs.Running.{services_once}
@@ -12,7 +14,8 @@ whole one other p q same =
     let seats : other.seats ≡ one.seats = sym (programs_once one.seats other.seats p.lasting.programs q.lasting.programs p.numbers.programs q.numbers.programs same.programs) in
     let served : other.services ≡ one.services = sym (services_once one.services other.services p.lasting.services q.lasting.services p.numbers.services q.numbers.services same.services) in
     let stopped : other.stopped ≡ one.stopped = q.running ∙ sym p.running in
-    λ i. record { carrier = other.carrier; seats = seats i; services = served i; kept = other.kept; stopped = stopped i }
+    let strangers : other.strangers ≡ one.strangers = q.strangers ∙ sym p.strangers in
+    λ i. record { carrier = other.carrier; strangers = strangers i; seats = seats i; services = served i; kept = other.kept; stopped = stopped i }
 
 -- ---- the opening
 
@@ -31,6 +34,7 @@ services_told (h ∷ hosts) all =
 
 pub opening_told : {C : Type 0} (calls : Calls C) (c : C) → All IsHostNamed (calls.seen c).hosts → IsWorldTold (opening_world calls c)
 opening_told calls c all = record {
+  strangers = refl;
   running = refl;
   lasting = opening_lasts calls c;
   numbers = record { programs = programs_told (calls.seen c).hosts all; services = services_told (calls.seen c).hosts all };
@@ -38,7 +42,15 @@ opening_told calls c all = record {
 
 -- ---- replays
 
+-- a stranger stays one, and no other host becomes one
+same_strangers : {C : Type 0} (calls : Calls C) (events : List WorldEvent) (old new : WorldState C) (lines : List Shown) → Replays calls old events new lines → new.strangers ≡ old.strangers
+same_strangers calls [] old new lines h = ap (λ w. w.strangers) h.0
+same_strangers calls (e ∷ events) old new lines (mid, first, rest, one, more, all) = same_strangers calls events mid new rest more ∙ by e one where
+  by : (e : WorldEvent) → Happens calls old e mid first → mid.strangers ≡ old.strangers
+  by (script.Happen x) h = step_same calls x old h.outcome mid h.gives
+  by (script.Calm rounds) h = calm_same calls rounds old h.outcome mid h.gives
+
 pub reached_told : {C : Type 0} (calls : Calls C) (c : C) (events : List WorldEvent) (w : WorldState C) (lines : List Shown) → Replays calls (opening_world calls c) events w lines → AreNumbersTold w → IsWorldTold w
 reached_told {C} calls c events w lines h numbers =
     let runs : Runs w = replay_runs calls events (opening_world calls c) w lines (record { on = refl; last = opening_lasts calls c }) h in
-    record { running = runs.on; lasting = runs.last; numbers = numbers }
+    record { strangers = same_strangers calls events (opening_world calls c) w lines h; running = runs.on; lasting = runs.last; numbers = numbers }

@@ -10,7 +10,7 @@ use Rattle.interface.specs.Calls.{Calls, Seen}
 use Rattle.ncp_control.specs.declared.command.Command.TheVariants as command
 use Rattle.ncp_control.specs.declared.phase.Phase.TheVariants as phase
 use Rattle.net_sim.specs.Carriers.{shown}
-use Rattle.net_sim.specs.MixedWorlds.{MixedState, MixedStepGives}
+use Rattle.net_sim.specs.MixedWorlds.{MixedStepGives}
 use Rattle.net_sim.specs.World.{WorldState, opening_world}
 use Rattle.net_sim.specs.WorkedMixed.{beside_third}
 use Rattle.net_sim.specs.declared.event.Event.{Event}
@@ -145,21 +145,21 @@ pub record WorkedAmong {C : Type 0} (calls : Calls C) : Type 0 where
   pub opened :
       (members : Seen → AllParts) (t : TopologyFields) (lines : List (List ℕ)) →
       AfterMixedOpening members t beside_third (λ others. others ≡ []) lines →
-      lines ≡ opening_text t (state_of members beside_third.world ++ codes "\"foreign\":[\"0/3\"]" ∷ []) ∷ []
+      lines ≡ opening_text t (state_of members beside_third ++ codes "\"foreign\":[\"0/3\"]" ∷ []) ∷ []
   -- events are counted from 1, and each is beside its line of the script
   pub counted :
       (old e new : ℕ) (lines : List (List ℕ)) → AllTell PrintsSpot old ((7, e) ∷ (9, e) ∷ []) new lines →
       lines ≡ (7 ∷ 1 ∷ []) ∷ (9 ∷ 2 ∷ []) ∷ []
   -- no stranger comes or goes in a calm
   pub calm :
-      (members : C → AllParts) (spot : Spot) (old new : MixedState C) (rounds : ℕ) (lines : List (List ℕ)) →
+      (members : C → AllParts) (spot : Spot) (old new : WorldState C) (rounds : ℕ) (lines : List (List ℕ)) →
       TellsMixedAt calls members spot old (script.Calm rounds) new lines → new.strangers ≡ old.strangers
   -- where memory ran out or a write failed the event has no line, and the world is as before it or as it went
   pub memory :
-      (old new : MixedState C) (e : Event) (lines : List (List ℕ)) → StopsMixed calls old e new lines →
+      (old new : WorldState C) (e : Event) (lines : List (List ℕ)) → StopsMixed calls old e new lines →
       (lines ≡ []) × ((new ≡ old) ⊎ ((r : Result (Unit {0}) WorldFault) × MixedStepGives calls old e r new))
   pub failed :
-      (old new : MixedState C) (e : Event) (lines : List (List ℕ)) → MayTellMixed calls old e new lines →
+      (old new : WorldState C) (e : Event) (lines : List (List ℕ)) → MayTellMixed calls old e new lines →
       (lines ≡ []) × ((r : Result (Unit {0}) WorldFault) × MixedStepGives calls old e r new)
   -- and no write fails for the line of no event
-  pub nothing : (members : C → AllParts) (old new : MixedState C) → MixedTraceFails calls members old [] new → ⊥
+  pub nothing : (members : C → AllParts) (old new : WorldState C) → MixedTraceFails calls members old [] new → ⊥

@@ -1,8 +1,8 @@
 -- What the contracts of private functions say of worlds with strangers. No public clause cites this file.
-use Rattle.std.specs.Prelude.{◌≡◌, ℕ, ◌≤◌, true, false, if◌then◌else◌, List, [], ◌∷◌, ◌++◌, Option, Result, codes}
+use Rattle.std.specs.Prelude.{◌≡◌, ℕ, ◌≤◌, if◌then◌else◌, List, ◌++◌, Option, Result, codes}
 use Rattle.std.specs.Prelude.{length, map}
 use Rattle.interface.specs.Calls.{Calls}
-use Rattle.net_sim.specs.MixedWorlds.{MixedState}
+use Rattle.net_sim.specs.World.{WorldState}
 use Rattle.net_sim.specs.declared.event.Event.{Event}
 use Rattle.replay.specs.declared.events.ReplayFault.{ReplayFault}
 use Rattle.replay.specs.declared.print.Detail.TheVariants.{Sizes}
@@ -34,13 +34,13 @@ foreign_text programs services strangers =
     ",\"services\":" ++ (object services ++ (codes ",\"foreign\":" ++ (array strangers ++ codes "}\n")))))
 
 -- those of a state
-abbrev pub mixed_hosts : {C : Type 0} → MixedState C → List ℕ
-mixed_hosts s = foreign_text (map seat_member s.world.seats) (map services_member s.world.services)
+abbrev pub mixed_hosts : {C : Type 0} → WorldState C → List ℕ
+mixed_hosts s = foreign_text (map seat_member s.seats) (map services_member s.services)
     (map stranger_text s.strangers)
 
 -- after the parts of its carrier
-abbrev pub mixed_end : {C : Type 0} → (C → AllParts) → MixedState C → List ℕ
-mixed_end members s = object (members_of (members s.world.carrier)) ++ mixed_hosts s
+abbrev pub mixed_end : {C : Type 0} → (C → AllParts) → WorldState C → List ℕ
+mixed_end members s = object (members_of (members s.carrier)) ++ mixed_hosts s
 
 -- ---- an event that is no calm
 
@@ -49,30 +49,30 @@ abbrev pub mixed_reach : Event → Reach
 mixed_reach e = if is_of_network e then reach.All else reach.At (at_one e)
 
 -- it happened, and a replay prints this text for it
-abbrev pub ShowsMixed : {C : Type 0} → Calls C → MixedState C → Event → MixedState C → List ℕ → Type 0
+abbrev pub ShowsMixed : {C : Type 0} → Calls C → WorldState C → Event → WorldState C → List ℕ → Type 0
 ShowsMixed calls old e new text = (lines : List Shown) × HappensBy (mixed_kind calls) old (world.Happen e) new lines
     × (text ≡ output Sizes lines)
 
 -- and these are the texts of its line, with this many crossings in the book before it
-pub record HasPassedMixed {C : Type 0} (calls : Calls C) (members : C → AllParts) (old : MixedState C) (e : Event)
-    (new : MixedState C) (p : Passed) : Type 0 where
+pub record HasPassedMixed {C : Type 0} (calls : Calls C) (members : C → AllParts) (old : WorldState C) (e : Event)
+    (new : WorldState C) (p : Passed) : Type 0 where
   pub event : p.event.items ≡ event_text (world.Happen e)
   pub shows : ShowsMixed calls old e new p.printed.items
-  pub crossed : p.crossed ≡ length old.world.kept.book.crossings
-  pub few : p.crossed ≤ length new.world.kept.book.crossings
-  pub changes : AreChanges members old.world new.world p.changes.parts.items p.changes.programs.items
+  pub crossed : p.crossed ≡ length old.kept.book.crossings
+  pub few : p.crossed ≤ length new.kept.book.crossings
+  pub changes : AreChanges members old new p.changes.parts.items p.changes.programs.items
       p.changes.services.items
 
 -- ---- endings
 
-abbrev pub MixedEnds : {C : Type 0} → Calls C → (C → AllParts) → Spot → MixedState C → Event
-    → Result (Unit {0}) ReplayFault → MixedState C → Option (List ℕ) → Option (List ℕ) → Type 0
+abbrev pub MixedEnds : {C : Type 0} → Calls C → (C → AllParts) → Spot → WorldState C → Event
+    → Result (Unit {0}) ReplayFault → WorldState C → Option (List ℕ) → Option (List ℕ) → Type 0
 MixedEnds calls members spot old e r new before after = EndsAs (TellsMixed calls members spot) (StopsMixed calls)
     (MayTellMixed calls) old e r new before after
 
 -- any event
-abbrev pub EventEndsAmong : {C : Type 0} → Calls C → (C → AllParts) → Spot → MixedState C → WorldEvent
-    → Result (Unit {0}) ReplayFault → MixedState C → Option (List ℕ) → Option (List ℕ) → Type 0
+abbrev pub EventEndsAmong : {C : Type 0} → Calls C → (C → AllParts) → Spot → WorldState C → WorldEvent
+    → Result (Unit {0}) ReplayFault → WorldState C → Option (List ℕ) → Option (List ℕ) → Type 0
 EventEndsAmong calls members spot old e r new before after =
     EndsAs (TellsMixedAt calls members spot) (MixedEndsAt calls members (StopsOne calls) (StopsMixed calls) spot)
     (MixedEndsAt calls members (MayTell calls) (MayTellMixed calls) spot) old e r new before after

@@ -1,7 +1,6 @@
 -- When the lines of a long calm are handed on: as its rounds pass.
 use Rattle.std.specs.Prelude.{◌≡◌, ℕ, suc, Bool, true, List, Option}
 use Rattle.interface.specs.Calls.{Calls}
-use Rattle.net_sim.specs.MixedWorlds.{MixedState}
 use Rattle.net_sim.specs.Rest.{IsAtRest}
 use Rattle.net_sim.specs.World.{WorldState}
 use Rattle.replay.specs.InTurn.{Happening}
@@ -45,7 +44,7 @@ WorldIsSeen calls members contents flushed t events old new =
     (EventsAreSeen calls members (λ w. w) (TellsAt calls members) contents flushed events) old new
 
 abbrev pub MixedIsSeen : {C W : Type 0} → Calls C → (C → AllParts) → (W → Option (List ℕ)) → (W → Bool)
-    → TopologyFields → List (ℕ × WorldEvent) → MixedState C × W → MixedState C × W → Type 0
+    → TopologyFields → List (ℕ × WorldEvent) → WorldState C × W → WorldState C × W → Type 0
 MixedIsSeen calls members contents flushed t events old new =
     SeenAfter (mixed_opening members t old.0) contents
-    (EventsAreSeen calls members (λ s. s.world) (TellsMixedAt calls members) contents flushed events) old new
+    (EventsAreSeen calls members (λ w. w) (TellsMixedAt calls members) contents flushed events) old new

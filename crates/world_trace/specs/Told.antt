@@ -131,8 +131,9 @@ pub record AreNumbersTold {C : Type 0} (w : WorldState C) : Type 0 where
   pub programs : All IsSeatTold w.seats
   pub services : All IsServed w.services
 
--- memory has not run out either
+-- memory has not run out either, and there are no strangers
 pub record IsWorldTold {C : Type 0} (w : WorldState C) : Type 0 where
+  pub strangers : w.strangers ≡ []
   pub running : w.stopped ≡ false
   pub lasting : Lasts w
   pub numbers : AreNumbersTold w

@@ -6,7 +6,7 @@ use Rattle.host_services.specs.declared.service.Service.TheVariants as service
 use Rattle.interface.specs.Calls.{Calls, Seen}
 use Rattle.interface.specs.declared.crossing.Crossing.{Crossing}
 use Rattle.interface.specs.declared.message.HostMessage.{HostMessage}
-use Rattle.net_sim.specs.MixedWorlds.{MixedState}
+use Rattle.net_sim.specs.World.{WorldState}
 use Rattle.net_sim.specs.WorkedMixed.{beside_third}
 use Rattle.net_sim.specs.declared.event.Event.{Event}
 use Rattle.net_sim.specs.declared.seat.Seat.{Seat}
@@ -62,9 +62,9 @@ short_message = record { flow = record { source = third; destination = first; li
 -- an event beside the third host has one line: these messages cross, and this is printed
 abbrev pub TracesOnly : Calls Seen → Event → List Crossing → List ℕ → Type 0
 TracesOnly calls e crossings printed =
-    (members : Seen → AllParts) (spot : Spot) (new : MixedState Seen) (lines : List (List ℕ))
+    (members : Seen → AllParts) (spot : Spot) (new : WorldState Seen) (lines : List (List ℕ))
     → TellsMixed calls members spot beside_third e new lines
-    → lines ≡ line_of spot 0 (event_text (world.Happen e)) crossings printed (change_of members beside_third.world new.world) ∷ []
+    → lines ≡ line_of spot 0 (event_text (world.Happen e)) crossings printed (change_of members beside_third new) ∷ []
 
 -- an event shows where it is, whatever it is
 abbrev pub PrintsSpot : Spot → Happening ℕ ℕ (List ℕ)

@@ -517,10 +517,12 @@ impl Numbered for Crossing {
 /// went out in it, since both have their types. So these texts say all of it ([`crate::law::whole`],
 /// [`crate::law::states`]) where a replay has come to it. It is for the proof only.
 pub fn says_all<C: Carrier>(world: &World<C>)
+    ensures strangers { world.now.strangers ≡ [] }
     ensures numbers { AreNumbersTold world.now }
     ensures messages { All IsSaid world.now.kept.book.crossings }
     ensures reached { (c : C) (script : List WorldEvent) (lines : List Shown) → Replays (shown C.calls) (opening_world C.calls c) script world.now lines → IsWorldTold world.now }
 {
+    let _ = world.strangers();
     all_numbers(world.seats());
     all_numbers(world.services());
     all_numbers(world.book().crossings());

@@ -117,10 +117,10 @@ pub(crate) fn trace_mixed_event<C: Inspect, W: Output>(
     writer: &mut W,
 ) -> Result<(), ReplayFault>
     requires whole { W.failed writer.old ≡ false }
-    requires known { IfSome known.old (AreTextsOf C.inside.members world.old.world) }
+    requires known { IfSome known.old (AreTextsOf C.inside.members world.old) }
     ensures ends { EventEndsAmong (shown C.calls) C.inside.members spot world.old event result world.new (W.contents writer.old) (W.contents writer.new) }
-    ensures seen { OnOk result (CalmHandsOn (shown C.calls) C.inside.members W.contents W.flushed spot (rounds_in event) (world.old.world, writer.old) (world.new.world, writer.new)) }
-    ensures known { OnOk result (IfSome known.new (AreTextsOf C.inside.members world.new.world)) }
+    ensures seen { OnOk result (CalmHandsOn (shown C.calls) C.inside.members W.contents W.flushed spot (rounds_in event) (world.old, writer.old) (world.new, writer.new)) }
+    ensures known { OnOk result (IfSome known.new (AreTextsOf C.inside.members world.new)) }
     ensures failed { TellsCannotWrite result (W.failed writer.new) }
 {
     match event {
@@ -142,9 +142,9 @@ fn trace_mixed<C: Inspect, W: Output>(
     writer: &mut W,
 ) -> Result<(), ReplayFault>
     requires whole { W.failed writer.old ≡ false }
-    requires known { IfSome known.old (AreTextsOf C.inside.members world.old.world) }
+    requires known { IfSome known.old (AreTextsOf C.inside.members world.old) }
     ensures ends { MixedEnds (shown C.calls) C.inside.members spot world.old event result world.new (W.contents writer.old) (W.contents writer.new) }
-    ensures known { OnOk result (IfSome known.new (AreTextsOf C.inside.members world.new.world)) }
+    ensures known { OnOk result (IfSome known.new (AreTextsOf C.inside.members world.new)) }
     ensures failed { TellsCannotWrite result (W.failed writer.new) }
 {
     let mut texts = known_texts(alloc, world, known.take(), notes)?;
@@ -182,9 +182,9 @@ fn pass<C: Inspect>(
     texts: &mut Texts,
     notes: &mut C::Notes,
 ) -> Result<Passed, AllocError>
-    requires known { AreTextsOf C.inside.members world.old.world texts.old }
+    requires known { AreTextsOf C.inside.members world.old texts.old }
     ensures passed { IfOk result (HasPassedMixed (shown C.calls) C.inside.members world.old event world.new) }
-    ensures texts { OnOk result (AreTextsOf C.inside.members world.new.world texts.new) }
+    ensures texts { OnOk result (AreTextsOf C.inside.members world.new texts.new) }
     ensures memory { IfErr result (λ _. StopsMixed (shown C.calls) world.old event world.new []) }
 {
     let text = spelled(alloc, &event)?;

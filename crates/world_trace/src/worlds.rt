@@ -104,7 +104,7 @@ impl<C: Inspect> Traced<C> for World<C> {
 }
 
 impl<C: Inspect> Traced<C> for MixedWorld<C> {
-    ghost state = { λ w. w.world };
+    ghost state = { λ w. w };
 
     ghost strangers = { λ w. w.strangers };
 

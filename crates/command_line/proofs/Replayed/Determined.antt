@@ -6,7 +6,8 @@ use Rattle.command_line.proofs.Common.{subnet_settled, parted_once, MixedFields,
 use Rattle.command_line.proofs.Common.{StopsEither, MixedReplaysOn, MixedReplaysOver, MixedEndsOn, Host, Describes}
 use Rattle.command_line.proofs.Common.{TopologyFields, IsInput, log_text, world_book}
 use Rattle.book_log.specs.Log.{strangers_text}
-use Rattle.net_sim.specs.MixedWorlds.{MixedState, opening_mixed}
+use Rattle.net_sim.specs.MixedWorlds.{opening_mixed}
+use Rattle.net_sim.specs.World.{WorldState}
 use Rattle.script.proofs.lemmas.{SameInput}
 use Rattle.script.specs.Script.{lines_of}
 use Rattle.std.proofs.lemmas.Option.{same_Some}
@@ -66,7 +67,7 @@ shown_once {C} calls settled strangers opening events lives others shows more h 
     let one : (h.last ≡ k.last) × (shows ≡ more) =
     one_mixed_replay calls settled (opening_mixed (shown calls) opening strangers) h.last k.last events shows more
     h.replayed k.replayed in
-    (h.left ∙ ap (λ (s : MixedState C). s.world.kept.book.lives) one.0 ∙ sym k.left, one.1)
+    (h.left ∙ ap (λ (s : WorldState C). s.kept.book.lives) one.0 ∙ sym k.left, one.1)
 
 -- two outputs print the same lines and lives, after what was written before
 record PrintBoth (book other : Bool) (detail more : Detail) (before one two : List ℕ) : Type 0 where
@@ -199,7 +200,7 @@ log_from {C} calls settled strangers opening events before after other h k =
     one_mixed_replay calls settled (opening_mixed (shown calls) opening strangers) h.last k.last events h.shows k.shows
     h.replayed k.replayed in
     h.written
-    ∙ ap (λ (s : MixedState C). before ++ (strangers_text strangers ++ log_text (world_book s.world.kept))) one.0
+    ∙ ap (λ (s : WorldState C). before ++ (strangers_text strangers ++ log_text (world_book s.kept))) one.0
     ∙ sym k.written
 
 log_over : (carrier : CarrierKind) (t : MixedFields) (events : List WorldEvent) (before after other : List ℕ)

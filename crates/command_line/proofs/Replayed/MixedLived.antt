@@ -18,8 +18,9 @@ use Rattle.sockets.specs.Sending.{offered}
 use Rattle.sockets.specs.declared.request.Request.{Request}
 use Rattle.net_sim.proofs.lemmas.{Answered, Ways, calm_keeps, step_way, unshown}
 use Rattle.net_sim.specs.Book.{Kept, all_asked, all_crossed, all_reported, all_told, asked, crossed}
-use Rattle.net_sim.specs.MixedWorlds.{AmongGives, AskedGives, FetchEnds, FetchGives, MixedState, OfWorld}
-use Rattle.net_sim.specs.MixedWorlds.{OutEnds, OutGives, RefusesMixed, asked_at, is_strange, opening_mixed, strange_in}
+use Rattle.net_sim.specs.MixedWorlds.{AmongGives, AskedGives, FetchEnds}
+use Rattle.net_sim.specs.MixedWorlds.{OutEnds, asked_at, is_strange, opening_mixed, strange_in}
+use Rattle.net_sim.specs.World.{Refuses}
 use Rattle.net_sim.specs.World.{CalmGives, StepGives, done_by, noticed, services_of, turn_of, world_moved}
 use Rattle.net_sim.specs.declared.event.Event.TheVariants.{Out, Take}
 use Rattle.net_sim.specs.declared.event.WorldFault.{WorldFault}
@@ -111,55 +112,50 @@ module _ {C : Type 0} (calls : Calls C) where
 
   -- ---- one event of a world with strangers
 
-  of_world : (Gives : Answered → WorldState C → Type 0) (old : MixedState C) (r : Answered) (new : MixedState C)
-      → ((q : Answered) (w : WorldState C) → Gives q w → Lived old.world.kept → Lived w.kept)
-      → OfWorld Gives old r new → Lived old.world.kept → Lived new.world.kept
-  of_world Gives old r new keeps (gives, same) l = keeps r new.world gives l
+  refused : (f : WorldFault) (old : WorldState C) (r : Answered) (new : WorldState C) → Refuses f old r new
+      → Lived old.kept → Lived new.kept
+  refused f old r new h l = subst (λ (s : WorldState C). Lived s.kept) (sym h.1) l
 
-  refused : (f : WorldFault) (old : MixedState C) (r : Answered) (new : MixedState C) → RefusesMixed f old r new
-      → Lived old.world.kept → Lived new.world.kept
-  refused f old r new h l = subst (λ (s : MixedState C). Lived s.world.kept) (sym h.1) l
-
-  ask : (e : Event) (old : MixedState C) (r : Answered) (new : MixedState C) → AskedGives calls old e r new
-      → Lived old.world.kept → Lived new.world.kept
+  ask : (e : Event) (old : WorldState C) (r : Answered) (new : WorldState C) → AskedGives calls old e r new
+      → Lived old.kept → Lived new.kept
   ask e old r new h = on_either (is_strange (strange_in old) (asked_at e)) (λ s g. refused NoProgram old r new g)
-      (λ s g. of_world (StepGives calls old.world e) old r new (λ q w t. step e old.world q w t) g) h
+      (λ s g. step e old r new g) h
 
-  event : (e : Event) (old : MixedState C) (r : Answered) (new : MixedState C) → AmongGives calls old e r new
-      → Lived old.world.kept → Lived new.world.kept
+  event : (e : Event) (old : WorldState C) (r : Answered) (new : WorldState C) → AmongGives calls old e r new
+      → Lived old.kept → Lived new.kept
   event (Take h) old r new g = on_either (strange_in old h)
-      (λ s f. of_world (FetchGives calls h old.world) old r new (λ q w t. fetch t.0 t.1 old.world q w t.3) f)
-      (λ s f. of_world (StepGives calls old.world (Take h)) old r new (λ q w t. step (Take h) old.world q w t) f) g
+      (λ s f. fetch f.0 f.1 old r new f.3)
+      (λ s f. step (Take h) old r new f) g
   event (Out m) old r new g = on_either (strange_in old m.flow.source)
-      (λ s f. of_world (OutGives calls m old.world) old r new (λ q w t. out m t.0 t.1 old.world q w t.3) f)
-      (λ s f. of_world (StepGives calls old.world (Out m)) old r new (λ q w t. step (Out m) old.world q w t) f) g
+      (λ s f. out m f.0 f.1 old r new f.3)
+      (λ s f. step (Out m) old r new f) g
   event e old r new g = ask e old r new g
 
-  one : (e : WorldEvent) (old : MixedState C) (r : Answered) (new : MixedState C) → EventGivesAmong calls old e r new
-      → Lived old.world.kept → Lived new.world.kept
-  one (script.Happen e) old r new h = on_either old.world.stopped (λ s g. refused _ old r new g)
+  one : (e : WorldEvent) (old : WorldState C) (r : Answered) (new : WorldState C) → EventGivesAmong calls old e r new
+      → Lived old.kept → Lived new.kept
+  one (script.Happen e) old r new h = on_either old.stopped (λ s g. refused _ old r new g)
       (λ s g. event e old r new g) h
   one (script.Calm rounds) old r new h =
-      of_world (CalmGives calls rounds old.world) old r new (λ q w t. calm rounds old.world q w t) h
+      calm rounds old r new h
 
   -- ---- several
 
-  all : (events : List WorldEvent) (old new : MixedState C) (shows : List Shown)
-      → ReplaysBy (mixed_kind calls) old events new shows → Lived old.world.kept → Lived new.world.kept
-  all [] old new shows h l = subst (λ (s : MixedState C). Lived s.world.kept) (sym h.0) l
+  all : (events : List WorldEvent) (old new : WorldState C) (shows : List Shown)
+      → ReplaysBy (mixed_kind calls) old events new shows → Lived old.kept → Lived new.kept
+  all [] old new shows h l = subst (λ (s : WorldState C). Lived s.kept) (sym h.0) l
   all (e ∷ events) old new shows (mid, first, rest, happens, turn, lines) l =
       all events mid new rest turn (one e old happens.outcome mid happens.gives l)
 
   -- from a world's opening, to the end of a script or to where memory ran out
-  pub replayed_lived : (c : C) (named : List Host) (events : List WorldEvent) (last : MixedState C)
+  pub replayed_lived : (c : C) (named : List Host) (events : List WorldEvent) (last : WorldState C)
       (shows : List Shown) → ReplaysBy (mixed_kind calls) (opening_mixed calls c named) events last shows
-      → AreLived last.world.kept.book.crossings last.world.kept.book.notices last.world.kept.book.lives
+      → AreLived last.kept.book.crossings last.kept.book.notices last.kept.book.lives
   replayed_lived c named events last shows h =
       (all events (opening_mixed calls c named) last shows h (kept_lived [])).lived
 
-  pub stopped_lived : (c : C) (named : List Host) (events : List WorldEvent) (last : MixedState C)
+  pub stopped_lived : (c : C) (named : List Host) (events : List WorldEvent) (last : WorldState C)
       (shows : List Shown) → RunsOutBy (mixed_kind calls) (opening_mixed calls c named) events last shows
-      → AreLived last.world.kept.book.crossings last.world.kept.book.notices last.world.kept.book.lives
+      → AreLived last.kept.book.crossings last.kept.book.notices last.kept.book.lives
   stopped_lived c named events last shows h =
       (one h.last h.mid h.goes.outcome last h.goes.gives
       (all h.done (opening_mixed calls c named) h.mid h.front h.before (kept_lived []))).lived

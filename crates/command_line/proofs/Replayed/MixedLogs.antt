@@ -8,7 +8,8 @@ use Rattle.interface.specs.Host.{InOrder}
 use Rattle.mixed_worlds.specs.Laws.{KeepsAmong, KeepsToward}
 use Rattle.net_sim.specs.Book.{Kept}
 use Rattle.net_sim.specs.Handed.{AreUnhanded}
-use Rattle.net_sim.specs.MixedWorlds.{IsLawfulAmong, MixedState, absent_in, opening_mixed, strange_in}
+use Rattle.net_sim.specs.MixedWorlds.{IsLawfulAmong, absent_in, opening_mixed, strange_in}
+use Rattle.net_sim.specs.World.{WorldState}
 use Rattle.subnet.specs.Calls as subnet
 use Rattle.topology.specs.declared.network.CarrierKind.TheVariants as kind
 use Rattle.world_replay.specs.Kinds.{ReplaysBy, mixed_kind}
@@ -22,16 +23,16 @@ use Rattle.command_line.proofs.Replayed.Strangers.{subnet_named}
 
 -- ---- over a carrier
 
-pub logs_among : {C : Type 0} (calls : Calls C) (strangers : List Host) (carrier : C) (opening last : MixedState C)
+pub logs_among : {C : Type 0} (calls : Calls C) (strangers : List Host) (carrier : C) (opening last : WorldState C)
     (events : List WorldEvent) (detail : Detail) (k : Kept) (x y before after : Option (List ℕ))
     → absent_in (calls.seen carrier).hosts strangers ≡ None → ArePicked (calls.seen carrier).hosts strangers
     → InOrder (calls.seen carrier).hosts → opening ≡ opening_mixed (shown calls) carrier strangers
-    → IsLawfulAmong (strange_in last) calls.seen (calls.seen last.world.carrier).hosts last.world
-    → AreUnhanded last.world.kept.book.lives last.world.kept.handed
+    → IsLawfulAmong (strange_in last) calls.seen (calls.seen last.carrier).hosts last
+    → AreUnhanded last.kept.book.lives last.kept.handed
     → lines.Writes detail (ReplaysBy (mixed_kind (shown calls)) opening events last) x y
-    → KeepsAmong (strange_in last) (calls.seen last.world.carrier).hosts last.world
-    → KeepsToward (strange_in last) last.world
-    → k ≡ last.world.kept → AreFated last.world.kept.book.lives last.world.kept.fates
+    → KeepsAmong (strange_in last) (calls.seen last.carrier).hosts last
+    → KeepsToward (strange_in last) last
+    → k ≡ last.kept → AreFated last.kept.book.lives last.kept.fates
     → Appends before after (strangers_text strangers ++ log_text (world_book k))
     → (AreFated k.book.lives k.fates → IsBook (world_book k))
     → MixedLogsFrom calls strangers carrier events before after
@@ -39,7 +40,7 @@ logs_among {C} calls strangers carrier opening last events detail k x y before a
     lists w among toward is fated written valid =
     let replayed : ReplaysBy (mixed_kind (shown calls)) (opening_mixed (shown calls) carrier strangers) events last
     w.shown =
-    subst (λ (s : MixedState C). ReplaysBy (mixed_kind (shown calls)) s events last w.shown) begins w.is_shown in
+    subst (λ (s : WorldState C). ReplaysBy (mixed_kind (shown calls)) s events last w.shown) begins w.is_shown in
     record {
       there = there;
       named = are_strangers calls strangers carrier events last w.shown there picked order replayed lawful;

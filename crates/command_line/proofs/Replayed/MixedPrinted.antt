@@ -5,7 +5,7 @@ use Rattle.command_line.proofs.Common.{MixedFields, WorldEvent, ShowsBook, Told,
 use Rattle.command_line.proofs.Common.{map, shown, subnet_calls, subnet_of, ungranted}
 use Rattle.std.proofs.Common.{◌&&◌, ◌==◌}
 use Rattle.std.proofs.lemmas.Bool.{false≢true}
-use Rattle.std.specs.Prelude.{None, Some, ◌||◌}
+use Rattle.std.specs.Prelude.{◌||◌}
 use Rattle.interface.proofs.lemmas.{contains_head}
 use Rattle.interface.specs.Host.{is_host}
 use Rattle.interface.specs.Mailboxes.{IsRun}
@@ -17,7 +17,7 @@ use Rattle.mixed_worlds.specs.Book.{beside_among, lives_among}
 use Rattle.mixed_worlds.specs.Laws.{KeepsAmong, KeepsToward}
 use Rattle.mixed_worlds.specs.Told.{ToldAmong}
 use Rattle.mixed_worlds.specs.Toward.{HasAsked, IsCarried}
-use Rattle.net_sim.specs.MixedWorlds.{MixedState, opening_mixed, strange_in}
+use Rattle.net_sim.specs.MixedWorlds.{opening_mixed, strange_in}
 use Rattle.promise.specs.Formed.{FormedBook}
 use Rattle.promise.specs.Safe.{SafeBook}
 use Rattle.topology.specs.declared.network.CarrierKind.TheVariants as kind
@@ -65,7 +65,7 @@ among_book strange hosts w shows booked among toward lived =
 abbrev picked : {C : Type 0} → Calls C → C → List Host → Host → Bool
 picked calls opening named h = is_host named h && is_host (calls.seen opening).hosts h
 
-stays : {C : Type 0} (calls : Calls C) (opening : C) (named : List Host) (last : MixedState C)
+stays : {C : Type 0} (calls : Calls C) (opening : C) (named : List Host) (last : WorldState C)
     → last.strangers ≡ (opening_mixed (shown calls) opening named).strangers
     → strange_in last ≡ picked calls opening named
 stays calls opening named last same =
@@ -76,7 +76,7 @@ printed_from : {C : Type 0} (calls : Calls C) (opening : C) (named : List Host) 
     → WritesWorld book detail (MixedShowsFrom calls named opening events) a b
     → PrintsBookAmong (picked calls opening named) book detail a b
 printed_from {C} calls opening named events book detail a b r =
-    let last : MixedState C = r.shows.last in
+    let last : WorldState C = r.shows.last in
     let kept : last.strangers ≡ (opening_mixed (shown calls) opening named).strangers =
     all_stay (shown calls) events (opening_mixed (shown calls) opening named) last r.shown r.shows.replayed in record {
       shown = r.shown;
@@ -84,7 +84,7 @@ printed_from {C} calls opening named events book detail a b r =
       one = subst (λ (strange : Host → Bool). AreOneBookAmong strange r.shown r.lives)
           (stays calls opening named last kept)
           (subst (AreOneBookAmong (strange_in last) r.shown) (sym r.shows.left)
-          (among_book (strange_in last) (calls.seen last.world.carrier).hosts last.world r.shown r.shows.booked
+          (among_book (strange_in last) (calls.seen last.carrier).hosts last r.shown r.shows.booked
           r.shows.among r.shows.toward
           (replayed_lived (shown calls) opening named events last r.shown r.shows.replayed)));
       written = r.written;
@@ -94,15 +94,15 @@ part_from : {C : Type 0} (calls : Calls C) (opening : C) (named : List Host) (ev
     (detail : Detail) (a b : Option (List ℕ)) → MixedWritesPart detail calls named opening events a b
     → PrintsPartAmong (picked calls opening named) detail a b
 part_from {C} calls opening named events detail a b r =
-    let last : MixedState C = r.is_shown.last in
+    let last : WorldState C = r.is_shown.last in
     let kept : last.strangers ≡ (opening_mixed (shown calls) opening named).strangers =
     stay_in_part (shown calls) events (opening_mixed (shown calls) opening named) last r.shown r.is_shown.stopped in
     record {
       shown = r.shown;
-      lives = last.world.kept.book.lives;
-      one = subst (λ (strange : Host → Bool). AreOneBookAmong strange r.shown last.world.kept.book.lives)
+      lives = last.kept.book.lives;
+      one = subst (λ (strange : Host → Bool). AreOneBookAmong strange r.shown last.kept.book.lives)
           (stays calls opening named last kept)
-          (among_book (strange_in last) (calls.seen last.world.carrier).hosts last.world r.shown r.is_shown.booked
+          (among_book (strange_in last) (calls.seen last.carrier).hosts last r.shown r.is_shown.booked
           r.is_shown.among r.is_shown.toward
           (stopped_lived (shown calls) opening named events last r.shown r.is_shown.stopped));
       written = r.written;

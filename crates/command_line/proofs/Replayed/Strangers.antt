@@ -8,7 +8,8 @@ use Rattle.command_line.proofs.Common.{WorldEvent, IsMixedFault, MixedEndsOn, Mi
 use Rattle.command_line.proofs.Common.{WritesWorld, IsNetworkFault}
 use Rattle.interface.specs.Host.{is_host}
 use Rattle.mixed_worlds.specs.Laws.{KeepsAmong, KeepsToward}
-use Rattle.net_sim.specs.MixedWorlds.{MixedState, absent_in, opening_mixed, strange_in}
+use Rattle.net_sim.specs.MixedWorlds.{absent_in, opening_mixed, strange_in}
+use Rattle.net_sim.specs.World.{WorldState}
 use Rattle.subnet.specs.Calls.{Kept}
 use Rattle.topology.specs.Mixed.{AreHosts}
 use Rattle.topology.specs.declared.network.CarrierKind.TheVariants as kind
@@ -50,24 +51,24 @@ strangers_there t hosts named at same there =
 -- ---- what is written
 
 pub mixed_writes_all : {C : Type 0} (calls : Calls C) (strangers : List Host) (carrier : C)
-    (opening last : MixedState C) (events : List WorldEvent) (lives : List Life) (book : Bool) (detail : Detail)
+    (opening last : WorldState C) (events : List WorldEvent) (lives : List Life) (book : Bool) (detail : Detail)
     (a b c : Option (List ℕ)) → opening ≡ opening_mixed (shown calls) carrier strangers
     → lines.Writes detail (ReplaysBy (mixed_kind (shown calls)) opening events last) a b
-    → KeepsAmong (strange_in last) (calls.seen last.world.carrier).hosts last.world
-    → KeepsToward (strange_in last) last.world
-    → lives ≡ last.world.kept.book.lives → Appends b c (book_text book lives ++ codes "end\n")
+    → KeepsAmong (strange_in last) (calls.seen last.carrier).hosts last
+    → KeepsToward (strange_in last) last
+    → lives ≡ last.kept.book.lives → Appends b c (book_text book lives ++ codes "end\n")
     → WritesWorld book detail (MixedShowsFrom calls strangers carrier events) a c
 mixed_writes_all {C} calls strangers carrier opening last events lives book detail a b c is h among toward left end =
     let from : ReplaysBy (mixed_kind (shown calls)) (opening_mixed (shown calls) carrier strangers) events last
     h.shown =
-    subst (λ (w : MixedState C). ReplaysBy (mixed_kind (shown calls)) w events last h.shown) is h.is_shown in
+    subst (λ (w : WorldState C). ReplaysBy (mixed_kind (shown calls)) w events last h.shown) is h.is_shown in
     record {
       shown = h.shown;
       lives = lives;
       shows = record {
         last = last;
         replayed = from;
-        booked = shows_book last.world.kept h.shown
+        booked = shows_book last.kept h.shown
             (replays_show (mixed_kind (shown calls)) (opening_mixed (shown calls) carrier strangers) events last
             h.shown from);
         left = left;
@@ -78,22 +79,22 @@ mixed_writes_all {C} calls strangers carrier opening last events lives book deta
     }
 
 pub mixed_writes_part : {C : Type 0} (calls : Calls C) (strangers : List Host) (carrier : C)
-    (opening last : MixedState C) (events : List WorldEvent) (detail : Detail) (a b : Option (List ℕ))
+    (opening last : WorldState C) (events : List WorldEvent) (detail : Detail) (a b : Option (List ℕ))
     → opening ≡ opening_mixed (shown calls) carrier strangers
     → lines.Writes detail (RunsOutBy (mixed_kind (shown calls)) opening events last) a b
-    → KeepsAmong (strange_in last) (calls.seen last.world.carrier).hosts last.world
-    → KeepsToward (strange_in last) last.world
+    → KeepsAmong (strange_in last) (calls.seen last.carrier).hosts last
+    → KeepsToward (strange_in last) last
     → lines.Writes detail (MixedStopsFrom calls strangers carrier events) a b
 mixed_writes_part {C} calls strangers carrier opening last events detail a b is h among toward =
     let from : RunsOutBy (mixed_kind (shown calls)) (opening_mixed (shown calls) carrier strangers) events last
     h.shown =
-    subst (λ (w : MixedState C). RunsOutBy (mixed_kind (shown calls)) w events last h.shown) is h.is_shown in
+    subst (λ (w : WorldState C). RunsOutBy (mixed_kind (shown calls)) w events last h.shown) is h.is_shown in
     record {
       shown = h.shown;
       is_shown = record {
         last = last;
         stopped = from;
-        booked = shows_book last.world.kept h.shown
+        booked = shows_book last.kept h.shown
             (stops_show (mixed_kind (shown calls)) (opening_mixed (shown calls) carrier strangers) events last
             h.shown from);
         among = among;

@@ -1,5 +1,5 @@
 -- Worlds with strangers, event by event.
-use Rattle.net_sim.proofs.Common.{◌≡◌, ℕ, Bool, true, false, List, [], ◌∷◌, refl, sym, subst, MatchBool, Calls, Host, is_host, Crossing, HostMessage, shown, HaveAddresses, Each, IsNamed, WorldState, WorldFault, Carrier, CalmGives, Refuses, StepGives}
+use Rattle.net_sim.proofs.Common.{◌≡◌, ℕ, Bool, true, false, List, [], ◌∷◌, sym, subst, Calls, Host, is_host, Crossing, HostMessage, shown, HaveAddresses, Each, IsNamed, WorldState, WorldFault, Carrier, CalmGives, Refuses, StepGives}
 use Rattle.std.proofs.Common.{Result}
 use Rattle.interface.specs.Mailboxes.{IsRun}
 use Rattle.interface.specs.declared.carrier.CarrierFault.TheVariants as fault
@@ -9,16 +9,11 @@ use Rattle.net_sim.specs.Reports.{AreReported}
 use Rattle.net_sim.specs.World.{Event, Out, Take, stops}
 use Rattle.net_sim.proofs.Books.Booked.{among_booked, calm_books, fetch_books, out_books, step_books}
 use Rattle.net_sim.proofs.Books.Reported.{among_reported, calm_reported, fetch_reported, out_reported, step_reported}
-use Rattle.net_sim.proofs.Books.Same.{calm_same, fetch_same, out_same, step_same}
+use Rattle.net_sim.proofs.Books.Same.{calm_same, either, fetch_same, out_same, step_same}
 use Rattle.net_sim.proofs.Books.Whole.{calm_among, fetch_among, opening_among_whole, out_among, step_among}
 
 abbrev Answer : Type 0
 Answer = Result (Unit {0}) WorldFault
-
--- a choice, with what it was made by
-either : (P Q R : Type 0) (b : Bool) → (b ≡ true → P → R) → (b ≡ false → Q → R) → MatchBool b P Q → R
-either P Q R true k l h = k refl h
-either P Q R false k l h = l refl h
 
 module _ {C : Type 0} (own : Calls C) (hosts : List Host) where
   -- all that a lawful world is, but for the carrier's log

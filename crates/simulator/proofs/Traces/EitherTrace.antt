@@ -1,10 +1,9 @@
 -- An input of either kind leaves its trace no choice.
-use Rattle.simulator.proofs.Common.{◌≡◌, inl, inr, ℕ, List, [], ◌∷◌, ◌++◌, Some, sym, ap, ap₂, subst, ◌∙◌, HappensOnce, ShowsFront, text_of, Calls, AreSettled, ends_front, in_turn_once, parted_once, CarrierKind, shown, SameGains, gains_once, shown_settled, StopsOne, change_of, Spot, asking_from, numbered_from, AllParts, plain_inside, plain_calls, subnet_calls, subnet_inside, plain_of, subnet_of, subnet_settled, plain_settled, MixedFields, WorldEvent, Sizes, Crossing, MixedState, opening_mixed, Shown, IsMixedScripted, MixedTraceEndsFrom, MixedTraceEndsOn, MixedTraceEndsOver, MixedTraceStops, MixedTracesFrom, MixedTracesInput, MixedTracesOn, MixedTracesOver, TraceStopsEither, TracesEither}
+use Rattle.simulator.proofs.Common.{◌≡◌, inl, inr, ℕ, List, [], ◌∷◌, ◌++◌, Some, sym, ap, ap₂, subst, ◌∙◌, HappensOnce, ShowsFront, text_of, Calls, AreSettled, ends_front, in_turn_once, parted_once, CarrierKind, shown, SameGains, gains_once, shown_settled, StopsOne, change_of, Spot, asking_from, numbered_from, AllParts, plain_inside, plain_calls, subnet_calls, subnet_inside, plain_of, subnet_of, subnet_settled, plain_settled, MixedFields, WorldEvent, Sizes, Crossing, WorldState, opening_mixed, Shown, IsMixedScripted, MixedTraceEndsFrom, MixedTraceEndsOn, MixedTraceEndsOver, MixedTraceStops, MixedTracesFrom, MixedTracesInput, MixedTracesOn, MixedTracesOver, TraceStopsEither, TracesEither}
 use Rattle.std.proofs.Common.{zip}
 use Rattle.net_sim.specs.declared.event.Event.{Event}
 use Rattle.topology.specs.declared.network.CarrierKind.TheVariants as kind
 use Rattle.world_replay.proofs.lemmas as replays
-use Rattle.world_replay.proofs.lemmas.{same_state}
 use Rattle.world_replay.specs.Output.{output}
 use Rattle.world_script.specs.declared.event.WorldEvent.TheVariants as worlds
 use Rattle.world_trace.specs.MixedTraces.{AtSpot, MixedEndsAt, StopsMixed, TellsMixed, TellsMixedAt, mixed_opening}
@@ -21,24 +20,22 @@ module _ {C : Type 0} (calls : Calls C) (members : C → AllParts) (settled : Ar
       let one : (new ≡ other) × (shows ≡ others) =
       replays.happens_once calls settled old (worlds.Happen e) new other shows others h k in
       let gains : SameGains h.gains k.gains =
-      gains_once old.world.kept new.world.kept other.world.kept h.gains k.gains
-      (ap (λ (s : MixedState C). s.world.kept) one.0) in
-      let line : List Crossing → List Shown → MixedState C → List (List ℕ) = λ cs ss s.
-      line_of spot 0 (event_text (worlds.Happen e)) cs (output Sizes ss) (change_of members old.world s.world) ∷ [] in (
+      gains_once old.kept new.kept other.kept h.gains k.gains
+      (ap (λ (s : WorldState C). s.kept) one.0) in
+      let line : List Crossing → List Shown → WorldState C → List (List ℕ) = λ cs ss s.
+      line_of spot 0 (event_text (worlds.Happen e)) cs (output Sizes ss) (change_of members old s) ∷ [] in (
         one.0,
         is ∙ ap (λ (cs : List Crossing). line cs shows new) gains.crossings
-            ∙ ap₂ (λ (ss : List Shown) (s : MixedState C). line k.gains.crossings ss s) one.1 one.0 ∙ sym are,
+            ∙ ap₂ (λ (ss : List Shown) (s : WorldState C). line k.gains.crossings ss s) one.1 one.0 ∙ sym are,
       )
 
   tells_once : HappensOnce (AtSpot (TellsMixedAt calls members))
   tells_once old (spot, worlds.Happen e) new other lines more h k = told_once spot old e new other lines more h k
   tells_once old (spot, worlds.Calm rounds) new other lines more (h, same) (k, alike) =
-      let one : (new.world ≡ other.world) × (lines ≡ more) =
-      at_once calls members settled old.world (spot, worlds.Calm rounds) new.world other.world lines more h k in
-      (same_state calls settled new other one.0 (same ∙ sym alike), one.1)
+      at_once calls members settled old (spot, worlds.Calm rounds) new other lines more h k
 
   -- the event in which memory ran out has no line, and of a calm those before it have theirs
-  no_line : (old : MixedState C) (e : Event) (new : MixedState C) (part whole : List (List ℕ))
+  no_line : (old : WorldState C) (e : Event) (new : WorldState C) (part whole : List (List ℕ))
       → StopsMixed calls old e new part → (rest : List (List ℕ)) × (whole ≡ part ++ rest)
   no_line old e new part whole (inl h) = (whole, sym (ap (λ (ls : List (List ℕ)). ls ++ whole) h.0))
   no_line old e new part whole (inr h) = (whole, sym (ap (λ (ls : List (List ℕ)). ls ++ whole) h.0))
@@ -47,7 +44,7 @@ module _ {C : Type 0} (calls : Calls C) (members : C → AllParts) (settled : Ar
       (AtSpot (TellsMixedAt calls members))
   tells_front old (spot, worlds.Happen e) new other part whole h k = no_line old e new part whole h
   tells_front old (spot, worlds.Calm rounds) new other part whole h k =
-      at_front calls members settled old.world (spot, worlds.Calm rounds) new.world other.world part whole h.0 k.0
+      at_front calls members settled old (spot, worlds.Calm rounds) new other part whole h.0 k.0
 
   -- ---- of a network
 
@@ -55,7 +52,7 @@ module _ {C : Type 0} (calls : Calls C) (members : C → AllParts) (settled : Ar
       → MixedTracesFrom calls members t opening events (Some before) (Some after)
       → MixedTracesFrom calls members t opening events (Some before) (Some other) → after ≡ other
   from_once t opening events before after other h k =
-      let begins : MixedState C = opening_mixed calls opening t.strangers in
+      let begins : WorldState C = opening_mixed calls opening t.strangers in
       let (others, lines, tells) = h.traced.is_shown in
       let (more, are, told) = k.traced.is_shown in
       let one : (h.last ≡ k.last) × (others ≡ more) =
@@ -70,7 +67,7 @@ module _ {C : Type 0} (calls : Calls C) (members : C → AllParts) (settled : Ar
       → MixedTracesFrom calls members t opening events (Some before) (Some whole)
       → (rest : List ℕ) × (whole ≡ part ++ rest)
   from_front t opening events before part whole h k =
-      let begins : MixedState C = opening_mixed calls opening t.strangers in
+      let begins : WorldState C = opening_mixed calls opening t.strangers in
       let (some, lines, ends) = h.traced.is_shown in
       let (all, are, tells) = k.traced.is_shown in
       let starts : (more : List (List ℕ)) × (all ≡ some ++ more) =

@@ -1,5 +1,5 @@
 -- What `--trace` writes among strangers, and of an input of either kind.
-use Rattle.simulator.proofs.Common.{◌≡◌, ◌⊎◌, inl, inr, ℕ, List, Option, Result, OnOk, ap, subst, sym, ◌∙◌, Calls, Keeps, text_of, asking_from, parted_once, CarrierKind, IsScriptOf, IsScripted, ScriptFault, TopologyFields, TracesOn, on_ok, length, MixedState, opening_mixed, MixedFields, event_lines, AllParts, WorldEvent, Asked, IsMixedScripted, MixedTraceEndsFrom, MixedTraceEndsOn, MixedTraceEndsOver, MixedTraceStops, MixedTracesFrom, MixedTracesInput, MixedTracesOn, MixedTracesOver, TraceStopsEither, TracedEither, TracesEither, EndsOn, stays}
+use Rattle.simulator.proofs.Common.{◌≡◌, ◌⊎◌, inl, inr, ℕ, List, Option, Result, OnOk, ap, subst, sym, ◌∙◌, Calls, Keeps, text_of, asking_from, parted_once, CarrierKind, IsScriptOf, IsScripted, ScriptFault, TopologyFields, TracesOn, on_ok, length, WorldState, opening_mixed, MixedFields, event_lines, AllParts, WorldEvent, Asked, IsMixedScripted, MixedTraceEndsFrom, MixedTraceEndsOn, MixedTraceEndsOver, MixedTraceStops, MixedTracesFrom, MixedTracesInput, MixedTracesOn, MixedTracesOver, TraceStopsEither, TracedEither, TracesEither, EndsOn, stays}
 use Rattle.world_script.specs.WorldSpelling.{IsWorldEvent, world_spelling}
 use Rattle.world_trace.specs.MixedTraces.{WritesMixed, WritesMixedPart}
 use Rattle.command_line.specs.Mixed.{IsMixedInput}
@@ -10,22 +10,22 @@ use Rattle.simulator.proofs.Traces.Traced.{as_many}
 
 -- a trace that was written stays where it is handed on
 pub flushed_mixed : {C : Type 0} (calls : Calls C) (members : C → AllParts) (t : MixedFields) (opening : C)
-    (first last : MixedState C) (events : List (ℕ × WorldEvent)) (a b c : Option (List ℕ))
+    (first last : WorldState C) (events : List (ℕ × WorldEvent)) (a b c : Option (List ℕ))
     → first ≡ opening_mixed calls opening t.strangers → WritesMixed calls members t.network first events last a b
     → Keeps b c → MixedTracesFrom calls members t opening events a c
 flushed_mixed {C} calls members t opening first last events a b c is w k =
-    let own = subst (λ (x : MixedState C). WritesMixed calls members t.network x events last a b) is w in
+    let own = subst (λ (x : WorldState C). WritesMixed calls members t.network x events last a b) is w in
     record {
       last = last;
       traced = record { shown = own.shown; is_shown = own.is_shown; written = stays a b c (text_of (λ line. line) own.shown) own.written k };
     }
 
 pub mixed_ends : {C : Type 0} (calls : Calls C) (members : C → AllParts) (t : MixedFields) (opening : C)
-    (first last : MixedState C) (events : List (ℕ × WorldEvent)) (a b : Option (List ℕ))
+    (first last : WorldState C) (events : List (ℕ × WorldEvent)) (a b : Option (List ℕ))
     → first ≡ opening_mixed calls opening t.strangers → WritesMixedPart calls members t.network first events last a b
     → MixedTraceEndsFrom calls members t opening events a b
 mixed_ends {C} calls members t opening first last events a b is w =
-    record { last = last; traced = subst (λ (x : MixedState C). WritesMixedPart calls members t.network x events last a b) is w }
+    record { last = last; traced = subst (λ (x : WorldState C). WritesMixedPart calls members t.network x events last a b) is w }
 
 -- ---- of an input, and of octets of either kind
 

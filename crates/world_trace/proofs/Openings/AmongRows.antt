@@ -3,7 +3,8 @@ use Rattle.world_trace.proofs.Common.{◌≡◌, ◌⊎◌, inl, inr, ℕ, List,
 use Rattle.world_trace.proofs.Common.{Calls, AllParts, Spot}
 use Rattle.std.specs.Fmt.{digits}
 use Rattle.interface.specs.Calls.{Seen}
-use Rattle.net_sim.specs.MixedWorlds.{MixedState, MixedStepGives}
+use Rattle.net_sim.specs.MixedWorlds.{MixedStepGives}
+use Rattle.net_sim.specs.World.{WorldState}
 use Rattle.net_sim.specs.WorkedMixed.{beside_third}
 use Rattle.net_sim.specs.declared.event.Event.{Event}
 use Rattle.net_sim.specs.declared.event.WorldFault.{WorldFault}
@@ -18,10 +19,10 @@ use Rattle.world_trace.specs.Worked.{PrintsSpot}
 
 pub row_opened : (members : Seen → AllParts) (t : TopologyFields) (lines : List (List ℕ))
     → AfterMixedOpening members t beside_third (λ others. others ≡ []) lines
-    → lines ≡ opening_text t (state_of members beside_third.world ++ codes "\"foreign\":[\"0/3\"]" ∷ []) ∷ []
+    → lines ≡ opening_text t (state_of members beside_third ++ codes "\"foreign\":[\"0/3\"]" ∷ []) ∷ []
 unfolding digits
 row_opened members t lines (others, is, none) =
-    is ∙ ap (λ (ls : List (List ℕ)). opening_text t (state_of members beside_third.world ++ codes "\"foreign\":[\"0/3\"]" ∷ []) ∷ ls) none
+    is ∙ ap (λ (ls : List (List ℕ)). opening_text t (state_of members beside_third ++ codes "\"foreign\":[\"0/3\"]" ∷ []) ∷ ls) none
 
 pub row_counted : (old e new : ℕ) (lines : List (List ℕ)) → AllTell PrintsSpot old ((7, e) ∷ (9, e) ∷ []) new lines
     → lines ≡ (7 ∷ 1 ∷ []) ∷ (9 ∷ 2 ∷ []) ∷ []
@@ -34,18 +35,18 @@ none_done [] left last e = absurd (cc)
 none_done (x ∷ done) left last e = absurd (cc)
 
 module _ {C : Type 0} (calls : Calls C) where
-  pub row_calm : (members : C → AllParts) (spot : Spot) (old new : MixedState C) (rounds : ℕ) (lines : List (List ℕ))
+  pub row_calm : (members : C → AllParts) (spot : Spot) (old new : WorldState C) (rounds : ℕ) (lines : List (List ℕ))
       → TellsMixedAt calls members spot old (script.Calm rounds) new lines → new.strangers ≡ old.strangers
   row_calm members spot old new rounds lines h = h.1
 
-  pub row_memory : (old new : MixedState C) (e : Event) (lines : List (List ℕ)) → StopsMixed calls old e new lines
+  pub row_memory : (old new : WorldState C) (e : Event) (lines : List (List ℕ)) → StopsMixed calls old e new lines
       → (lines ≡ []) × ((new ≡ old) ⊎ ((r : Result (Unit {0}) WorldFault) × MixedStepGives calls old e r new))
   row_memory old new e lines (inl h) = (h.0, inl h.1)
   row_memory old new e lines (inr h) = (h.0, inr h.1)
 
-  pub row_failed : (old new : MixedState C) (e : Event) (lines : List (List ℕ)) → MayTellMixed calls old e new lines
+  pub row_failed : (old new : WorldState C) (e : Event) (lines : List (List ℕ)) → MayTellMixed calls old e new lines
       → (lines ≡ []) × ((r : Result (Unit {0}) WorldFault) × MixedStepGives calls old e r new)
   row_failed old new e lines h = h
 
-  pub row_nothing : (members : C → AllParts) (old new : MixedState C) → MixedTraceFails calls members old [] new → ⊥
+  pub row_nothing : (members : C → AllParts) (old new : WorldState C) → MixedTraceFails calls members old [] new → ⊥
   row_nothing members old new (others, ends) = none_done ends.done ends.left ends.last ends.parts

@@ -62,7 +62,7 @@ one_test f g same = λ i. λ h. same h i
 kept_from : {C : Type 0} (calls : Calls C) (strangers : List Host) (opening : C) (events : List WorldEvent)
     (octets : List ℕ) → MixedLogsFrom calls strangers opening events (Some []) (Some octets) → IsKeptLog octets
 kept_from calls strangers opening events octets h =
-    let k : Kept = h.last.world.kept in
+    let k : Kept = h.last.kept in
     let same : strange_in h.last ≡ (λ g. is_host strangers g) =
     one_test (strange_in h.last) (λ g. is_host strangers g)
     (λ g. sym (strangers_stay calls opening strangers events h.last h.shows h.there h.replayed g)) in
@@ -73,7 +73,7 @@ kept_from calls strangers opening events octets h =
       says = says_logged k h.fated strangers
           (subst (λ (strange : Host → Bool).
           Judged kept strange (reverse k.book.crossings) k.book.lives k.handed (map logged_fate k.fates)) same
-          (judged (strange_in h.last) (calls.seen h.last.world.carrier).hosts h.last.world h.among h.toward h.lists));
+          (judged (strange_in h.last) (calls.seen h.last.carrier).hosts h.last h.among h.toward h.lists));
     }
 
 kept_over : (carrier : CarrierKind) (t : MixedFields) (events : List WorldEvent) (octets : List ℕ)

@@ -7,7 +7,8 @@ use Rattle.std.proofs.lemmas.List.Elements.{All-cons, All-nil}
 use Rattle.interface.proofs.lemmas.{host_before_trans, same_host-refl}
 use Rattle.interface.specs.Host.{InOrder, IsAddress, is_host, same_host}
 use Rattle.book_log.specs.Log.{AreStrangers}
-use Rattle.net_sim.specs.MixedWorlds.{IsLawfulAmong, MixedState, absent_in, opening_mixed, strange_in}
+use Rattle.net_sim.specs.MixedWorlds.{IsLawfulAmong, absent_in, opening_mixed, strange_in}
+use Rattle.net_sim.specs.World.{WorldState}
 use Rattle.script.specs.Spelling.{IsHost}
 use Rattle.world_replay.specs.Kinds.{ReplaysBy, mixed_kind}
 use Rattle.world_replay.specs.Output.{Shown}
@@ -60,10 +61,10 @@ all_hosts named addresses = each_named named (λ h there. address_host h (addres
 
 -- hosts that are picked out of a carrier's, and are strangers in a lawful world over it
 pub are_strangers : {C : Type 0} (calls : Calls C) (strangers : List Host) (carrier : C) (events : List WorldEvent)
-    (last : MixedState C) (shows : List Shown) → absent_in (calls.seen carrier).hosts strangers ≡ None
+    (last : WorldState C) (shows : List Shown) → absent_in (calls.seen carrier).hosts strangers ≡ None
     → ArePicked (calls.seen carrier).hosts strangers → InOrder (calls.seen carrier).hosts
     → ReplaysBy (mixed_kind (shown calls)) (opening_mixed (shown calls) carrier strangers) events last shows
-    → IsLawfulAmong (strange_in last) calls.seen (calls.seen last.world.carrier).hosts last.world
+    → IsLawfulAmong (strange_in last) calls.seen (calls.seen last.carrier).hosts last
     → AreStrangers strangers
 are_strangers calls strangers carrier events last shows there picked order replayed lawful = record {
   valid = all_hosts strangers

@@ -1,72 +1,38 @@
 -- The strangers of a world are those that were named, whatever happens in it.
 use Rattle.command_line.proofs.Common.{◌≡◌, Bool, true, false, List, [], ◌∷◌, None, Some, Result, refl, sym, ap, ◌∙◌}
-use Rattle.command_line.proofs.Common.{inl, inr, Calls, Host, WorldState, Event, WorldEvent, shown}
+use Rattle.command_line.proofs.Common.{inl, inr, Calls, Host, WorldState, WorldEvent, shown}
 use Rattle.std.proofs.Common.{◌&&◌, filter}
 use Rattle.std.proofs.lemmas.Bool.{false≢true, or_cases}
 use Rattle.std.proofs.lemmas.Map.Views.{any-filter_same}
-use Rattle.std.specs.Bool.{MatchBool}
 use Rattle.interface.proofs.lemmas.{and_true, both_ways, same_host-true}
 use Rattle.interface.specs.Host.{is_host, same_host}
-use Rattle.net_sim.specs.MixedWorlds.{AmongGives, AskedGives, FetchGives, MixedState, MixedStepGives, OfWorld, OutGives}
-use Rattle.net_sim.specs.MixedWorlds.{RefusesMixed, absent_in, asked_at, is_strange, opening_mixed, strange_in}
-use Rattle.net_sim.specs.World.{CalmGives, StepGives}
-use Rattle.net_sim.specs.declared.event.Event.TheVariants.{Out, Take}
+use Rattle.net_sim.specs.MixedWorlds.{absent_in, opening_mixed, strange_in}
+use Rattle.net_sim.proofs.lemmas.{calm_same, mixed_same}
 use Rattle.net_sim.specs.declared.event.WorldFault.{WorldFault}
-use Rattle.net_sim.specs.declared.event.WorldFault.TheVariants.{NoProgram}
 use Rattle.world_replay.specs.Kinds.{EventGivesAmong, ReplaysBy, RunsOutBy, mixed_kind}
 use Rattle.world_replay.specs.Output.{Shown}
-use Rattle.world_script.specs.declared.event.WorldEvent.TheVariants as script
+use Rattle.world_script.specs.declared.event.WorldEvent.TheVariants as mixed
 
 -- ---- no event changes them
-
-either : {P Q R : Type 0} (b : Bool) → (P → R) → (Q → R) → MatchBool b P Q → R
-either true p q h = p h
-either false p q h = q h
 
 module _ {C : Type 0} (calls : Calls C) where
   abbrev Answer : Type 0
   Answer = Result (Unit {0}) WorldFault
 
-  of_world : (Gives : Answer → WorldState C → Type 0) (old : MixedState C) (r : Answer) (new : MixedState C)
-      → OfWorld Gives old r new → new.strangers ≡ old.strangers
-  of_world Gives old r new (gives, same) = same
-
-  refused : (f : WorldFault) (old : MixedState C) (r : Answer) (new : MixedState C) → RefusesMixed f old r new
+  one : (e : WorldEvent) (old : WorldState C) (r : Answer) (new : WorldState C) → EventGivesAmong calls old e r new
       → new.strangers ≡ old.strangers
-  refused f old r new h = ap (λ (s : MixedState C). s.strangers) h.1
-
-  asked : (e : Event) (old : MixedState C) (r : Answer) (new : MixedState C) → AskedGives calls old e r new
-      → new.strangers ≡ old.strangers
-  asked e old r new h = either (is_strange (strange_in old) (asked_at e)) (λ x. refused NoProgram old r new x)
-      (λ x. of_world (StepGives calls old.world e) old r new x) h
-
-  event : (e : Event) (old : MixedState C) (r : Answer) (new : MixedState C) → AmongGives calls old e r new
-      → new.strangers ≡ old.strangers
-  event (Take h) old r new g = either (strange_in old h) (λ x. of_world (FetchGives calls h old.world) old r new x)
-      (λ x. of_world (StepGives calls old.world (Take h)) old r new x) g
-  event (Out m) old r new g = either (strange_in old m.flow.source)
-      (λ x. of_world (OutGives calls m old.world) old r new x)
-      (λ x. of_world (StepGives calls old.world (Out m)) old r new x) g
-  event e old r new g = asked e old r new g
-
-  step : (e : Event) (old : MixedState C) (r : Answer) (new : MixedState C) → MixedStepGives calls old e r new
-      → new.strangers ≡ old.strangers
-  step e old r new h = either old.world.stopped (λ x. refused _ old r new x) (λ x. event e old r new x) h
-
-  one : (e : WorldEvent) (old : MixedState C) (r : Answer) (new : MixedState C) → EventGivesAmong calls old e r new
-      → new.strangers ≡ old.strangers
-  one (script.Happen e) old r new h = step e old r new h
-  one (script.Calm rounds) old r new h = of_world (CalmGives calls rounds old.world) old r new h
+  one (mixed.Happen e) old r new h = mixed_same calls e old r new h
+  one (mixed.Calm rounds) old r new h = calm_same calls rounds old r new h
 
   -- nor do several
-  pub all_stay : (events : List WorldEvent) (old new : MixedState C) (shows : List Shown)
+  pub all_stay : (events : List WorldEvent) (old new : WorldState C) (shows : List Shown)
       → ReplaysBy (mixed_kind calls) old events new shows → new.strangers ≡ old.strangers
-  all_stay [] old new shows h = ap (λ (s : MixedState C). s.strangers) h.0
+  all_stay [] old new shows h = ap (λ (s : WorldState C). s.strangers) h.0
   all_stay (e ∷ events) old new shows (mid, first, rest, happens, turn, lines) =
       all_stay events mid new rest turn ∙ one e old happens.outcome mid happens.gives
 
   -- nor do those before memory ran out
-  pub stay_in_part : (events : List WorldEvent) (old new : MixedState C) (shows : List Shown)
+  pub stay_in_part : (events : List WorldEvent) (old new : WorldState C) (shows : List Shown)
       → RunsOutBy (mixed_kind calls) old events new shows → new.strangers ≡ old.strangers
   stay_in_part events old new shows h =
       one h.last h.mid h.goes.outcome new h.goes.gives ∙ all_stay h.done old h.mid h.front h.before
@@ -105,7 +71,7 @@ named_is hosts named h none = both_ways (is_host named h) (is_host (filter (λ g
 
 -- so after any replay a host is a stranger exactly where it is named
 pub strangers_stay : {C : Type 0} (calls : Calls C) (opening : C) (named : List Host) (events : List WorldEvent)
-    (last : MixedState C) (shows : List Shown) → absent_in (calls.seen opening).hosts named ≡ None
+    (last : WorldState C) (shows : List Shown) → absent_in (calls.seen opening).hosts named ≡ None
     → ReplaysBy (mixed_kind (shown calls)) (opening_mixed (shown calls) opening named) events last shows
     → (h : Host) → is_host named h ≡ strange_in last h
 strangers_stay calls opening named events last shows none replayed h =
@@ -114,7 +80,7 @@ strangers_stay calls opening named events last shows none replayed h =
     (sym (all_stay (shown calls) events (opening_mixed (shown calls) opening named) last shows replayed))
 
 -- whatever is named: these are the hosts of the network that are named
-pub picked_stay : {C : Type 0} (calls : Calls C) (opening : C) (named : List Host) (last : MixedState C)
+pub picked_stay : {C : Type 0} (calls : Calls C) (opening : C) (named : List Host) (last : WorldState C)
     → last.strangers ≡ (opening_mixed (shown calls) opening named).strangers
     → (h : Host) → strange_in last h ≡ (is_host named h && is_host (calls.seen opening).hosts h)
 picked_stay calls opening named last same h =

@@ -1,6 +1,6 @@
-use Rattle.world_replay.proofs.Common.{◌≡◌, [], ◌∷◌, List, Option, None, Some, Result, Ok, Err, ap₂, refl, subst, sym, Seen}
-use Rattle.world_replay.proofs.Common.{MatchBool, MixedState, WorldFault, WorldState, FetchEnds, OutEnds, Passes}
-use Rattle.world_replay.proofs.Common.{NoProgram, Carrier, Offer, Host, third, stops}
+use Rattle.world_replay.proofs.Common.{◌≡◌, [], ◌∷◌, Option, None, Some, Result, Ok, Err, refl, subst, sym, Seen}
+use Rattle.world_replay.proofs.Common.{MatchBool, WorldFault, WorldState, FetchEnds, OutEnds, Passes}
+use Rattle.world_replay.proofs.Common.{NoProgram, Carrier, Offer, third, stops}
 use Rattle.interface.specs.declared.carrier.CarrierFault.{CarrierFault}
 use Rattle.interface.specs.declared.carrier.CarrierFault.TheVariants as fault
 use Rattle.interface.specs.declared.crossing.Inbound.{Inbound}
@@ -11,7 +11,7 @@ use Rattle.world_replay.specs.WorkedMixed.{hail}
 use Rattle.world_replay.proofs.worked_beside.worked_answered.Goals as goal
 
 abbrev world : WorldState Seen
-world = beside_third.world
+world = beside_third
 
 -- only the carrier changes
 abbrev Stays : WorldState Seen → Type 0
@@ -37,37 +37,36 @@ passes f (Ok done) c r w is ends = absurd (cc)
 passes f (Err e) c r w is ends = subst (λ (x : Result (Unit {0}) CarrierFault). PassesBy x c r w) is ends
 
 -- after an event that is answered so, a list of events ends or continues
-after : (f : WorldFault) (answer r : Result (Unit {0}) WorldFault) (mid new : MixedState Seen) (Rest : Type 0)
+after : (f : WorldFault) (answer r : Result (Unit {0}) WorldFault) (mid new : WorldState Seen) (Rest : Type 0)
     → answer ≡ Err f → MatchBool (stops answer) ((r ≡ answer) × (new ≡ mid)) Rest
     → MatchBool (stops (Err f)) ((r ≡ Err f) × (new ≡ mid)) Rest
 after f answer r mid new Rest is h =
     subst (λ (q : Result (Unit {0}) WorldFault). MatchBool (stops q) ((r ≡ q) × (new ≡ mid)) Rest) is h
 
 -- the stranger is asked for nothing, whatever the carrier is by then, and nothing follows
-goes_on : (c : Seen) (mid : MixedState Seen) (r : Result (Unit {0}) WorldFault) (new : MixedState Seen)
-    → mid ≡ record { world = record world { carrier = c }; strangers = beside_third.strangers }
+goes_on : (c : Seen) (mid : WorldState Seen) (r : Result (Unit {0}) WorldFault) (new : WorldState Seen)
+    → mid ≡ record world { carrier = c }
     → MixedRuns closed_carrier mid (Offer third ∷ []) r new → r ≡ Ok tt
 goes_on c mid r new is h =
-    let runs : MixedRuns closed_carrier (record { world = record world { carrier = c }; strangers = beside_third.strangers }) (Offer third ∷ []) r new =
-    subst (λ (s : MixedState Seen). MixedRuns closed_carrier s (Offer third ∷ []) r new) is h in
+    let runs : MixedRuns closed_carrier (record world { carrier = c }) (Offer third ∷ []) r new =
+    subst (λ (s : WorldState Seen). MixedRuns closed_carrier s (Offer third ∷ []) r new) is h in
     let (answer, next, step, rest) = runs in
     (after NoProgram answer r next new (MixedRuns closed_carrier next [] r new) step.0 rest).0
 
 pub returns-clause-nothing : goal.returns-clause-nothing
-returns-clause-nothing g r new ((a, c, call, ends), same) = nothing a c r new.world call.0 ends
+returns-clause-nothing g r new (a, c, call, ends) = nothing a c r new call.0 ends
 
 pub returns-clause-blocked : goal.returns-clause-blocked
-returns-clause-blocked g r new ((a, c, call, ends), same) =
-    let p = passes fault.Blocked a c r new.world call.0 ends in (p.0, stays c new.world p.1)
+returns-clause-blocked g r new (a, c, call, ends) =
+    let p = passes fault.Blocked a c r new call.0 ends in (p.0, stays c new p.1)
 
 pub returns-clause-memory : goal.returns-clause-memory
-returns-clause-memory g r new (answer, mid, ((a, c, call, ends), same), rest) =
-    let p = passes fault.OutOfMemory a c answer mid.world call.0 ends in
+returns-clause-memory g r new (answer, mid, (a, c, call, ends), rest) =
+    let p = passes fault.OutOfMemory a c answer mid call.0 ends in
     (after (Carrier fault.OutOfMemory) answer r mid new (MixedRuns tired_carrier mid (Offer third ∷ []) r new) p.0 rest).0
 
 pub returns-clause-refused : goal.returns-clause-refused
-returns-clause-refused g r new (answer, mid, ((a, c, call, ends), same), rest) =
-    let p = passes fault.Blocked a c answer mid.world call.0 ends in
-    goes_on c mid r new
-    (ap₂ (λ (w : WorldState Seen) (hosts : List Host). record { world = w; strangers = hosts }) p.1 same)
+returns-clause-refused g r new (answer, mid, (a, c, call, ends), rest) =
+    let p = passes fault.Blocked a c answer mid call.0 ends in
+    goes_on c mid r new p.1
     (after (Carrier fault.Blocked) answer r mid new (MixedRuns closed_carrier mid (Offer third ∷ []) r new) p.0 rest)

@@ -1,5 +1,5 @@
-use Rattle.world_replay.proofs.Common.{◌≡◌, [], ◌∷◌, Err, ap, refl, NoProgram, HasProgram, any_carrier}
-use Rattle.world_replay.proofs.Common.{MixedState, Seen, WorldFault, WorldEvent, HappensBy, mixed_kind, first, second}
+use Rattle.world_replay.proofs.Common.{[], ◌∷◌, Err, refl, NoProgram, HasProgram, any_carrier}
+use Rattle.world_replay.proofs.Common.{WorldFault, WorldEvent, HappensBy, mixed_kind, first, second}
 use Rattle.world_replay.proofs.Common.{third, message, Offer, Server, Typed, User}
 use Rattle.interface.specs.declared.crossing.Crossing.TheVariants as crossing
 use Rattle.net_sim.specs.WorkedMixed.{beside_third}
@@ -22,7 +22,7 @@ asked = record {
 spoken : HappensBy (mixed_kind any_carrier) beside_third (saying (message first second 2)) beside_third (Refused HasProgram ∷ [])
 spoken = record {
   outcome = Err HasProgram;
-  gives = ((refl, refl), refl);
+  gives = (refl, refl);
   goes_on = refl;
   gains = record { crossings = []; notices = []; reports = []; crossed = refl; told = refl; said = refl };
   lines = refl;
@@ -52,12 +52,12 @@ returns-clause-after_saying c = then_hails (saying (message first second 2)) Has
 
 pub returns-clause-typed : goal.returns-clause-typed
 returns-clause-typed c = λ new shown h. refused_only any_carrier (event (Typed third [])) NoProgram new shown h
-    (h.gives.0, ap (λ (s : MixedState Seen). s.world) h.gives.1)
+    h.gives
 
 pub returns-clause-server : goal.returns-clause-server
 returns-clause-server c = λ new shown h. refused_only any_carrier (event (Server third 1 32)) NoProgram new shown h
-    (h.gives.0, ap (λ (s : MixedState Seen). s.world) h.gives.1)
+    h.gives
 
 pub returns-clause-user : goal.returns-clause-user
 returns-clause-user c = λ new shown h. refused_only any_carrier (event (User third first 1 32)) NoProgram new shown h
-    (h.gives.0, ap (λ (s : MixedState Seen). s.world) h.gives.1)
+    h.gives

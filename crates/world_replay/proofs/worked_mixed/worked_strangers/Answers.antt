@@ -1,5 +1,5 @@
 use Rattle.interface.specs.declared.carrier.CarrierFault.TheVariants as fault
-use Rattle.world_replay.proofs.Common.{ap, MixedState, Out, HasProgram, NoProgram, Seen, any_carrier, message, Ask, Offer, Carrier, first, second, third}
+use Rattle.world_replay.proofs.Common.{Out, HasProgram, NoProgram, any_carrier, message, Ask, Offer, Carrier, first, second, third}
 use Rattle.net_sim.specs.WorkedMixed.{fourth}
 use Rattle.sockets.specs.declared.request.Request.TheVariants as request
 use Rattle.world_script.specs.declared.event.WorldEvent.TheVariants.{Happen}
@@ -16,16 +16,16 @@ pub returns-clause-takes : goal.returns-clause-takes
 returns-clause-takes c = takes_only
 
 pub returns-clause-offered : goal.returns-clause-offered
-returns-clause-offered c = λ new shown h. refused_only any_carrier (Happen (Offer third)) NoProgram new shown h (h.gives.0, ap (λ (s : MixedState Seen). s.world) h.gives.1)
+returns-clause-offered c = λ new shown h. refused_only any_carrier (Happen (Offer third)) NoProgram new shown h h.gives
 
 pub returns-clause-asked : goal.returns-clause-asked
-returns-clause-asked c = λ new shown h. refused_only any_carrier (Happen (Ask third (request.Echo second 65))) NoProgram new shown h (h.gives.0, ap (λ (s : MixedState Seen). s.world) h.gives.1)
+returns-clause-asked c = λ new shown h. refused_only any_carrier (Happen (Ask third (request.Echo second 65))) NoProgram new shown h h.gives
 
 pub returns-clause-program : goal.returns-clause-program
-returns-clause-program c = λ new shown h. refused_only any_carrier (Happen (Out (message first second 2))) HasProgram new shown h h.gives.0
+returns-clause-program c = λ new shown h. refused_only any_carrier (Happen (Out (message first second 2))) HasProgram new shown h h.gives
 
 pub returns-clause-nobody : goal.returns-clause-nobody
-returns-clause-nobody c = λ new shown h. refused_only any_carrier (Happen (Out (message fourth second 2))) (Carrier fault.NoSuch) new shown h h.gives.0
+returns-clause-nobody c = λ new shown h. refused_only any_carrier (Happen (Out (message fourth second 2))) (Carrier fault.NoSuch) new shown h h.gives
 
 pub returns-clause-waits : goal.returns-clause-waits
 returns-clause-waits c = waits

@@ -1,6 +1,6 @@
 use Rattle.world_trace.proofs.Common.{◌≡◌, ◌∙◌, List, ℕ, subst, sym, Calls, AreOthers, at_host, seat_place}
 use Rattle.world_trace.proofs.Common.{service_place, seat_member, services_member}
-use Rattle.net_sim.specs.MixedWorlds.{MixedState}
+use Rattle.net_sim.specs.World.{WorldState}
 use Rattle.world_trace.specs.MixedSteps.{mixed_reach}
 use Rattle.world_trace.specs.declared.mixed.Reach.TheVariants as reach
 use Rattle.world_trace.proofs.Strangers.{mixed_others}
@@ -10,10 +10,10 @@ use Rattle.world_trace.proofs.mixed.pass.Goals as goal
 pub change_one-requires-clause-programs : goal.change_one-requires-clause-programs
 change_one-requires-clause-programs g c =
     let own : Calls g.row.C.Denot = g.C.Carrier.calls in
-    let new : MixedState g.row.C.Denot = c.happen.new.world in
+    let new : WorldState g.row.C.Denot = c.happen.new.world in
     let (lines, happens, says) = c.in_ok-printed.ensures.shown in
     let at : mixed_reach c.args.event ≡ reach.At c.in-At.host = sym c.reach_of-reach.ensures ∙ c.in-At.is in
-    subst (λ (texts : List (List ℕ)). AreOthers (at_host seat_place c.in-At.host) seat_member texts new.world.seats)
+    subst (λ (texts : List (List ℕ)). AreOthers (at_host seat_place c.in-At.host) seat_member texts new.seats)
     (sym c.requires.known.programs)
     (mixed_others own c.args.event c.in-At.host c.args.world.now happens.outcome new at happens.goes_on
     happens.gives).programs
@@ -21,11 +21,11 @@ change_one-requires-clause-programs g c =
 pub change_one-requires-clause-services : goal.change_one-requires-clause-services
 change_one-requires-clause-services g c =
     let own : Calls g.row.C.Denot = g.C.Carrier.calls in
-    let new : MixedState g.row.C.Denot = c.happen.new.world in
+    let new : WorldState g.row.C.Denot = c.happen.new.world in
     let (lines, happens, says) = c.in_ok-printed.ensures.shown in
     let at : mixed_reach c.args.event ≡ reach.At c.in-At.host = sym c.reach_of-reach.ensures ∙ c.in-At.is in
     subst
-    (λ (texts : List (List ℕ)). AreOthers (at_host service_place c.in-At.host) services_member texts new.world.services)
+    (λ (texts : List (List ℕ)). AreOthers (at_host service_place c.in-At.host) services_member texts new.services)
     (sym c.requires.known.services)
     (mixed_others own c.args.event c.in-At.host c.args.world.now happens.outcome new at happens.goes_on
     happens.gives).services

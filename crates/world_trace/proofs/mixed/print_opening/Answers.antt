@@ -7,7 +7,7 @@ use Rattle.world_trace.proofs.mixed.print_opening.Goals as goal
 
 pub returns-clause-written : goal.returns-clause-written
 returns-clause-written g c =
-    let w = c.args.world.now.world in
+    let w = c.args.world.now in
     let t = c.args.network.now in
     on_ok c.print_state.result
     (λ end. foreign_printed (carrier_word t.carrier) (bool_text t.raw) (array (map site_text t.imps))

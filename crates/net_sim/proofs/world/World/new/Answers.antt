@@ -1,4 +1,4 @@
-use Rattle.net_sim.proofs.Common.{◌≡◌, List, ap, subst, ◌∙◌, sym, Calls, InOrder, Host, IsAddress, IsOnce}
+use Rattle.net_sim.proofs.Common.{rules, ◌≡◌, List, [], ap, subst, ◌∙◌, sym, Calls, InOrder, Host, IsAddress, IsOnce}
 use Rattle.std.specs.List.{All}
 use Rattle.net_sim.specs.Inside.Parts.{opening_hosts}
 use Rattle.net_sim.proofs.Books.Held.{once_in_order}
@@ -15,4 +15,5 @@ of_parts-requires g c =
     let addresses : All (λ (h : Host). IsAddress h) (g.C.Carrier.calls.seen c.args.carrier).hosts = subst (All (λ (h : Host). IsAddress h)) c.hosts-2.ensures.value c.are_addresses.ensures in
     let hosts : c.in_ok-hosts.hosts ≡ opening_hosts (g.C.Carrier.calls.seen c.args.carrier).hosts =
     c.in_ok-hosts.ensures ∙ ap (λ (hs : List Host). opening_hosts hs) c.hosts.ensures.value in
-    rw hosts (opening_held calls c.args.carrier c.requires.unused order addresses)
+    let none : c.new-2.result.items ≡ [] = search rules in
+    rw (hosts, none) (opening_held calls c.args.carrier c.requires.unused order addresses)

@@ -7,13 +7,13 @@ pub returns-then-stops : goal.returns-then-stops
 returns-then-stops g c =
     let calls : Calls g.row.C.Denot = shown g.C.Carrier.calls in
     let is : stops c.step-passed.result ≡ true = sym c.stops.ensures ∙ c.if-stops.true in
-    stop_round calls c.args.self.now c.step-passed.new.self c.step-passed.result c.step-passed.ensures.gives is
+    stop_round calls c.args.self.now c.step-passed.new.self c.step-passed.result c.step-passed.ensures is
 
 pub loop-at-init : goal.loop-at-init
 loop-at-init g c =
     let calls : Calls g.row.C.Denot = shown g.C.Carrier.calls in
     let on : stops c.step-passed.result ≡ false = sym c.stops.ensures ∙ c.if-stops.false in
-    none_turned calls c.step-passed.new.self (c.seats-seats.ensures.once (rest_runs calls c.args.self.now c.step-passed.result c.step-passed.new.self on c.step-passed.ensures.gives))
+    none_turned calls c.step-passed.new.self (c.seats-seats.ensures.once (rest_runs calls c.args.self.now c.step-passed.result c.step-passed.new.self on c.step-passed.ensures))
 
 pub returns-then-stops-2 : goal.returns-then-stops-2
 returns-then-stops-2 g c =
@@ -25,7 +25,7 @@ returns-then-stops-2 g c =
     let still : length c.loop-at.self.seats ≡ length c.step-passed.new.self.seats = as_many calls c.step-passed.new.self c.loop-at.self c.loop-at.at c.loop-at.invariant in
     let lt : c.loop-at.at < length c.loop-at.self.seats = omega (arith, first, still, c.loop-at-test.true) in
     let found : Found calls c.loop-at.self.seats c.loop-at.at (Some c.in-Some.host) = subst (λ (xs : List Seat). Found calls xs c.loop-at.at (Some c.in-Some.host)) c.seats.ensures.value c.in-Some.ensures in
-    whole_round calls c.args.self.now c.step-passed.new.self c.take_turn-answer.new.self c.step-passed.result c.take_turn-answer.result c.step-passed.ensures.gives on
+    whole_round calls c.args.self.now c.step-passed.new.self c.take_turn-answer.new.self c.step-passed.result c.take_turn-answer.result c.step-passed.ensures on
     (stop_turned calls c.step-passed.new.self c.loop-at.self c.take_turn-answer.new.self c.loop-at.at c.in-Some.host c.take_turn-answer.result lt c.loop-at.invariant found c.take_turn-answer.ensures is)
 
 pub loop-at-preserved : goal.loop-at-preserved
@@ -51,4 +51,4 @@ returns g c =
     let on : stops c.step-passed.result ≡ false = sym c.stops.ensures ∙ c.if-stops.false in
     let first : length c.seats-seats.result.now ≡ length c.step-passed.new.self.seats = ap (λ (xs : List Seat). length xs) c.seats-seats.ensures.value in
     let le : length c.step-passed.new.self.seats ≤ c.loop-at.at = omega (arith, first, c.loop-at-test.false) in
-    whole_round calls c.args.self.now c.step-passed.new.self c.loop-at.self c.step-passed.result (Ok tt) c.step-passed.ensures.gives on (all_turned calls c.step-passed.new.self c.loop-at.self c.loop-at.at le c.loop-at.invariant)
+    whole_round calls c.args.self.now c.step-passed.new.self c.loop-at.self c.step-passed.result (Ok tt) c.step-passed.ensures on (all_turned calls c.step-passed.new.self c.loop-at.self c.loop-at.at le c.loop-at.invariant)

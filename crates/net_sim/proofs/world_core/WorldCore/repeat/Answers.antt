@@ -6,20 +6,20 @@ pub returns-then-stops : goal.returns-then-stops
 returns-then-stops g c =
     let calls : Calls g.row.C.Denot = shown g.C.Carrier.calls in
     stop_repeated calls c.args.event.now c.args.times c.loop.counter c.args.self.now c.loop.self c.step_near-answer.new.self c.step_near-answer.result
-    c.loop-test.true c.loop.invariant c.step_near-answer.ensures.gives (sym c.stops.ensures ∙ c.if-stops.true)
+    c.loop-test.true c.loop.invariant c.step_near-answer.ensures (sym c.stops.ensures ∙ c.if-stops.true)
 
 pub returns-then-crossed-before : goal.returns-then-crossed-before
 returns-then-crossed-before g c =
     let calls : Calls g.row.C.Denot = shown g.C.Carrier.calls in
     none_counted calls c.args.event.now c.args.times c.loop.counter c.args.self.now c.loop.self c.step_near-answer.new.self c.step_near-answer.result
-    c.loop-test.true c.loop.invariant c.step_near-answer.ensures.gives (sym c.stops.ensures ∙ c.if-stops.false) _ _
+    c.loop-test.true c.loop.invariant c.step_near-answer.ensures (sym c.stops.ensures ∙ c.if-stops.false) _ _
     c.crossed-before.ensures c.crossed.ensures (omega (arith, c.if-crossed-before.true))
 
 pub loop-preserved : goal.loop-preserved
 loop-preserved g c =
     let calls : Calls g.row.C.Denot = shown g.C.Carrier.calls in
     one_counted calls c.args.event.now c.args.times c.loop.counter c.args.self.now c.loop.self c.step_near-answer.new.self c.step_near-answer.result
-    c.loop-test.true c.loop.invariant c.step_near-answer.ensures.gives (sym c.stops.ensures ∙ c.if-stops.false) _ _
+    c.loop-test.true c.loop.invariant c.step_near-answer.ensures (sym c.stops.ensures ∙ c.if-stops.false) _ _
     c.crossed-before.ensures c.crossed.ensures (omega (arith, c.if-crossed-before.false))
 
 pub returns : goal.returns

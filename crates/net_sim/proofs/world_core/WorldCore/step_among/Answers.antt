@@ -16,6 +16,7 @@ invariant_of-self g c =
     let new : WorldState g.row.C.Denot = among old.strangers (world_ended c.follow_mixed-done.new.carrier c.follow_mixed-done.new.hosts.seats c.follow_mixed-done.new.hosts.services c.follow_mixed-done.new.hosts.book c.follow_mixed-done.result) in
     let held : IsHeldAmong g.C.Carrier.calls.seen c.args.self.now = search rules in
     let stop : c.runs_out-self-inside.result ≡ runs_out c.follow_mixed-done.result = search rules in
+    let strangers : c.self.inside.strangers.items ≡ c.args.self.now.strangers = search rules in
     let gives : AmongGives (shown calls) (among old.strangers (running old.carrier old.seats old.services old.kept)) c.args.event c.follow_mixed-done.result new = search rules in
-    rw stop (mixed_held calls old new c.follow_mixed-done.result held c.log.ensures.run c.args.event c.is_named.ensures
+    rw (stop, strangers) (mixed_held calls old new c.follow_mixed-done.result held c.log.ensures.run c.args.event c.is_named.ensures
     (mixed_steps (shown calls) c.args.event old c.follow_mixed-done.result new (search rules) gives))

@@ -15,8 +15,9 @@ invariant_of-self g c =
     let new : WorldState g.row.C.Denot = world_ended c.follow_near-done.new.carrier c.follow_near-done.new.hosts.seats c.follow_near-done.new.hosts.services c.follow_near-done.new.hosts.book c.follow_near-done.result in
     let held : IsHeldAmong g.C.Carrier.calls.seen c.args.self.now = search rules in
     let stop : c.runs_out-self-inside.result ≡ runs_out c.follow_near-done.result = search rules in
+    let strangers : c.self.inside.strangers.items ≡ c.args.self.now.strangers = search rules in
     let gives : EventGives (shown calls) (running old.carrier old.seats old.services old.kept) c.args.event.now c.follow_near-done.result new = search rules in
-    rw stop (step_held calls old (among old.strangers new) c.follow_near-done.result held c.log.ensures.run c.args.event.now c.is_named.ensures
+    rw (stop, strangers) (step_held calls old (among old.strangers new) c.follow_near-done.result held c.log.ensures.run c.args.event.now c.is_named.ensures
     (event_steps (shown calls) c.args.event.now old c.follow_near-done.result new (search rules) gives))
 
 pub returns : goal.returns
@@ -25,5 +26,6 @@ returns g c =
     let old : WorldState g.row.C.Denot = c.args.self.now in
     let new : WorldState g.row.C.Denot = world_ended c.follow_near-done.new.carrier c.follow_near-done.new.hosts.seats c.follow_near-done.new.hosts.services c.follow_near-done.new.hosts.book c.follow_near-done.result in
     let stop : c.runs_out-self-inside.result ≡ runs_out c.follow_near-done.result = search rules in
+    let strangers : c.self.inside.strangers.items ≡ c.args.self.now.strangers = search rules in
     let gives : EventGives (shown calls) (running old.carrier old.seats old.services old.kept) c.args.event.now c.follow_near-done.result new = search rules in
-    rw stop (event_steps (shown calls) c.args.event.now old c.follow_near-done.result new (search rules) gives)
+    rw (stop, strangers) (event_steps (shown calls) c.args.event.now old c.follow_near-done.result new (search rules) gives)
