@@ -171,7 +171,7 @@ class Subnet(Carrier):
         del way[place]
 
     def garble(self, line: int, direction: str, place: int) -> None:
-        """A live frame arrives with a wrong checksum. Its receiver looks at nothing else in it, so nothing is acknowledged."""
+        """A live frame arrives with a wrong checksum: nothing in it is looked at, or acknowledged."""
         self.drop(line, direction, place)
 
     def resend(self, number: int) -> None:
