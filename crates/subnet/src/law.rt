@@ -213,8 +213,10 @@ pub fn sound_steps()
 
 /// A frame that arrives garbled is lost, as one that is dropped: the same is refused, and the same subnet is left.
 pub fn garbled()
-    ensures refusal { (n : Net) (l : ℕ) (d : Direction) (k : ℕ) → step_refusal n (event.Garble l d k) ≡ step_refusal n (event.Drop l d k) }
-    ensures lost { (n : Net) (l : ℕ) (d : Direction) (k : ℕ) → stepped n (event.Garble l d k) ≡ stepped n (event.Drop l d k) }
+    ensures refusal { (n : Net) (l : ℕ) (d : Direction) (k : ℕ)
+        → step_refusal n (event.Garble l d k) ≡ step_refusal n (event.Drop l d k) }
+    ensures lost { (n : Net) (l : ℕ) (d : Direction) (k : ℕ)
+        → stepped n (event.Garble l d k) ≡ stepped n (event.Drop l d k) }
 {}
 
 /// When a quiet round may run out of memory.
