@@ -36,7 +36,6 @@ pub use Rattle.net_sim.specs.Audit.{Says}
 pub use Rattle.net_sim.specs.Carriers.{shown}
 pub use Rattle.net_sim.specs.World.{WorldState, opening_world}
 pub use Rattle.net_sim.specs.declared.auditing.findings.Finding.{Finding}
-pub use Rattle.net_sim.specs.declared.event.Event.{Event}
 pub use Rattle.promise.specs.Fates.{AreFated, ClosesWhole}
 pub use Rattle.promise.specs.Safe.{AreTwo}
 pub use Rattle.promise.specs.declared.book.Told.{Told}

@@ -8,11 +8,11 @@ pub use Rattle.host_pairs.specs.Allowed.{commands_of}
 pub use Rattle.host_pairs.specs.Commands.{Ending, Open, Unconnected, asked_on_link, asked_with_size, at_end, changed, closed_once, cls_taken_by, entry_joined, gvb_taken, interrupted, matched_once, receiver_on, ret_taken, rts_heard, rts_taken, rts_taken_by, sender_on, str_heard, str_linked, str_taken_by}
 pub use Rattle.host_pairs.specs.Control.{ERRONEOUS, Legal, Order, Wrong, error, orders_of}
 pub use Rattle.host_pairs.specs.Data.{arrived_if, data_found, data_taken, is_acceptable}
-pub use Rattle.host_pairs.specs.Desk.{DeskState, command_queued, desk_of, listener_on, settled, swept}
-pub use Rattle.host_pairs.specs.Entries.{changed_at, changed_first, close_due, closed_by_partner, closed_when, cls_of, ending, entry_at, free_link, is_at, is_busy, is_due, is_ending, is_over, must_close, opening_by, opening_notices, receiving_end, sending_end, sends_on}
+pub use Rattle.host_pairs.specs.Desk.{DeskState, command_queued, desk_of, settled, swept}
+pub use Rattle.host_pairs.specs.Entries.{changed_at, changed_first, close_due, closed_by_partner, closed_when, ending, entry_at, is_at, is_busy, is_due, is_ending, is_over, must_close, opening_by, opening_notices, sends_on}
 pub use Rattle.host_pairs.specs.Pair.{PairState}
 pub use Rattle.host_pairs.specs.Parcels.{Parcel, cls_sent, command_gone, commands_gone, link_of, pair_after, parcel_gone, request_gone}
-pub use Rattle.host_pairs.specs.Turn.{TurnState, answered_turn, failed, failed_by, freed, if_ready, is_gone, message_taken, order_taken, orders_taken, reply_notices, reset_notices, settled_turn, with_desk}
+pub use Rattle.host_pairs.specs.Turn.{TurnState, answered_turn, failed, failed_by, if_ready, is_gone, message_taken, order_taken, orders_taken, reply_notices, reset_notices, settled_turn, with_desk}
 pub use Rattle.host_pairs.specs.declared.entry.Closing.{Closing}
 pub use Rattle.host_pairs.specs.declared.entry.Entry.{Entry}
 pub use Rattle.host_pairs.specs.declared.listener.Listener.{Listener}
@@ -22,7 +22,6 @@ pub use Rattle.interface.specs.Host.{Host, same_host}
 pub use Rattle.interface.specs.declared.address.Flow.{Flow}
 pub use Rattle.interface.specs.declared.crossing.Answer.{Answer}
 pub use Rattle.interface.specs.declared.message.HostMessage.{HostMessage}
-pub use Rattle.ncp_control.specs.DataHeader.{header_of}
 pub use Rattle.ncp_control.specs.Phases.{is_ready}
 pub use Rattle.ncp_control.specs.declared.command.Command.{Command}
 pub use Rattle.ncp_control.specs.declared.data_header.DataHeader.{DataHeader}

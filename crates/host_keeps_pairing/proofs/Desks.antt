@@ -1,7 +1,7 @@
 -- What is done to the connections of a pair, at one pair of sockets: ends that are joined, changed, settled and swept, and
 -- commands that are queued.
-use Rattle.host_keeps_pairing.proofs.Common.{◌≡◌, ℕ, Bool, true, false, not, ◌==◌, if◌then◌else◌, List, [], ◌∷◌, ◌++◌, map, filter, Some, None, refl, ap, sym, subst, ◌∙◌, eqb-true, append-nil, Command, End, nothing, Mark, Close, changed, entry_joined, changed_at, cls_of, closed_when, entry_at, is_at, is_due, is_over, must_close, DeskState, command_queued, settled, swept, Entry, mark_of, marks, Standing, standing, at, end_of, due, IsSound, Stand}
-use Rattle.host_pairs.specs.Entries.{is_drained}
+use Rattle.host_keeps_pairing.proofs.Common.{◌≡◌, ℕ, Bool, true, false, not, ◌==◌, if◌then◌else◌, List, [], ◌∷◌, ◌++◌, map, filter, Some, None, refl, ap, sym, subst, ◌∙◌, eqb-true, append-nil, Command, End, nothing, Mark, Close, changed, entry_joined, changed_at, closed_when, entry_at, is_at, is_due, is_over, must_close, DeskState, command_queued, settled, swept, Entry, mark_of, marks, Standing, standing, at, end_of, due, IsSound, Stand}
+use Rattle.host_pairs.specs.Entries.{is_drained, cls_of}
 use Rattle.host_pairs.proofs.lemmas.{both}
 use Rattle.host_keeps_pairing.proofs.Lists.{IsQuiet, Is, Found, are, at_append, at_changed, at_one, at_quiet, first, found_at, marks_append, marks_more, marks_quiet, none_at}
 use Rattle.host_keeps_pairing.proofs.Stands.{stand_live, stand_past, stand_queued}

@@ -1,10 +1,10 @@
 -- What a user asks for, at one pair of sockets.
-use Rattle.host_keeps_pairing.proofs.Common.{◌≡◌, ◌⊎◌, inl, inr, ℕ, Bool, true, false, not, ◌&&◌, if◌then◌else◌, cond, List, [], ◌∷◌, Option, Some, None, is_some, refl, sym, subst, Host, same_host, same_host-true, Command, End, nothing, Mark, changed_first, close_due, entry_at, free_link, is_at, sending_end, PairState, NcpState, pair_with, with_pair, desk_of, is_ready, link_of, Closing, Entry, Peer, Request, pair_changed, mark_of, marks, Standing, at, HasEnd, Stand, after_request}
+use Rattle.host_keeps_pairing.proofs.Common.{◌≡◌, ◌⊎◌, inl, inr, ℕ, Bool, true, false, not, ◌&&◌, if◌then◌else◌, cond, List, [], ◌∷◌, Option, Some, None, is_some, refl, sym, subst, Host, same_host, same_host-true, Command, End, nothing, Mark, changed_first, close_due, entry_at, is_at, PairState, NcpState, pair_with, with_pair, desk_of, is_ready, link_of, Closing, Entry, Peer, Request, pair_changed, mark_of, marks, Standing, at, HasEnd, Stand, after_request}
 use Rattle.interface.proofs.lemmas.{or_false}
 use Rattle.ncp_control.specs.Numbers.{is_receive_socket, is_send_socket}
 use Rattle.ncp_control.specs.declared.command.Command.TheVariants as command
 use Rattle.host_pairs.specs.Commands.{granted}
-use Rattle.host_pairs.specs.Entries.{called_off, is_receiving}
+use Rattle.host_pairs.specs.Entries.{called_off, is_receiving, free_link, sending_end}
 use Rattle.host_pairs.specs.Desk.{listens_on}
 use Rattle.sockets.specs.Requests.{at_owner, closed_socket, is_taken, is_used, open_receive_refusal, open_send_refusal, refusal, served}
 use Rattle.host_pairs.specs.Asked.{closed_end, commanded, contacted, interrupt_of, receiver_requested, requested, with_end, with_more_bits}

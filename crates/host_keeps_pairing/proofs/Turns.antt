@@ -1,9 +1,9 @@
 -- What comes in, at one pair of sockets: the orders of a message, an RST, an RRP, data, and answers.
-use Rattle.host_keeps_pairing.proofs.Common.{◌≡◌, ℕ, Bool, true, false, not, ◌||◌, ◌==◌, if◌then◌else◌, List, [], ◌∷◌, ◌++◌, refl, ap, sym, subst, ◌∙◌, Host, Answer, Command, End, nothing, mark_taken, Mark, TurnState, if_ready, with_desk, order_taken, orders_taken, freed, settled_turn, failed_by, failed, is_gone, answered_turn, Order, Legal, Wrong, error, data_taken, PairState, DeskState, desk_of, command_queued, is_ready, Phase, AllFit, mark_in, marks_in, HasEnd, kept_in, AreFree, AreJoint}
+use Rattle.host_keeps_pairing.proofs.Common.{◌≡◌, ℕ, Bool, true, false, not, ◌||◌, ◌==◌, if◌then◌else◌, List, [], ◌∷◌, ◌++◌, refl, ap, sym, subst, ◌∙◌, Host, Answer, Command, End, nothing, mark_taken, Mark, TurnState, if_ready, with_desk, order_taken, orders_taken, settled_turn, failed_by, failed, is_gone, answered_turn, Order, Legal, Wrong, error, data_taken, PairState, DeskState, desk_of, command_queued, is_ready, Phase, AllFit, mark_in, marks_in, HasEnd, kept_in, AreFree, AreJoint}
 use Rattle.interface.specs.declared.crossing.Answer.TheVariants as answer
 use Rattle.ncp_control.specs.Command.{is_alone}
 use Rattle.ncp_control.specs.declared.command.Command.TheVariants as command
-use Rattle.host_pairs.specs.Turn.{reset_taken, reply_taken, command_taken}
+use Rattle.host_pairs.specs.Turn.{reset_taken, reply_taken, command_taken, freed}
 use Rattle.host_pairs.specs.Commands as commands
 use Rattle.ncp_control.specs.Phases.{reply_phase, taken_phase}
 use Rattle.ncp_control.specs.declared.phase.Phase.TheVariants as phase

@@ -60,7 +60,7 @@ pub use Rattle.net_sim.specs.SmallLogs.{given_log, moved, taken_log}
 pub use Rattle.net_sim.specs.Story.{Asked, Crossed, IsStory, Moment, events_of, places, program}
 pub use Rattle.net_sim.specs.Timeline.{Happens, IsAddressed, IsTimeline, contacts_of, crossings_of, events_in, seen_box}
 pub use Rattle.net_sim.specs.Told.{host_in, kept_by, kept_in, notices_by, without_reports}
-pub use Rattle.net_sim.specs.Whole.{AreServed, Each, IsNamed, IsWhole, seat_in}
+pub use Rattle.net_sim.specs.Whole.{AreServed, Each, IsNamed, seat_in}
 pub use Rattle.net_sim.specs.Worked.{asker, crossings, eight, eight_zeros, elsewhere, four, giver, message, over, receiver, sender, stranger, taker}
 pub use Rattle.net_sim.specs.WorkedMoments.{eight_sent, rts, str}
 pub use Rattle.net_sim.specs.World.{Ask, AskGives, AtProgram, AtSeat, CalmGives, Calms, Carrier, Does, DoesOrHalts, EventGives, Halts, Net, NetEnds, Offer, OfferEnds, OfferGives, Program, Quiet, QuietEnds, Refuses, Repeats, RunGives, Runs, Seat, Server, ServiceSeat, StepGives, TakeEnds, TakeGives, TurnsOf, TypeGives, Typed, User, WorldFault, WorldState, all_emptied, all_turned, noticed, opening_seats, opening_services, opening_world, seat_of, seated, seats_turned, served_at, serviced, services_in, services_of, stops, tended, up_in, wants_memory, with_carrier, with_program, with_server, with_services, with_user, world_heard, world_moved}

@@ -46,7 +46,7 @@ pub use Rattle.world_replay.specs.Driven.{Brings, Drive, Drives, Goes, IsCall, I
 pub use Rattle.world_replay.specs.Gains.{Gains, gained}
 pub use Rattle.world_replay.specs.Kinds.{HappensBy, StopsBy, mixed_kind}
 pub use Rattle.world_replay.specs.Output.{Noticed, Writes, notices_of, output, reports_of, shown_in_turn, shown_notices, shown_refusal, shown_text, told_in_turn}
-pub use Rattle.world_replay.specs.Replay.{HappensInCalm, IsOfCalm, Replays, world_kind}
+pub use Rattle.world_replay.specs.Replay.{HappensInCalm, IsOfCalm, Replays}
 pub use Rattle.world_replay.specs.Rounds.{Again, EndsAgain, EndsRepeated, Repeated, RoundOf, crosses, turns_in}
 pub use Rattle.world_replay.specs.Steps.{EventEnds, Fronts, IsReplayable}
 pub use Rattle.world_replay.specs.Worked.{after, booked, tally}

@@ -1,6 +1,7 @@
 -- After any replay among strangers, the lives of a world's book are those that its crossings and notices make.
 use Rattle.command_line.proofs.Common.{ℕ, List, [], ◌∷◌, None, Some, Option, Result, sym, subst, inl, inr, Calls}
-use Rattle.command_line.proofs.Common.{Crossing, Host, WorldState, Event, WorldEvent}
+use Rattle.command_line.proofs.Common.{Crossing, Host, WorldState, WorldEvent}
+use Rattle.net_sim.specs.declared.event.Event.{Event}
 use Rattle.std.proofs.Common.{Ok, Err, length}
 use Rattle.interface.specs.Calls.{crossing_of, step_crossings}
 use Rattle.interface.specs.declared.carrier.CarrierFault.{CarrierFault}

@@ -1,5 +1,6 @@
 -- Worlds without strangers: what is kept of them describes a timeline of all hosts, after every event.
-use Rattle.net_sim.proofs.Common.{◌≡◌, ℕ, Bool, true, false, List, [], ◌∷◌, map, refl, ap, sym, subst, ◌∙◌, Calls, Host, shown, Moment, IsTimeline, host_in, AreServed, Each, IsNamed, IsWhole, seat_in, WorldState, WorldFault, opening_seats, opening_services, opening_world, StepGives, RunGives, CalmGives, Seen}
+use Rattle.net_sim.proofs.Common.{◌≡◌, ℕ, Bool, true, false, List, [], ◌∷◌, map, refl, ap, sym, subst, ◌∙◌, Calls, Host, shown, Moment, IsTimeline, host_in, AreServed, Each, IsNamed, seat_in, WorldState, WorldFault, opening_seats, opening_services, opening_world, StepGives, RunGives, CalmGives, Seen}
+use Rattle.net_sim.specs.Whole.{IsWhole}
 use Rattle.std.proofs.Common.{Result}
 use Rattle.net_sim.specs.Mixed.{AreMixed}
 use Rattle.net_sim.specs.MixedWorlds.{IsLawfulAmong, IsWholeAmong, opening_among, with_programs}
