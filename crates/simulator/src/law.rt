@@ -16,8 +16,6 @@ ghost use Rattle.command_line.specs.declared.options.Task.TheVariants as task;
 ghost use Rattle.simulator.specs.declared.program.Done.TheVariants as did;
 ghost use Rattle.simulator.specs.declared.program.ProgramFault.TheVariants as fault;
 ghost use Rattle.command_line.specs.declared.verdict.Verdict.{Verdict};
-ghost use Rattle.world_keeps_lives.specs.WorkedFormed.{gave, sent_log, took};
-ghost use Rattle.world_keeps_streams.specs.Granted.{EachIsWithin};
 
 use command_line::law::{first_part, one_log, one_output};
 
@@ -126,11 +124,4 @@ pub fn worked_statuses()
     ensures unread { exit_status (Err (fault.Audit unlogged.CannotRead)) ≡ 1 }
     ensures memory { exit_status (Err (fault.Audit unlogged.OutOfMemory)) ≡ 3 }
     ensures unwritten { exit_status (Err (fault.Audit unlogged.CannotWrite)) ≡ 3 }
-{}
-
-/// What a life sent is within what the ALLs grant that its host took.
-pub fn worked_granted()
-    // an ALL of two messages: three are too many, and of the receiving life nothing is asked
-    ensures sent { EachIsWithin sent_log (record gave { messages = 3 } ∷ []) → ⊥ }
-    ensures taken { EachIsWithin sent_log (took ∷ []) }
 {}

@@ -1,9 +1,10 @@
-//! Worked examples of which message of its partner each one is that a receiving life counts. The functions here do
-//! nothing: each clause is a row, computed over the definitions.
+//! Worked examples of which message of its partner each one is that a receiving life counts, and of what a sending life was
+//! granted. The functions here do nothing: each clause is a row, computed over the definitions.
 
 ghost use Rattle.std.specs.Prelude.{[], ◌∷◌};
 ghost use Rattle.net_sim.specs.WorkedMoments.{eight_sent};
 ghost use Rattle.world_keeps_lives.specs.WorkedFormed.{gave, sent_log, stray, stray_log, took, two_log, zeros_sent};
+ghost use Rattle.world_keeps_streams.specs.Granted.{EachIsWithin};
 ghost use Rattle.world_keeps_streams.specs.Sent.{EachWasSent, WasSent};
 ghost use Rattle.world_keeps_streams.specs.WorkedSent.{again_log, early_log, gap_log, gave_early, gave_twice, took_early, took_twice, unsent_log};
 
@@ -27,4 +28,14 @@ pub fn worked_sent()
 
     // what a receiving life counts, and nobody sent
     ensures unsent { EachWasSent unsent_log (took ∷ []) → ⊥ }
+{}
+
+/// What a life sent is within what the ALLs grant that its host took.
+pub fn worked_granted()
+    // an ALL of two messages: three are too many
+    ensures sent { EachIsWithin sent_log (record gave { messages = 3 } ∷ []) → ⊥ }
+
+    // nothing is asked of the receiving life, nor of a link that no request of the life names
+    ensures taken { EachIsWithin sent_log (took ∷ []) }
+    ensures link { EachIsWithin sent_log (record gave { messages = 3; partner_stamp = 6 } ∷ []) }
 {}
