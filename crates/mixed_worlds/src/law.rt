@@ -5,7 +5,7 @@ ghost use Rattle.host_pairs.specs.declared.notice.Notice.TheVariants as notice;
 ghost use Rattle.promise.specs.Ends.{AreContacts, Dropped, Over, crosses};
 ghost use Rattle.promise.specs.Safe.{IsGranted};
 ghost use Rattle.sockets.specs.Sending.{next_out};
-ghost use Rattle.sockets.specs.Worked.{STR, control, first, on_link, second, third};
+ghost use Rattle.sockets.specs.Worked.{ALL, STR, control, first, on_link, second, third};
 ghost use Rattle.interface.specs.declared.crossing.Answer.TheVariants as answer;
 ghost use Rattle.interface.specs.declared.crossing.Crossing.TheVariants as crossing;
 ghost use Rattle.net_sim.specs.Book.{carried, new_life};
@@ -143,12 +143,13 @@ pub fn worked_within()
     ensures sum { granted_to asking_life 2 (crossing.In (one_more third) ∷ granted_beside) ≡ amount 3 24 }
 
     // none on another link, before the partner's request, or before the own one went out; none from another peer, none
-    // that hasn't come in, and nothing in data
+    // that hasn't come in, none that its host sends, and nothing in data
     ensures other { granted_to asking_life 3 granted_beside ≡ amount 0 0 }
     ensures early { granted_to (new_life second 33 third 16 0 2) 2 granted_beside ≡ amount 0 0 }
     ensures unasked { granted_to (new_life second 33 third 16 1 1) 2 granted_beside ≡ amount 0 0 }
     ensures peer { granted_to asking_life 2 (crossing.In (one_more first) ∷ granted_beside) ≡ amount 2 16 }
     ensures going { granted_to asking_life 2 (crossing.Out (one_more third) ∷ granted_beside) ≡ amount 2 16 }
+    ensures sent { granted_to asking_life 2 (crossing.Out (control second third (ALL 2 1 8)) ∷ granted_beside) ≡ amount 2 16 }
     ensures data { granted_to asking_life 2 (crossing.In one_as_data ∷ granted_beside) ≡ amount 2 16 }
 
     // so two messages of 16 bits are within it, and not one message or one bit more

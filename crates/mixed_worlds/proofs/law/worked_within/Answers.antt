@@ -34,6 +34,10 @@ pub returns-clause-going : goal.returns-clause-going
 unfolding octets_of orders_of read_of command_of packed_count
 returns-clause-going c = refl
 
+pub returns-clause-sent : goal.returns-clause-sent
+unfolding octets_of orders_of read_of command_of packed_count
+returns-clause-sent c = refl
+
 pub returns-clause-data : goal.returns-clause-data
 unfolding octets_of orders_of read_of command_of packed_count
 returns-clause-data c = refl
