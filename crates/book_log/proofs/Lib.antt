@@ -3,6 +3,7 @@ mod Books
 mod Cuts
 mod Going
 mod Keywords
+mod Memory
 mod Named
 mod Networks
 mod Numbers

@@ -1,18 +1,21 @@
 -- The log of a network: the lines of its strangers, and then those of its book.
-use Rattle.book_log.proofs.Common.{◌≡◌, ℕ, ◌<◌, ◌≤◌, ◌+◌, ◌^◌, ◌==◌, true, false, List, [], ◌∷◌, ◌++◌, Option, Some}
+use Rattle.book_log.proofs.Common.{◌≡◌, ◌≢◌, ℕ, ◌<◌, ◌≤◌, ◌+◌, ◌^◌, ◌==◌, true, false, List, [], ◌∷◌, ◌++◌, Option, Some}
 use Rattle.book_log.proofs.Common.{None, codes, length, map, refl, sym, ap, ap₂, ◌∙◌, arith, subst, append_assoc}
 use Rattle.book_log.proofs.Common.{All, All-append, All-cons, All-head, All-nil, All-tail, Book, Host}
 use Rattle.book_log.proofs.Common.{IsBadBookLine, IsBadLine, IsBook, IsBookText, IsHost, IsLog, Lacks, SameCut}
-use Rattle.book_log.proofs.Common.{ended_line, host_text, log_lines, same_cut, stranger_line, text_of_lines}
+use Rattle.book_log.proofs.Common.{ended_line, handed_line, host_text, life_line, log_lines, logged_line, same_cut}
+use Rattle.book_log.proofs.Common.{stranger_line, text_of_lines}
 use Rattle.book_log.proofs.Common.{unmarked_where}
+use Rattle.std.proofs.Common.{inl, inr}
 use Rattle.std.proofs.lemmas.List.{append_cancel_left, length-append, length-map}
 use Rattle.std.specs.Prelude.{◌↔◌}
 use Rattle.interface.specs.Host.{InOrder, host_before}
 use Rattle.script.proofs.lemmas.{host_once}
-use Rattle.book_log.specs.Log.{AreStrangers, Begins, IsLogFault, log_text, network_lines, strangers_text}
+use Rattle.book_log.specs.Log.{AreStrangers, Begins, IsLogFault, RanOut, log_text, network_lines, strangers_text}
 use Rattle.book_log.specs.declared.fault.LogFault.{LogFault}
 use Rattle.book_log.specs.declared.fault.LogFault.TheVariants as fault
-use Rattle.book_log.specs.Steps.{BeginsBook, FitsAfter, IsBookFault, fault_after, NamedAfter, Names, NamesNone, last_of}
+use Rattle.book_log.specs.Steps.{BeginsBook, FitsAfter, IsBookFault, fault_after, NamedAfter, Names, NamesMore, NamesNone, last_of}
+use Rattle.book_log.proofs.Memory.{begins_nothing}
 use Rattle.book_log.proofs.Books.{ended_more, front_of, log_ends, text_of_lines-append}
 use Rattle.book_log.proofs.Cuts.{first_same, host_word, rest_same}
 use Rattle.book_log.proofs.Others.{not_stranger, not_text}
@@ -133,29 +136,39 @@ begins_behind last (g ∷ strangers) (h ∷ others) before line more left rest b
     begins_behind (Some g) strangers others before line more left rest behind b p.2
     (subst (λ (x : Host). NamedAfter (Some x) others) same q.2) none begins parted next (rest_same e)
 
+-- the lines of a book after those of strangers
+parted_behind : (text left : List ℕ) (strangers : List Host) (before : List (List ℕ)) (rest : List ℕ)
+    → text ≡ strangers_text strangers ++ left → left ≡ text_of_lines before ++ rest
+    → text ≡ text_of_lines (map stranger_line strangers ++ before) ++ rest
+parted_behind text left strangers before rest named parted =
+    named ∙ ap₂ (λ (t u : List ℕ). t ++ u) (sym (lines_text strangers)) parted
+    ∙ sym (append_assoc (text_of_lines (map stranger_line strangers)) (text_of_lines before) rest)
+    ∙ ap (λ (t : List ℕ). t ++ rest) (sym (text_of_lines-append (map stranger_line strangers) before))
+
+begins_named : (strangers : List Host) → NamedAfter None strangers → (before : List (List ℕ)) → BeginsBook before
+    → Begins (map stranger_line strangers ++ before)
+begins_named strangers named before begins = record {
+  strangers = strangers;
+  named = are_strangers strangers named;
+  book = begins.book;
+  valid = begins.valid;
+  more = begins.more;
+  whole =
+      ap (λ (ls : List (List ℕ)). map stranger_line strangers ++ ls) begins.whole
+      ∙ sym (append_assoc (map stranger_line strangers) before begins.more);
+}
+
 pub is_bad : (text left : List ℕ) (strangers : List Host) (number : ℕ) → Names text strangers left
     → IsBadBookLine left number → IsBadLine text (length strangers + number)
 is_bad text left strangers number names bad = record {
   before = map stranger_line strangers ++ bad.before;
   rest = bad.rest;
-  parted =
-      names.parted ∙ ap₂ (λ (t u : List ℕ). t ++ u) (sym (lines_text strangers)) bad.parted
-      ∙ sym (append_assoc (text_of_lines (map stranger_line strangers)) (text_of_lines bad.before) bad.rest)
-      ∙ ap (λ (t : List ℕ). t ++ bad.rest) (sym (text_of_lines-append (map stranger_line strangers) bad.before));
+  parted = parted_behind text left strangers bad.before bad.rest names.parted bad.parted;
   counted =
       let all : length (map stranger_line strangers ++ bad.before) ≡ length (map stranger_line strangers) + length bad.before = length-append (map stranger_line strangers) bad.before in
       let long : length (map stranger_line strangers) ≡ length strangers = length-map strangers stranger_line in
       omega (arith, all, long, bad.counted);
-  begins = record {
-    strangers = strangers;
-    named = are_strangers strangers names.named;
-    book = bad.begins.book;
-    valid = bad.begins.valid;
-    more = bad.begins.more;
-    whole =
-        ap (λ (ls : List (List ℕ)). map stranger_line strangers ++ ls) bad.begins.whole
-        ∙ sym (append_assoc (map stranger_line strangers) bad.before bad.begins.more);
-  };
+  begins = begins_named strangers names.named bad.before bad.begins;
   bad = λ line more e begins. bad.bad line more e (record {
     book = begins.book;
     valid = begins.valid;
@@ -203,7 +216,25 @@ bad_few text left strangers number names bad =
 pub is_fault : (text left : List ℕ) (strangers : List Host) (f : LogFault) → Names text strangers left
     → IsBookFault left f → IsLogFault text (fault_after (length strangers) f)
 is_fault text left strangers (fault.BadLine number) names bad = is_bad text left strangers number names bad
-is_fault text left strangers fault.OutOfMemory names bad = tt
+is_fault text left strangers fault.OutOfMemory names ran = record {
+  before = map stranger_line strangers ++ ran.before;
+  line = ran.line;
+  rest = ran.rest;
+  parted = parted_behind text left strangers ran.before (ended_line ran.line ++ ran.rest) names.parted ran.parted;
+  begins = begins_named strangers names.named ran.before ran.begins;
+  wants = elim ran.wants [ inl octets ↦ inl octets | inr begins ↦ inr (begins_named [] tt (ran.line ∷ []) begins) ];
+}
+
+-- memory runs out for a stranger
+pub ran_out_named : (text : List ℕ) → NamesMore text → RanOut text
+ran_out_named text m = record {
+  before = map stranger_line m.strangers ++ [];
+  line = stranger_line m.next;
+  rest = m.rest;
+  parted = parted_behind text (ended_line (stranger_line m.next) ++ m.rest) m.strangers [] (ended_line (stranger_line m.next) ++ m.rest) m.parted refl;
+  begins = begins_named m.strangers m.named [] begins_nothing;
+  wants = inr (begins_named (m.next ∷ []) (m.meant, refl, tt) [] begins_nothing);
+}
 
 pub fault_fits : (text left : List ℕ) (strangers : List Host) (f : LogFault) → length text < 2 ^ 63
     → Names text strangers left → IsBookFault left f → FitsAfter (length strangers) f
@@ -232,3 +263,25 @@ only_strangers (g ∷ strangers) last b (t ∷ before) line h more is named e =
 pub alone : (octets : List ℕ) (b : Book) → IsLog octets [] b ↔ ((octets ≡ log_text b) × IsBook b)
 alone octets b =
     (λ log. (log.spelled, log.valid), λ h. record { spelled = h.0; named = are_strangers [] tt; valid = h.1 })
+
+-- ---- no octets
+
+-- a log has some, and so have octets at a line of which memory runs out
+pub log_some : (octets : List ℕ) (strangers : List Host) (b : Book) → IsLog octets strangers b → octets ≢ []
+log_some octets strangers b log none =
+    let few : length (log_lines b) ≤ length (log_text b) = lines_few (log_lines b) in
+    let all : length octets ≡ length (strangers_text strangers) + length (log_text b) =
+    ap length log.spelled ∙ length-append (strangers_text strangers) (log_text b) in
+    let first = length-append (map logged_line b.crossings) (map life_line b.lives ++ (map handed_line b.handed ++ codes "end" ∷ [])) in
+    let second = length-append (map life_line b.lives) (map handed_line b.handed ++ codes "end" ∷ []) in
+    let third = length-append (map handed_line b.handed) (codes "end" ∷ []) in
+    let zero : length octets ≡ 0 = ap length none in
+    absurd (omega (arith, few, all, first, second, third, zero))
+
+pub ran_some : (octets : List ℕ) → RanOut octets → octets ≢ []
+ran_some octets ran none =
+    let all = ap length ran.parted ∙ length-append (text_of_lines ran.before) (ended_line ran.line ++ ran.rest) in
+    let behind = length-append (ended_line ran.line) ran.rest in
+    let one = length-append ran.line (10 ∷ []) in
+    let zero : length octets ≡ 0 = ap length none in
+    absurd (omega (arith, all, behind, one, zero))

@@ -1,7 +1,8 @@
 -- The log of a book: its lines, and which octets are one.
-use Rattle.std.specs.Prelude.{◌≡◌, ℕ, ◌^◌, ◌<◌, Bool, List, [], ◌∷◌, ◌++◌, length, map, codes, suc, zip}
+use Rattle.std.specs.Prelude.{◌≡◌, ◌⊎◌, ℕ, ◌^◌, ◌<◌, ◌==◌, ◌||◌, Bool, true, List, [], ◌∷◌, ◌++◌, length, map, codes, suc, zip}
 use Rattle.std.specs.Fmt.{decimal}
-use Rattle.std.specs.List.{All, flat_map}
+use Rattle.std.specs.List.{All, flat_map, slice_split}
+use Rattle.std.specs.Str.{bytes_eq}
 use Rattle.interface.specs.Host.{Host, InOrder}
 use Rattle.interface.specs.Printed.{flow_text, host_text}
 use Rattle.interface.specs.declared.crossing.Answer.{Answer}
@@ -179,7 +180,26 @@ pub record IsBadLine (octets : List ℕ) (number : ℕ) : Type 0 where
   pub bad : (line more : List ℕ) → rest ≡ ended_line line ++ more → Begins (before ++ line ∷ []) → ⊥
   pub none : (strangers : List Host) (b : Book) → IsLog octets strangers b → ⊥
 
--- why octets are no log; memory may run out at any octets
+-- the first word of a line with octets: a message, a life, or what was handed over
+abbrev pub is_of_octets : List ℕ → Bool
+is_of_octets word = bytes_eq word (codes "out") || bytes_eq word (codes "in") || bytes_eq word (codes "life") || bytes_eq word (codes "handed")
+
+pub record HasOctets (line : List ℕ) : Type 0 where
+  pub first : List ℕ
+  pub others : List (List ℕ)
+  pub words : slice_split (λ b. b == 32) line ≡ first ∷ others
+  pub octets : is_of_octets first ≡ true
+
+-- memory runs out at a line with octets, or at one with which a log may begin; and some log begins with the lines before it
+pub record RanOut (octets : List ℕ) : Type 0 where
+  pub before : List (List ℕ)
+  pub line : List ℕ
+  pub rest : List ℕ
+  pub parted : octets ≡ text_of_lines before ++ (ended_line line ++ rest)
+  pub begins : Begins before
+  pub wants : HasOctets line ⊎ Begins (line ∷ [])
+
+-- why octets are no log
 abbrev pub IsLogFault : List ℕ → LogFault → Type 0
 IsLogFault octets (fault.BadLine number) = IsBadLine octets number
-IsLogFault octets fault.OutOfMemory = Unit {0}
+IsLogFault octets fault.OutOfMemory = RanOut octets

@@ -1,5 +1,5 @@
 -- What the contracts of private functions say. No public clause cites this file.
-use Rattle.std.specs.Prelude.{◌≡◌, ◌≢◌, ℕ, suc, ◌+◌, ◌^◌, ◌<◌, ◌==◌, ◌&&◌, ◌||◌, nat_lt, Bool, true, false, List, []}
+use Rattle.std.specs.Prelude.{◌≡◌, ◌≢◌, ℕ, suc, ◌+◌, ◌^◌, ◌<◌, ◌==◌, ◌&&◌, ◌||◌, ◌⊎◌, nat_lt, Bool, true, false, List, []}
 use Rattle.std.specs.Prelude.{◌∷◌, ◌++◌, length, slice_index_or, codes, Option, Some, None, Result, Ok, Err}
 use Rattle.std.specs.Prelude.{if◌then◌else◌}
 use Rattle.std.specs.Borrow.{Bor}
@@ -20,7 +20,7 @@ use Rattle.script.specs.Input.{ended_line}
 use Rattle.script.specs.Spelling.{IsFlow, IsHost, octets_text}
 use Rattle.std.specs.declared.alloc.AllocError.{AllocError}
 use Rattle.world_replay.specs.Printed.{kind_text}
-use Rattle.book_log.specs.Log.{Book, IsAmount, IsBook, IsCrossing, IsHanded, IsLived, answer_name, fate_name}
+use Rattle.book_log.specs.Log.{Book, HasOctets, IsAmount, IsBook, IsCrossing, IsHanded, IsLived, answer_name, fate_name}
 use Rattle.book_log.specs.Log.{handed_line, life_line, log_lines}
 use Rattle.book_log.specs.Log.{log_text, logged_fate, logged_line, stranger_line, strangers_text, text_of_lines}
 use Rattle.book_log.specs.declared.fault.LogFault.{LogFault}
@@ -241,9 +241,18 @@ pub record IsBadBookLine (octets : List ℕ) (number : ℕ) : Type 0 where
   pub bad : (line more : List ℕ) → rest ≡ ended_line line ++ more → BeginsBook (before ++ line ∷ []) → ⊥
   pub none : (b : Book) → IsBookText octets b → ⊥
 
+-- memory runs out at a line of it
+pub record RanOutIn (octets : List ℕ) : Type 0 where
+  pub before : List (List ℕ)
+  pub line : List ℕ
+  pub rest : List ℕ
+  pub parted : octets ≡ text_of_lines before ++ (ended_line line ++ rest)
+  pub begins : BeginsBook before
+  pub wants : HasOctets line ⊎ BeginsBook (line ∷ [])
+
 abbrev pub IsBookFault : List ℕ → LogFault → Type 0
 IsBookFault octets (fault.BadLine number) = IsBadBookLine octets number
-IsBookFault octets fault.OutOfMemory = Unit {0}
+IsBookFault octets fault.OutOfMemory = RanOutIn octets
 
 -- a fault of the lines after this many, as one of all lines; its number has 64 bits
 abbrev pub fault_after : ℕ → LogFault → LogFault
@@ -287,3 +296,12 @@ pub record Names (text : List ℕ) (strangers : List Host) (left : List ℕ) : T
   pub parted : text ≡ strangers_text strangers ++ left
   pub named : NamedAfter None strangers
   pub none : NamesNone (last_of None strangers) left
+
+-- a text begins with the lines of these strangers, and then with that of this one
+pub record NamesMore (text : List ℕ) : Type 0 where
+  pub strangers : List Host
+  pub next : Host
+  pub rest : List ℕ
+  pub parted : text ≡ strangers_text strangers ++ (ended_line (stranger_line next) ++ rest)
+  pub named : NamedAfter None strangers
+  pub meant : IsHost next

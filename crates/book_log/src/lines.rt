@@ -1,10 +1,10 @@
 //! The lines of a log.
 
 ghost use Rattle.promise.specs.Fates.{is_over};
-ghost use Rattle.std.specs.Prelude.{◌≡◌, ◌↔◌, IfOk, IsTrue};
+ghost use Rattle.std.specs.Prelude.{◌≡◌, ◌↔◌, IfOk, IsTrue, MatchResult};
 ghost use Rattle.script.specs.Spelling.{IsHost, IsMessage, ReadsAs};
 ghost use Rattle.world_replay.specs.Printed.{kind_text};
-ghost use Rattle.book_log.specs.Log.{IsAmount, IsHanded, IsLived, answer_name, fate_name};
+ghost use Rattle.book_log.specs.Log.{HasOctets, IsAmount, IsHanded, IsLived, answer_name, fate_name};
 ghost use Rattle.book_log.specs.Steps.{AreCounts, AreEnds, IsAnswer, IsFate, IsKind, IsLine, ReadsShort, ReadsWords, TakesWords, amount_words, answer_words, counts_words, ends_words, handed_words};
 ghost use Rattle.book_log.specs.Steps.{host_words, life_of, life_words, line_text, message_words, words_left};
 
@@ -30,9 +30,9 @@ pub(crate) enum Line {
 
 /// Returns what a line describes. `None` where it is no line of a log.
 ///
-/// Errors: `AllocError`.
+/// Errors: `AllocError`, only for a message, a life, or what was handed over.
 pub(crate) fn read_line(alloc: Global, line: &[u8]) -> Result<Option<Line>, AllocError>
-    ensures { IfOk result (ReadsAs line_text IsLine line.now) }
+    ensures { MatchResult result (ReadsAs line_text IsLine line.now) (λ _. HasOctets line.now) }
 {
     let mut words = Words::of(line);
     let Some(first) = words.next() else {

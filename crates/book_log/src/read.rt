@@ -22,7 +22,7 @@ pub struct Log {
 /// Returns the strangers and the book that a log describes.
 ///
 /// Errors: `BadLine` with the number of the first bad line, counted from 1; where the last line is missing, that of the line after
-/// the last one. `OutOfMemory`, which may come at any line with no bad line before it.
+/// the last one. `OutOfMemory`, only at a line with octets and at one that a log may have, with no bad line before it.
 pub fn read_log(alloc: Global, text: &[u8]) -> Result<Log, LogFault>
     ensures { MatchResult result (λ log. IsLog text.now log.strangers.items log.book) (IsLogFault text.now) }
 {

@@ -1,9 +1,9 @@
 //! The lines of strangers, with which the log of a network begins.
 
-ghost use Rattle.std.specs.Prelude.{◌≡◌, IfOk};
+ghost use Rattle.std.specs.Prelude.{◌≡◌, IfErr, IfOk};
 ghost use Rattle.script.specs.Spelling.{IsHost, ReadsAs};
 ghost use Rattle.book_log.specs.Log.{stranger_line};
-ghost use Rattle.book_log.specs.Steps.{Names, NamesNext, follows};
+ghost use Rattle.book_log.specs.Steps.{Names, NamesMore, NamesNext, follows};
 
 use interface::HostAddr;
 use script::reading::{cut, read_host};
@@ -12,12 +12,13 @@ use std::alloc::{AllocError, Global};
 /// Returns the strangers that a text begins with, and what is after their lines: it begins with no line of a stranger
 /// who may come next.
 ///
-/// Errors: `AllocError`.
+/// Errors: `AllocError`, only where one comes next.
 pub(crate) fn read_strangers(
     alloc: Global,
     text: &[u8],
 ) -> Result<(Vec<HostAddr>, &[u8]), AllocError>
-    ensures { IfOk result (λ read. Names text.now read.0.items read.1.now) }
+    ensures names { IfOk result (λ read. Names text.now read.0.items read.1.now) }
+    ensures memory { IfErr result (λ _. NamesMore text.now) }
 {
     let mut strangers = Vec::new(alloc);
     let mut last = None;

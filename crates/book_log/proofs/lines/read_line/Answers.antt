@@ -1,8 +1,9 @@
-use Rattle.book_log.proofs.Common.{◌≡◌, ◌∙◌, codes, rules, sym, words_left}
+use Rattle.book_log.proofs.Common.{◌≡◌, ◌∙◌, Err, codes, refl, rules, sym, words_left}
 use Rattle.interface.specs.declared.crossing.Crossing.TheVariants as crossing
 use Rattle.script.proofs.lemmas.{differs}
 use Rattle.book_log.specs.declared.lines.Line.TheVariants as line
 use Rattle.book_log.proofs.Keywords.{no_operand, read_as, short_read}
+use Rattle.book_log.proofs.Memory.{has_octets}
 use Rattle.book_log.proofs.lines.read_line.Goals as goal
 
 pub returns-in_default-2 : goal.returns-in_default-2
@@ -57,3 +58,29 @@ returns c =
     (differs c.in-Some.first.now (codes "life") c.as_slice-3.result.now c.eq-3.result c.eq-3.ensures c.as_slice-3.ensures c.if-eq-3.false)
     (differs c.in-Some.first.now (codes "handed") c.as_slice-4.result.now c.eq-4.result c.eq-4.ensures c.as_slice-4.ensures c.if-eq-4.false)
     c.read_short.ensures
+
+-- ---- memory
+
+pub returns-in_err-message : goal.returns-in_err-message
+returns-in_err-message c =
+    let is : c.in-Some.first.now ≡ codes "out" = search rules in
+    let same : c.from_residual.result ≡ Err c.in_err-message.field-0.0 = search rules in
+    rw same (has_octets (codes "out") c.args.line.now c.in-Some.first.now (words_left c.next.new.self) refl (sym c.of-words.ensures ∙ c.in-Some.ensures) is)
+
+pub returns-in_err-message-2 : goal.returns-in_err-message-2
+returns-in_err-message-2 c =
+    let is : c.in-Some.first.now ≡ codes "in" = search rules in
+    let same : c.from_residual-in_err-message-2.result ≡ Err c.in_err-message-2.field-0.0 = search rules in
+    rw same (has_octets (codes "in") c.args.line.now c.in-Some.first.now (words_left c.next.new.self) refl (sym c.of-words.ensures ∙ c.in-Some.ensures) is)
+
+pub returns-in_err-life : goal.returns-in_err-life
+returns-in_err-life c =
+    let is : c.in-Some.first.now ≡ codes "life" = search rules in
+    let same : c.from_residual-in_err-life.result ≡ Err c.in_err-life.field-0.0 = search rules in
+    rw same (has_octets (codes "life") c.args.line.now c.in-Some.first.now (words_left c.next.new.self) refl (sym c.of-words.ensures ∙ c.in-Some.ensures) is)
+
+pub returns-in_err-bits : goal.returns-in_err-bits
+returns-in_err-bits c =
+    let is : c.in-Some.first.now ≡ codes "handed" = search rules in
+    let same : c.from_residual-in_err-bits.result ≡ Err c.in_err-bits.field-0.0 = search rules in
+    rw same (has_octets (codes "handed") c.args.line.now c.in-Some.first.now (words_left c.next.new.self) refl (sym c.of-words.ensures ∙ c.in-Some.ensures) is)

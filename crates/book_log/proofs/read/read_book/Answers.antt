@@ -1,5 +1,8 @@
-use Rattle.std.proofs.Common.{◌∙◌, arith, sym}
+use Rattle.std.proofs.Common.{◌≡◌, ◌∙◌, [], ◌∷◌, Err, List, arith, inl, inr, rules, subst, sym, ℕ}
+use Rattle.book_log.specs.Steps.{BeginsBook}
+use Rattle.book_log.specs.declared.fault.LogFault.TheVariants as fault
 use Rattle.book_log.proofs.Going.{bad_behind, bad_end, bad_here, bad_place, line_more, shorter, whole}
+use Rattle.book_log.proofs.Memory.{begins_one, ran_out}
 use Rattle.book_log.proofs.read.read_book.Goals as goal
 
 pub returns-in_default-2 : goal.returns-in_default-2
@@ -40,3 +43,19 @@ lines-preserved c =
 pub returns : goal.returns
 returns c =
     bad_end c.args.text.now c.lines.left.now c.lines.book c.lines.passed c.lines.invariant.0 c.in_default.ensures
+
+-- ---- memory
+
+pub returns-in_err-told : goal.returns-in_err-told
+returns-in_err-told c =
+    let same : c.from_residual.result ≡ Err fault.OutOfMemory = search rules in
+    rw same (ran_out c.args.text.now c.lines.left.now c.in-Some.line.now c.in-Some.more.now c.lines.book c.lines.passed
+    c.lines.invariant.0 c.in-Some.ensures.0 (inl c.in_err-told.ensures))
+
+pub returns-in_err-add : goal.returns-in_err-add
+returns-in_err-add c =
+    let same : c.from_residual-in_err-add.result ≡ Err fault.OutOfMemory = search rules in
+    let read = rw c.in-Some-2.is at c.in_ok-told.ensures in
+    rw same (ran_out c.args.text.now c.lines.left.now c.in-Some.line.now c.in-Some.more.now c.lines.book c.lines.passed
+    c.lines.invariant.0 c.in-Some.ensures.0
+    (inr (subst (λ (t : List ℕ). BeginsBook (t ∷ [])) (sym read.0) (begins_one c.in-Some-2.told read.1 c.in_default-told.not-End))))
