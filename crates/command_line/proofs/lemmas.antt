@@ -1,5 +1,6 @@
 -- The lemmas of this crate that others may use: the proofs of session and simulator do. All others in proofs/ are its own.
 pub use Rattle.command_line.proofs.Faults.{told_memory, told_write, unwritten}
+pub use Rattle.command_line.proofs.Joined.{said_kept}
 pub use Rattle.command_line.proofs.OneInput.{OneInput, input_once}
 pub use Rattle.command_line.proofs.Printed.{no_lives}
 pub use Rattle.command_line.proofs.Reading.{reads_none}

@@ -1,11 +1,14 @@
 -- What is written is that of the input which was read.
 use Rattle.simulator.proofs.Common.{◌≡◌, inl, inr, ℕ, Bool, true, false, List, [], ◌∷◌, ◌++◌, Option, Some, Ok, Err, codes}
-use Rattle.simulator.proofs.Common.{refl, sym, ◌∙◌, ◌⊎◌, EndsReplay, detail_of}
+use Rattle.simulator.proofs.Common.{refl, subst, sym, ◌∙◌, ◌⊎◌, EndsReplay, detail_of}
+use Rattle.command_line.proofs.lemmas.{said_kept}
+use Rattle.command_line.specs.Audits.{IsKeptLog, kept, verdict_text}
 use Rattle.command_line.specs.Laws.{FirstPart, OneOutput}
 use Rattle.command_line.specs.declared.fault.ScriptFault.TheVariants as script
 use Rattle.command_line.specs.declared.options.Options.{Options}
+use Rattle.command_line.specs.declared.verdict.Verdict.{Verdict}
 use Rattle.script.specs.Input.{IsParted}
-use Rattle.simulator.specs.Program.{EndsTrace, Replayed, sides}
+use Rattle.simulator.specs.Program.{EndsAudit, EndsTrace, Replayed, sides}
 use Rattle.simulator.proofs.Traces.EitherTrace.{either_front}
 
 pub same_replay : OneOutput → (check : Bool) (options : Options) (input before after other : List ℕ)
@@ -67,3 +70,16 @@ none_read (y ∷ first) x e = cc
 pub invented : (options : Options) (x : ℕ) (unread : Bool) (before after : Option (List ℕ))
     → EndsReplay options (sides (Some []) (Some (x ∷ [])) unread before after) (Ok tt) → ⊥
 invented options x unread before after ends = none_read ends.reads.0 x (sym ends.reads.1)
+
+-- ---- audits
+
+pub audited_kept : (input before after : List ℕ) (left : Option (List ℕ)) (unread : Bool) (said : Verdict)
+    → IsKeptLog input → EndsAudit (sides (Some input) left unread (Some before) (Some after)) (Ok said)
+    → (said ≡ kept) × (after ≡ before ++ codes "kept\n")
+audited_kept input before after left unread said k ends =
+    let same : said ≡ kept = said_kept input said (Some before) (Some after) ends.says k in
+    (
+      same,
+      subst (λ (v : Verdict). after ≡ before ++ verdict_text ends.says.strangers ends.says.book v) same
+          ends.says.written,
+    )

@@ -1,11 +1,13 @@
 -- The laws of src/ that are longer than a line: each is a record, and its fields are the clauses.
-use Rattle.std.specs.Prelude.{Bool, Err, List, Ok, Option, Some, false, [], ◌∷◌, ℕ, ◌++◌, ◌≡◌, ◌⊎◌}
+use Rattle.std.specs.Prelude.{Bool, Err, List, Ok, Option, Some, codes, false, [], ◌∷◌, ℕ, ◌++◌, ◌≡◌, ◌⊎◌}
 use Rattle.replay.specs.declared.print.Detail.TheVariants.{Sizes}
+use Rattle.command_line.specs.Audits.{IsKeptLog, kept}
 use Rattle.command_line.specs.Replayed.{ReplaysInput}
 use Rattle.command_line.specs.declared.fault.ScriptFault.TheVariants as script
 use Rattle.command_line.specs.declared.options.Options.{Options}
+use Rattle.command_line.specs.declared.verdict.Verdict.{Verdict}
 use Rattle.simulator.specs.MixedTraced.{TraceStopsEither, TracesEither}
-use Rattle.simulator.specs.Program.{EndsLog, EndsReplay, EndsTrace, sides}
+use Rattle.simulator.specs.Program.{EndsAudit, EndsLog, EndsReplay, EndsTrace, sides}
 use Rattle.simulator.specs.Recorded.{PrintsTrace, told_lines}
 use Rattle.simulator.specs.Traced.{TracesInput}
 
@@ -49,6 +51,11 @@ pub record OneProgram : Type 0 where
       EndsTrace (sides (Some input) left unread (Some before) (Some part)) (Err script.OutOfMemory) →
       EndsTrace (sides (Some input) rest unheard (Some before) (Some whole)) (Ok tt) →
       (part ≡ before) ⊎ ((more : List ℕ) × (whole ≡ part ++ more))
+  -- of a log that is kept its audit says so, and nothing else
+  pub audits :
+      (input before after : List ℕ) (left : Option (List ℕ)) (unread : Bool) (said : Verdict) → IsKeptLog input →
+      EndsAudit (sides (Some input) left unread (Some before) (Some after)) (Ok said) →
+      (said ≡ kept) × (after ≡ before ++ codes "kept\n")
   -- nothing is done that is no input, nor is anything left that wasn't to be read
   pub no_input :
       (options : Options) (left before after : Option (List ℕ)) →

@@ -1,5 +1,5 @@
 use Rattle.simulator.proofs.Common.{refl}
-use Rattle.simulator.proofs.OneProgram.{invented, no_input, replay_part, same_replay, trace_part}
+use Rattle.simulator.proofs.OneProgram.{audited_kept, invented, no_input, replay_part, same_replay, trace_part}
 use Rattle.simulator.proofs.Traces.EitherTrace.{either_trace}
 use Rattle.simulator.proofs.law.one_program.Goals as goal
 
@@ -14,6 +14,7 @@ returns c = record {
   part = λ options input before part whole left rest unread unheard ends done. replay_part c.first_part.ensures
       options.check options input before part whole left rest unread unheard refl ends done.replayed;
   trace_part = trace_part;
+  audits = audited_kept;
   no_input = no_input;
   invented = invented;
 }
