@@ -1,22 +1,28 @@
 -- Why octets are no input.
-use Rattle.command_line.proofs.Common.{◌≡◌, Bool, true, false, List, ℕ, Result, Ok, Err, IfErr, ap, inr, refl, subst}
+use Rattle.command_line.proofs.Common.{◌≡◌, Bool, true, false, List, ℕ, Result, Ok, Err, IfErr, ap, inl, inr, refl, subst}
 use Rattle.command_line.proofs.Common.{sym, ◌∙◌, false≢true, TopologyFields, Describes, IsInputFault, IsReplayFault}
 use Rattle.command_line.proofs.Common.{ScriptFault, IsUtf8, IsParted, IsNetworkFault}
-use Rattle.std.proofs.Common.{◌↔◌}
+use Rattle.std.proofs.Common.{◌↔◌, ◌≤◌, length}
+use Rattle.toml.specs.Errors.{IsBlank}
 use Rattle.replay.specs.Failing.{TellsCannotWrite}
 use Rattle.replay.specs.declared.events.ReplayFault.{ReplayFault}
 use Rattle.replay.specs.declared.events.ReplayFault.TheVariants as replay
+use Rattle.command_line.proofs.Common.{IsInput}
+use Rattle.command_line.specs.Events.{Asked}
 use Rattle.command_line.specs.Faults.{told_as}
+use Rattle.command_line.specs.Steps.{IsEventsFault}
 use Rattle.command_line.specs.declared.fault.ScriptFault.TheVariants as fault
 
-pub network_fault : (octets document script : List ℕ) (f : ScriptFault) → IsParted octets document script → IsNetworkFault f → (f ≡ fault.BadTopology → IsUtf8 document → (t : TopologyFields) → ¬ (Describes document t)) → IsInputFault octets f
-network_fault octets document script fault.BadTopology parted known refused = inr (record { document = document; script = script; parted = parted; unfit = refused refl })
-network_fault octets document script fault.TooLong parted known refused = absurd known
-network_fault octets document script fault.OutOfMemory parted known refused = tt
-network_fault octets document script fault.CannotRead parted known refused = absurd known
-network_fault octets document script fault.CannotWrite parted known refused = absurd known
-network_fault octets document script fault.BadOptions parted known refused = absurd known
-network_fault octets document script (fault.BadLine number) parted known refused = absurd known
+pub network_fault : (octets document script : List ℕ) (f : ScriptFault) → IsParted octets document script → IsNetworkFault f → (f ≡ fault.BadTopology → IsUtf8 document → (t : TopologyFields) → ¬ (Describes document t))
+    → (f ≡ fault.OutOfMemory → IsUtf8 document × (¬ IsBlank document)) → IsInputFault octets f
+network_fault octets document script fault.BadTopology parted known refused wants = inr (record { document = document; script = script; parted = parted; unfit = refused refl })
+network_fault octets document script fault.TooLong parted known refused wants = absurd known
+network_fault octets document script fault.OutOfMemory parted known refused wants =
+    record { document = document; script = script; parted = parted; wants = inl (wants refl) }
+network_fault octets document script fault.CannotRead parted known refused wants = absurd known
+network_fault octets document script fault.CannotWrite parted known refused wants = absurd known
+network_fault octets document script fault.BadOptions parted known refused wants = absurd known
+network_fault octets document script (fault.BadLine number) parted known refused wants = absurd known
 
 abbrev ends_with : ScriptFault → Result (Unit {0}) ScriptFault
 ends_with f = Err f
@@ -46,3 +52,23 @@ err_of (Err f) = f
 -- and where nothing was written no write has failed
 pub unwritten : (r : Result (Unit {0}) ScriptFault) (f : ScriptFault) (failed : Bool) → r ≡ Err f → (f ≡ fault.CannotWrite → ⊥) → failed ≡ false → (r ≡ Err fault.CannotWrite) ↔ (failed ≡ true)
 unwritten r f failed is other whole = (λ e. absurd (other (ap err_of (sym is ∙ e))), λ e. absurd (false≢true (sym whole ∙ e)))
+
+-- once they describe a network, memory may run out for its script
+pub script_fault : (octets document script : List ℕ) (network : TopologyFields) (f : ScriptFault)
+    → length octets ≤ 268435456 → IsParted octets document script → Describes document network
+    → IsEventsFault network.raw script f → IsInputFault octets f
+script_fault octets document script network (fault.BadLine number) short parted described known =
+    record { short = short; document = document; script = script; network = network; parted = parted; described = described; bad = known }
+script_fault octets document script network fault.OutOfMemory short parted described known =
+    record { document = document; script = script; parted = parted; wants = inr (network, described) }
+script_fault octets document script network fault.BadTopology short parted described known = absurd known
+script_fault octets document script network fault.TooLong short parted described known = absurd known
+script_fault octets document script network fault.BadOptions short parted described known = absurd known
+script_fault octets document script network fault.CannotRead short parted described known = absurd known
+script_fault octets document script network fault.CannotWrite short parted described known = absurd known
+
+-- and for all that follows
+pub input_wants : (octets : List ℕ) (network : TopologyFields) (events : Asked) → IsInput octets network events
+    → IsInputFault octets fault.OutOfMemory
+input_wants octets network events input =
+    record { document = input.document; script = input.script; parted = input.parted; wants = inr (network, input.described) }

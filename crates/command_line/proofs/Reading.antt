@@ -1,5 +1,5 @@
 -- What is read further is read of the same octets.
-use Rattle.std.proofs.Common.{◌≡◌, ◌≤◌, ◌+◌, ℕ, List, [], ◌++◌, Option, Some, None, length, refl, take, sym, ap, ◌∙◌, arith}
+use Rattle.std.proofs.Common.{◌≡◌, ◌≢◌, ◌≤◌, IfSome, ◌+◌, ℕ, List, [], ◌++◌, Option, Some, None, length, refl, take, sym, ap, ◌∙◌, arith}
 use Rattle.std.proofs.lemmas.List.{append_assoc, length-append, length-take-le}
 use Rattle.std.specs.Io.KnownBytes.{Consumes}
 use Rattle.command_line.specs.Reading.{ReadsFirst}
@@ -23,3 +23,19 @@ reads_more a b c xs buf count h k few room =
     let long : length (xs ++ take count buf) ≡ length xs + length (take count buf) = length-append xs (take count buf) in
     let taken : length (take count buf) ≡ count = length-take-le count buf few in
     (xs ++ take count buf, consumes_more a b c xs (take count buf) h k, omega (arith, long, taken, few, room))
+
+-- where some octets were read, there were some
+pub reads_some : (a b : Option (List ℕ)) (xs : List ℕ) → Consumes a b xs → 1 ≤ length xs → IfSome a (λ k. k ≢ [])
+reads_some None b xs h long = tt
+reads_some (Some k) None xs h long = absurd h
+reads_some (Some k) (Some bs) xs h long = λ none. (
+    let all : length k ≡ length xs + length bs = ap length h ∙ length-append xs bs in
+    let zero : length k ≡ 0 = ap length none in
+    absurd (omega (arith, all, zero, long)))
+
+pub reads_one : (a b c : Option (List ℕ)) (xs buf : List ℕ) (count : ℕ) → Consumes a b xs → Consumes b c (take count buf)
+    → count ≤ length buf → 1 ≤ count → IfSome a (λ k. k ≢ [])
+reads_one a b c xs buf count h k few long =
+    let all : length (xs ++ take count buf) ≡ length xs + length (take count buf) = length-append xs (take count buf) in
+    let taken : length (take count buf) ≡ count = length-take-le count buf few in
+    reads_some a c (xs ++ take count buf) (consumes_more a b c xs (take count buf) h k) (omega (arith, all, taken, long))

@@ -1,9 +1,9 @@
 -- What is written of a log as its audit.
-use Rattle.std.specs.Prelude.{◌≡◌, ◌↔◌, ℕ, ◌+◌, ◌&&◌, Bool, true, false, List, [], ◌∷◌, ◌++◌, length, map, reverse, suc}
+use Rattle.std.specs.Prelude.{◌≡◌, ◌≢◌, ◌↔◌, ℕ, ◌+◌, ◌&&◌, Bool, true, false, List, [], ◌∷◌, ◌++◌, length, map, reverse, suc}
 use Rattle.std.specs.Prelude.{zero, if◌then◌else◌, is_none, MatchOption, Option, Some, None, Result, Ok, Err, codes}
 use Rattle.std.specs.Fmt.{decimal}
 use Rattle.std.specs.Io.KnownBytes.{Appends}
-use Rattle.book_log.specs.Log.{Book, IsBadLine, IsLog, fates_of, lives_of}
+use Rattle.book_log.specs.Log.{Book, IsBadLine, IsLog, RanOut, fates_of, lives_of}
 use Rattle.book_judge.specs.Broken.{IfFormed, IsBroken, first_closed, first_sent, only_malformed}
 use Rattle.book_judge.specs.Fates.{AreSuited, UnsuitedAt}
 use Rattle.book_judge.specs.Lives.{AreMade, UnmadeAt}
@@ -244,10 +244,10 @@ pub record Audited (said : Verdict) (before after : Option (List ℕ)) : Type 0 
 abbrev pub IsSomeLog : List ℕ → Type 0
 IsSomeLog octets = (strangers : List Host) × (book : Book) × IsLog octets strangers book
 
--- when each fault may be given for these octets, where no read failed. Memory may run out at any octets
+-- when each fault may be given for these octets, where no read failed. Memory may run out as soon as there are some
 abbrev pub IsAuditFault : List ℕ → AuditFault → Type 0
 IsAuditFault octets (fault.BadLog number) = IsBadLine octets number
-IsAuditFault octets fault.OutOfMemory = Unit {0}
+IsAuditFault octets fault.OutOfMemory = octets ≢ []
 IsAuditFault octets fault.CannotWrite = IsSomeLog octets
 IsAuditFault octets fault.CannotRead = ⊥
 
@@ -300,7 +300,7 @@ IsLogReadFault fault.CannotWrite = ⊥
 -- the faults of octets that are no log
 abbrev pub IsBookFault : List ℕ → AuditFault → Type 0
 IsBookFault octets (fault.BadLog number) = IsBadLine octets number
-IsBookFault octets fault.OutOfMemory = Unit {0}
+IsBookFault octets fault.OutOfMemory = RanOut octets
 IsBookFault octets fault.CannotRead = ⊥
 IsBookFault octets fault.CannotWrite = ⊥
 

@@ -13,7 +13,8 @@ use Rattle.command_line.specs.declared.fault.ScriptFault.TheVariants as fault
 abbrev pub IsEitherInput : List ℕ → Type 0
 IsEitherInput octets = IsSomeInput octets ⊎ IsSomeMixed octets
 
--- when each fault may be given for these octets, where no read failed: a topology is bad if it is bad for both kinds
+-- when each fault may be given for these octets, where no read failed: a topology is bad if it is bad for both kinds. Memory
+-- may run out before any octet is read
 abbrev pub IsEitherFault : List ℕ → ScriptFault → Type 0
 IsEitherFault octets (fault.BadLine number) = HasBadLine octets number ⊎ HasBadMixedLine octets number
 IsEitherFault octets fault.TooLong = 268435456 < length octets

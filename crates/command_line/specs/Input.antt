@@ -1,6 +1,7 @@
 -- What an input is, and why octets are none.
 use Rattle.std.specs.Prelude.{◌≢◌, ℕ, ◌<◌, ◌≤◌, List, length, codes, ◌⊎◌, IsUtf8}
 use Rattle.std.specs.List.{All}
+use Rattle.toml.specs.Errors.{IsBlank}
 use Rattle.script.specs.Input.{IsParted}
 use Rattle.script.specs.Script.{lines_of}
 use Rattle.topology.specs.Topology.{TopologyFields}
@@ -38,13 +39,23 @@ pub record HasBadTopology (octets : List ℕ) : Type 0 where
   pub parted : IsParted octets document script
   pub unfit : IsUtf8 document → (t : TopologyFields) → ¬ Describes document t
 
--- when each fault may be given for these octets, where no read failed: nothing is written before they are known to be an input.
--- Memory may run out at any octets
+-- memory is wanted for what precedes the marker line, where that is UTF-8 and isn't blank, and, once it describes a
+-- network, for all that follows
+pub record WantsMemory (Network : List ℕ → Type 0) (octets : List ℕ) : Type 0 where
+  pub document : List ℕ
+  pub script : List ℕ
+  pub parted : IsParted octets document script
+  pub wants : (IsUtf8 document × (¬ IsBlank document)) ⊎ Network document
+
+abbrev pub IsNetwork : List ℕ → Type 0
+IsNetwork document = (t : TopologyFields) × Describes document t
+
+-- when each fault may be given for these octets, where no read failed: nothing is written before they are known to be an input
 abbrev pub IsInputFault : List ℕ → ScriptFault → Type 0
 IsInputFault octets (fault.BadLine number) = HasBadLine octets number
 IsInputFault octets fault.TooLong = 268435456 < length octets
 IsInputFault octets fault.BadTopology = (All (λ line. line ≢ codes "%") (lines_of octets)) ⊎ HasBadTopology octets
 IsInputFault octets fault.CannotRead = ⊥
-IsInputFault octets fault.OutOfMemory = Unit {0}
+IsInputFault octets fault.OutOfMemory = WantsMemory IsNetwork octets
 IsInputFault octets fault.CannotWrite = IsSomeInput octets
 IsInputFault octets fault.BadOptions = ⊥

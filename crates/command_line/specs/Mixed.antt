@@ -22,6 +22,7 @@ use Rattle.world_script.specs.WorldScript.{AskFor}
 use Rattle.world_script.specs.WorldSpelling.{IsWorldEvent, world_spelling}
 use Rattle.world_script.specs.declared.event.WorldEvent.{WorldEvent}
 use Rattle.command_line.specs.Carriers.{plain_of, subnet_of}
+use Rattle.command_line.specs.Input.{WantsMemory}
 use Rattle.command_line.specs.Replayed.{ShowsBook, WritesWorld}
 use Rattle.command_line.specs.declared.fault.ScriptFault.{ScriptFault}
 use Rattle.command_line.specs.declared.fault.ScriptFault.TheVariants as fault
@@ -61,13 +62,16 @@ pub record HasNoStrangers (octets : List ℕ) : Type 0 where
   pub parted : IsParted octets document script
   pub unfit : IsUtf8 document → (t : MixedFields) → ¬ DescribesMixed document t
 
+abbrev pub IsMixedNetwork : List ℕ → Type 0
+IsMixedNetwork document = (t : MixedFields) × DescribesMixed document t
+
 -- when each fault may be given for octets that have to be such an input
 abbrev pub IsMixedFault : List ℕ → ScriptFault → Type 0
 IsMixedFault octets (fault.BadLine number) = HasBadMixedLine octets number
 IsMixedFault octets fault.TooLong = 268435456 < length octets
 IsMixedFault octets fault.BadTopology = (All (λ line. line ≢ codes "%") (lines_of octets)) ⊎ HasNoStrangers octets
 IsMixedFault octets fault.CannotRead = ⊥
-IsMixedFault octets fault.OutOfMemory = Unit {0}
+IsMixedFault octets fault.OutOfMemory = WantsMemory IsMixedNetwork octets
 IsMixedFault octets fault.CannotWrite = IsSomeMixed octets
 IsMixedFault octets fault.BadOptions = ⊥
 

@@ -138,7 +138,7 @@ pub fn audit_status(found: Verdict) -> u8
 /// - `BadLog`: the first bad line. Nothing is written.
 /// - `CannotWrite`: a write or a flush failed. Nothing more is asked of the writer.
 ///
-/// `OutOfMemory` may come at any step before anything is written.
+/// `OutOfMemory` may come at any step before anything is written, once an octet was read.
 pub fn run_audit<R: Source, W: Output>(
     alloc: Global,
     reader: &mut R,
@@ -183,12 +183,13 @@ pub fn run_audit<R: Source, W: Output>(
 
 /// Returns all octets that the reader gives.
 ///
-/// Errors: `CannotRead` where a read fails, `OutOfMemory`.
+/// Errors: `CannotRead` where a read fails; `OutOfMemory`, only after an octet.
 fn read_octets<R: Source>(alloc: Global, reader: &mut R) -> Result<Vec<u8>, AuditFault>
     requires reads { R.failed reader.old ≡ false }
     requires more { R.ended reader.old ≡ false }
     ensures whole { IfOk result (λ octets. IfSome (R.remaining reader.old) (λ known. octets.items ≡ known)) }
     ensures fault { IfErr result IsLogReadFault }
+    ensures memory { result ≡ Err AuditFault.OutOfMemory → IfSome (R.remaining reader.old) (λ known. known ≢ []) }
     ensures reads_all { OnOk result (IsAtEnd (R.remaining reader.new)) }
     ensures failed { (result ≡ Err AuditFault.CannotRead) ↔ (R.failed reader.new ≡ true) }
 {

@@ -7,6 +7,7 @@ ghost use Rattle.command_line.specs.Input.{IsInput, IsInputFault};
 ghost use Rattle.command_line.specs.Reading.{ReadsAll, ReadsFirst};
 ghost use Rattle.script.specs.Script.{lines_of};
 ghost use Rattle.command_line.specs.Steps.{IsEventsFault, IsNetworkFault, IsReadFault};
+ghost use Rattle.toml.specs.Errors.{IsBlank};
 ghost use Rattle.topology.specs.Topology.{TopologyFields};
 
 use crate::fault::ScriptFault;
@@ -118,10 +119,11 @@ pub fn read_octets<R: Source>(alloc: Global, reader: &mut R) -> Result<Vec<u8>, 
 
 /// Returns the topology that a document describes.
 ///
-/// Errors: `BadTopology` for a document that describes none, `OutOfMemory`.
+/// Errors: `BadTopology` for a document that describes none; `OutOfMemory`, only for UTF-8 that isn't blank.
 fn read_network(alloc: Global, document: &[u8]) -> Result<Topology, ScriptFault>
     ensures found { IfOk result (λ network. Describes document.now network) }
     ensures refused { result ≡ Err ScriptFault.BadTopology → IsUtf8 document.now → (t : TopologyFields) → ¬ Describes document.now t }
+    ensures memory { result ≡ Err ScriptFault.OutOfMemory → IsUtf8 document.now × (¬ IsBlank document.now) }
     ensures fault { IfErr result IsNetworkFault }
 {
     let document = str::from_utf8(document).map_err(|_| ScriptFault::BadTopology)?;

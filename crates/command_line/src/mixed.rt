@@ -3,6 +3,7 @@
 ghost use Rattle.std.specs.Prelude.{◌≡◌, ◌≢◌, ◌≤◌, ◌↔◌, [], Err, IfErr, IfOk, IsUtf8, MatchResult, None, OnOk, false, length, true};
 ghost use Rattle.net_sim.specs.MixedWorlds.{absent_in};
 ghost use Rattle.script.specs.Script.{IsFirstBadAs, lines_of};
+ghost use Rattle.toml.specs.Errors.{IsBlank};
 ghost use Rattle.topology.specs.Mixed.{MixedFields};
 ghost use Rattle.world_script.specs.WorldScript.{AskFor};
 ghost use Rattle.world_script.specs.WorldSpelling.{IsWorldEvent, world_spelling};
@@ -74,10 +75,11 @@ fn read_mixed_events(alloc: Global, script: &[u8]) -> Result<Vec<WorldEvent>, Sc
 
 /// Returns the topology with strangers that a document describes.
 ///
-/// Errors: `BadTopology` for a document that describes none, `OutOfMemory`.
+/// Errors: `BadTopology` for a document that describes none; `OutOfMemory`, only for UTF-8 that isn't blank.
 fn read_mixed_network(alloc: Global, document: &[u8]) -> Result<MixedTopology, ScriptFault>
     ensures found { IfOk result (λ network. DescribesMixed document.now network) }
     ensures refused { result ≡ Err ScriptFault.BadTopology → IsUtf8 document.now → (t : MixedFields) → ¬ DescribesMixed document.now t }
+    ensures memory { result ≡ Err ScriptFault.OutOfMemory → IsUtf8 document.now × (¬ IsBlank document.now) }
     ensures fault { IfErr result IsNetworkFault }
 {
     let document = str::from_utf8(document).map_err(|_| ScriptFault::BadTopology)?;

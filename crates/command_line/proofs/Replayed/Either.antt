@@ -12,6 +12,7 @@ use Rattle.command_line.specs.Input.{IsSomeInput}
 use Rattle.command_line.specs.Mixed.{IsMixedInput, IsSomeMixed, MixedReplaysInput, MixedStopsInput}
 use Rattle.command_line.specs.Replayed.{EndsOn}
 use Rattle.command_line.specs.Steps.{IsFollowFault, IsReadFault}
+use Rattle.command_line.proofs.Replayed.Strangers.{mixed_wants}
 use Rattle.command_line.specs.declared.fault.ScriptFault.TheVariants as fault
 
 -- ---- of any octets, and of known ones
@@ -92,7 +93,7 @@ plain_stopped octets network events detail a b read (inr h) =
 pub mixed_read : (octets : List ℕ) (r : Result (Unit {0}) ScriptFault) → IsSomeMixed octets → IfErr r IsReplayFault
     → MatchResult r (λ done. IsSomeMixed octets) (IsMixedFault octets)
 mixed_read octets (Ok done) read known = read
-mixed_read octets (Err fault.OutOfMemory) read known = tt
+mixed_read octets (Err fault.OutOfMemory) read known = mixed_wants octets read.0 read.1 read.2
 mixed_read octets (Err fault.CannotWrite) read known = read
 mixed_read octets (Err fault.TooLong) read known = absurd known
 mixed_read octets (Err fault.BadTopology) read known = absurd known

@@ -3,7 +3,9 @@ use Rattle.command_line.proofs.Common.{◌≡◌, ◌⊎◌, inl, inr, ℕ, Bool
 use Rattle.command_line.proofs.Common.{OnOk, sym, subst, refl, Appends, Keeps, Calls, Detail, Host, Life, book_text}
 use Rattle.command_line.proofs.Common.{codes, shown, CarrierKind, ScriptFault, subnet_calls, subnet_of, IsUtf8}
 use Rattle.command_line.proofs.Common.{All, appends_more, IsParted, MixedFields, hosts_of}
+use Rattle.std.proofs.Common.{◌≤◌, length}
 use Rattle.std.proofs.lemmas.List.Elements.{All-head, All-tail}
+use Rattle.toml.specs.Errors.{IsBlank}
 use Rattle.command_line.proofs.Common.{WorldEvent, IsMixedFault, MixedEndsOn, MixedReplaysOn, MixedReplaysOver}
 use Rattle.command_line.proofs.Common.{WritesWorld, IsNetworkFault}
 use Rattle.interface.specs.Host.{is_host}
@@ -16,7 +18,8 @@ use Rattle.topology.specs.declared.network.CarrierKind.TheVariants as kind
 use Rattle.world_replay.specs.Kinds.{ReplaysBy, RunsOutBy, mixed_kind}
 use Rattle.world_replay.specs.Output as lines
 use Rattle.world_replay.proofs.lemmas.Gained.{replays_show, stops_show}
-use Rattle.command_line.specs.Mixed.{DescribesMixed, MixedEndsOver, MixedShowsFrom, MixedStopsFrom}
+use Rattle.command_line.specs.Mixed.{DescribesMixed, IsMixedInput, MixedEndsOver, MixedShowsFrom, MixedStopsFrom}
+use Rattle.command_line.specs.Steps.{IsMixedEventsFault}
 use Rattle.command_line.proofs.Replayed.Written.{shows_book}
 use Rattle.command_line.specs.declared.fault.ScriptFault.TheVariants as fault
 
@@ -24,15 +27,35 @@ use Rattle.command_line.specs.declared.fault.ScriptFault.TheVariants as fault
 
 pub no_strangers : (octets document script : List ℕ) (f : ScriptFault) → IsParted octets document script
     → IsNetworkFault f → (f ≡ fault.BadTopology → IsUtf8 document → (t : MixedFields) → ¬ (DescribesMixed document t))
-    → IsMixedFault octets f
-no_strangers octets document script fault.BadTopology parted known refused =
+    → (f ≡ fault.OutOfMemory → IsUtf8 document × (¬ IsBlank document)) → IsMixedFault octets f
+no_strangers octets document script fault.BadTopology parted known refused wants =
     inr (record { document = document; script = script; parted = parted; unfit = refused refl })
-no_strangers octets document script fault.TooLong parted known refused = absurd known
-no_strangers octets document script fault.OutOfMemory parted known refused = tt
-no_strangers octets document script fault.CannotRead parted known refused = absurd known
-no_strangers octets document script fault.CannotWrite parted known refused = absurd known
-no_strangers octets document script fault.BadOptions parted known refused = absurd known
-no_strangers octets document script (fault.BadLine number) parted known refused = absurd known
+no_strangers octets document script fault.TooLong parted known refused wants = absurd known
+no_strangers octets document script fault.OutOfMemory parted known refused wants =
+    record { document = document; script = script; parted = parted; wants = inl (wants refl) }
+no_strangers octets document script fault.CannotRead parted known refused wants = absurd known
+no_strangers octets document script fault.CannotWrite parted known refused wants = absurd known
+no_strangers octets document script fault.BadOptions parted known refused wants = absurd known
+no_strangers octets document script (fault.BadLine number) parted known refused wants = absurd known
+
+-- once they describe a network, memory may run out for its script, and for all that follows
+pub mixed_script : (octets document script : List ℕ) (network : MixedFields) (f : ScriptFault)
+    → length octets ≤ 268435456 → IsParted octets document script → DescribesMixed document network
+    → IsMixedEventsFault script f → IsMixedFault octets f
+mixed_script octets document script network (fault.BadLine number) short parted described known =
+    record { short = short; document = document; script = script; network = network; parted = parted; described = described; bad = known }
+mixed_script octets document script network fault.OutOfMemory short parted described known =
+    record { document = document; script = script; parted = parted; wants = inr (network, described) }
+mixed_script octets document script network fault.BadTopology short parted described known = absurd known
+mixed_script octets document script network fault.TooLong short parted described known = absurd known
+mixed_script octets document script network fault.BadOptions short parted described known = absurd known
+mixed_script octets document script network fault.CannotRead short parted described known = absurd known
+mixed_script octets document script network fault.CannotWrite short parted described known = absurd known
+
+pub mixed_wants : (octets : List ℕ) (network : MixedFields) (events : List MixedWorldEvent)
+    → IsMixedInput octets network events → IsMixedFault octets fault.OutOfMemory
+mixed_wants octets network events input =
+    record { document = input.document; script = input.script; parted = input.parted; wants = inr (network, input.described) }
 
 -- none of these hosts is absent
 all_there : (hosts named : List Host) → All (λ h. is_host hosts h ≡ true) named → absent_in hosts named ≡ None

@@ -1,5 +1,6 @@
 -- What is written of a log is what its audit says.
-use Rattle.command_line.proofs.Common.{◌≡◌, ℕ, Bool, true, false, List, ◌++◌, Option, Some, None, IfSome, Result, Ok, Err, MatchResult, OnOk, ap, codes, refl, sym, ◌∙◌, subst, false≢true, append_assoc, Appends, Keeps, IsLog, fates_of, lives_of, Crossing, Fate, Life, AuditsLog, IsAuditFault, IsBookFault, IsSomeLog, Judged, SaysOf, Finding, Verdict, AuditFault}
+use Rattle.book_log.proofs.lemmas.{log_some, ran_some}
+use Rattle.command_line.proofs.Common.{◌≡◌, ◌≢◌, ℕ, Bool, true, false, List, [], ◌++◌, Option, Some, None, IfSome, Result, Ok, Err, MatchResult, OnOk, ap, codes, refl, sym, ◌∙◌, subst, false≢true, append_assoc, Appends, Keeps, IsLog, fates_of, lives_of, Crossing, Fate, Life, AuditsLog, IsAuditFault, IsBookFault, IsSomeLog, Judged, SaysOf, Finding, Verdict, AuditFault}
 use Rattle.book_log.specs.Log.{Book}
 use Rattle.interface.specs.Host.{Host, is_host}
 use Rattle.command_line.specs.Audits.{Audited, IsLogReadFault, Layout, closes_text, life_at, lines_of, lines_text, sent_text}
@@ -86,20 +87,22 @@ toward_told r layout o place line before after e f h =
 
 -- ---- faults
 
-unread_known : (k : List ℕ) (f : AuditFault) (failed : Bool) → IsLogReadFault f → (f ≡ fault.CannotRead → failed ≡ true) → failed ≡ false → IsAuditFault k f
-unread_known k fault.OutOfMemory failed read told whole = tt
-unread_known k fault.CannotRead failed read told whole = absurd (false≢true (sym whole ∙ told refl))
-unread_known k (fault.BadLog number) failed read told whole = absurd read
-unread_known k fault.CannotWrite failed read told whole = absurd read
+unread_known : (k : List ℕ) (f : AuditFault) (failed : Bool) → IsLogReadFault f → (f ≡ fault.OutOfMemory → k ≢ [])
+    → (f ≡ fault.CannotRead → failed ≡ true) → failed ≡ false → IsAuditFault k f
+unread_known k fault.OutOfMemory failed read some told whole = some refl
+unread_known k fault.CannotRead failed read some told whole = absurd (false≢true (sym whole ∙ told refl))
+unread_known k (fault.BadLog number) failed read some told whole = absurd read
+unread_known k fault.CannotWrite failed read some told whole = absurd read
 
 pub unread : (known : Option (List ℕ)) (r : Result Verdict AuditFault) (f : AuditFault) (failed : Bool) → r ≡ Err f → IsLogReadFault f
-    → (f ≡ fault.CannotRead → failed ≡ true) → failed ≡ false → IfSome known (λ k. MatchResult r (λ said. IsSomeLog k) (IsAuditFault k))
-unread None r f failed is read told whole = tt
-unread (Some k) r f failed is read told whole = subst (λ (q : Result Verdict AuditFault). MatchResult q (λ said. IsSomeLog k) (IsAuditFault k)) (sym is) (unread_known k f failed read told whole)
+    → (f ≡ fault.OutOfMemory → IfSome known (λ k. k ≢ [])) → (f ≡ fault.CannotRead → failed ≡ true) → failed ≡ false
+    → IfSome known (λ k. MatchResult r (λ said. IsSomeLog k) (IsAuditFault k))
+unread None r f failed is read some told whole = tt
+unread (Some k) r f failed is read some told whole = subst (λ (q : Result Verdict AuditFault). MatchResult q (λ said. IsSomeLog k) (IsAuditFault k)) (sym is) (unread_known k f failed read some told whole)
 
 unlogged_known : (k : List ℕ) (f : AuditFault) → IsBookFault k f → IsAuditFault k f
 unlogged_known k (fault.BadLog number) bad = bad
-unlogged_known k fault.OutOfMemory bad = tt
+unlogged_known k fault.OutOfMemory bad = ran_some k bad
 unlogged_known k fault.CannotRead bad = absurd bad
 unlogged_known k fault.CannotWrite bad = absurd bad
 
@@ -108,6 +111,15 @@ pub unlogged : (known : Option (List ℕ)) (octets : List ℕ) (r : Result Verdi
 unlogged None octets r f same is bad = tt
 unlogged (Some k) octets r f same is bad =
     subst (λ (q : Result Verdict AuditFault). MatchResult q (λ said. IsSomeLog k) (IsAuditFault k)) (sym is) (unlogged_known k f (subst (λ (o : List ℕ). IsBookFault o f) same bad))
+
+-- memory ran out once the octets were a log
+pub unjudged : (known : Option (List ℕ)) (octets : List ℕ) (hosts : List Host) (b : Book)
+    (r : Result Verdict AuditFault) → IfSome known (λ k. octets ≡ k) → r ≡ Err fault.OutOfMemory → IsLog octets hosts b
+    → IfSome known (λ k. MatchResult r (λ said. IsSomeLog k) (IsAuditFault k))
+unjudged None octets hosts b r same is log = tt
+unjudged (Some k) octets hosts b r same is log =
+    subst (λ (q : Result Verdict AuditFault). MatchResult q (λ said. IsSomeLog k) (IsAuditFault k)) (sym is)
+    (subst (λ (o : List ℕ). o ≢ []) same (log_some octets hosts b log))
 
 -- a failed write is reported of a log
 pub unwritten : (known : Option (List ℕ)) (octets : List ℕ) (hosts : List Host) (b : Book)

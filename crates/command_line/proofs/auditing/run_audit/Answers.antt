@@ -1,6 +1,6 @@
 use Rattle.command_line.proofs.Common.{◌≡◌, ℕ, List, Err, ap, rules, subst, Appends, IsLog, IsBookFault, Verdict}
 use Rattle.command_line.proofs.Verdicts.MixedKept.Said.{ends_faulty, ends_kept}
-use Rattle.command_line.proofs.Verdicts.Judged.{audited, audits, known_audited, some_log, unlogged, unread, unwritten}
+use Rattle.command_line.proofs.Verdicts.Judged.{audited, audits, known_audited, some_log, unjudged, unlogged, unread, unwritten}
 use Rattle.command_line.specs.Audits.{Layout, found_text}
 use Rattle.command_line.specs.declared.auditing.AuditFault.TheVariants as fault
 use Rattle.command_line.proofs.auditing.run_audit.Goals as goal
@@ -34,7 +34,8 @@ returns-clause-read g c = λ whole. some_log (g.R.Source.remaining c.args.reader
 pub returns-in_err-octets-clause-read : goal.returns-in_err-octets-clause-read
 returns-in_err-octets-clause-read g c = λ whole.
     let same : c.from_residual.result ≡ Err c.in_err-octets.field-0.0 = search rules in
-    unread (g.R.Source.remaining c.args.reader.now) c.from_residual.result c.in_err-octets.field-0.0 (g.R.Source.failed c.read_octets.new.reader) same c.in_err-octets.ensures.fault (λ e. c.in_err-octets.ensures.failed.0 (ap Err e)) whole
+    unread (g.R.Source.remaining c.args.reader.now) c.from_residual.result c.in_err-octets.field-0.0 (g.R.Source.failed c.read_octets.new.reader) same c.in_err-octets.ensures.fault (λ e. c.in_err-octets.ensures.memory (ap Err e))
+    (λ e. c.in_err-octets.ensures.failed.0 (ap Err e)) whole
 
 pub returns-in_err-log-clause-read : goal.returns-in_err-log-clause-read
 returns-in_err-log-clause-read g c = λ whole.
@@ -67,8 +68,7 @@ returns-in_err-log-clause-kept g c = λ whole.
 pub returns-in_err-layout-clause-read : goal.returns-in_err-layout-clause-read
 returns-in_err-layout-clause-read g c = λ whole.
     let same : c.from_residual-in_err-layout.result ≡ Err fault.OutOfMemory = search rules in
-    unlogged (g.R.Source.remaining c.args.reader.now) c.in_ok-octets.octets.items c.from_residual-in_err-layout.result
-    fault.OutOfMemory c.in_ok-octets.ensures.whole same tt
+    unjudged (g.R.Source.remaining c.args.reader.now) c.in_ok-octets.octets.items c.in_ok-log.log.strangers.items c.in_ok-log.log.book c.from_residual-in_err-layout.result c.in_ok-octets.ensures.whole same (subst (λ (o : List ℕ). IsLog o c.in_ok-log.log.strangers.items c.in_ok-log.log.book) c.deref.ensures.value c.in_ok-log.ensures)
 
 pub returns-in_err-layout-clause-kept : goal.returns-in_err-layout-clause-kept
 returns-in_err-layout-clause-kept g c = λ whole.

@@ -1,3 +1,4 @@
+use Rattle.command_line.proofs.lemmas.{mixed_wants}
 use Rattle.simulator.proofs.Common.{ap, ◌∙◌, IsScriptOf, length}
 use Rattle.simulator.proofs.Traces.MixedTraced.{mixed_fit}
 use Rattle.simulator.proofs.mixed_tracing.read_mixed_scripted.Goals as goal
@@ -13,3 +14,7 @@ returns-clause-read c =
       numbered = c.in-Ok-event_lines.ensures;
       fits = ap length c.in-Ok-event_lines.ensures ∙ mixed_fit c.args.octets.now script c.in-Ok.input.network c.in-Ok.input.events.items c.in-Ok.ensures.read parted;
     }
+
+pub returns-in_default-lines-clause-fault : goal.returns-in_default-lines-clause-fault
+returns-in_default-lines-clause-fault c =
+    mixed_wants c.args.octets.now c.in-Ok.input.network c.in-Ok.input.events.items c.in-Ok.ensures.read

@@ -1,3 +1,4 @@
+use Rattle.command_line.proofs.lemmas.{input_wants}
 use Rattle.simulator.proofs.Common.{ap, ◌∙◌, asked_of, IsScriptOf, length}
 use Rattle.simulator.proofs.Traces.Traced.{lines_fit}
 use Rattle.simulator.proofs.tracing.read_scripted.Goals as goal
@@ -13,3 +14,7 @@ returns-clause-read c =
       numbered = c.in-Ok-event_lines.ensures;
       fits = ap length c.in-Ok-event_lines.ensures ∙ lines_fit c.args.octets.now script c.in-Ok.input.network (asked_of c.in-Ok.input.events) c.in-Ok.ensures.read parted;
     }
+
+pub returns-in_default-lines-clause-fault : goal.returns-in_default-lines-clause-fault
+returns-in_default-lines-clause-fault c =
+    input_wants c.args.octets.now c.in-Ok.input.network (asked_of c.in-Ok.input.events) c.in-Ok.ensures.read
