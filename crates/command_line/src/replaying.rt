@@ -181,7 +181,7 @@ fn follow<W: Output>(
     ensures read { MatchResult result (λ _. IsEitherInput octets.now) (IsEitherFault octets.now) }
     ensures stopped { result ≡ Err ScriptFault.OutOfMemory → NothingOr (StopsEither detail octets.now) (W.contents writer.old) (W.contents writer.new) }
     ensures check_memory { check ≡ true → result ≡ Err ScriptFault.OutOfMemory → writer.new ≡ writer.old }
-    ensures fault { IfErr result IsFollowFault }
+    ensures fault { IfErr result (IsFollowFault octets.now) }
     ensures failed { (result ≡ Err ScriptFault.CannotWrite) ↔ (W.failed writer.new ≡ true) }
     ensures flushed { OnOk result (W.flushed writer.new ≡ true) }
     ensures untouched { IfErr result (λ f. f ≢ ScriptFault.CannotWrite → f ≢ ScriptFault.OutOfMemory → writer.new ≡ writer.old) }

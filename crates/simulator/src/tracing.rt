@@ -87,7 +87,7 @@ fn follow<W: Output>(alloc: Global, octets: &[u8], writer: &mut W) -> Result<(),
     ensures traced { OnOk result (TracesEither octets.now (W.contents writer.old) (W.contents writer.new)) }
     ensures read { MatchResult result (λ _. IsEitherInput octets.now) (IsEitherFault octets.now) }
     ensures stopped { result ≡ Err ScriptFault.OutOfMemory → NothingOr (TraceStopsEither octets.now) (W.contents writer.old) (W.contents writer.new) }
-    ensures fault { IfErr result IsFollowFault }
+    ensures fault { IfErr result (IsFollowFault octets.now) }
     ensures failed { (result ≡ Err ScriptFault.CannotWrite) ↔ (W.failed writer.new ≡ true) }
     ensures flushed { OnOk result (W.flushed writer.new ≡ true) }
     ensures untouched { IfErr result (λ f. f ≢ ScriptFault.CannotWrite → f ≢ ScriptFault.OutOfMemory → writer.new ≡ writer.old) }

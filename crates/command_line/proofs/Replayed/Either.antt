@@ -12,6 +12,7 @@ use Rattle.command_line.specs.Input.{IsSomeInput}
 use Rattle.command_line.specs.Mixed.{IsMixedInput, IsSomeMixed, MixedReplaysInput, MixedStopsInput}
 use Rattle.command_line.specs.Replayed.{EndsOn}
 use Rattle.command_line.specs.Steps.{IsFollowFault, IsReadFault}
+use Rattle.command_line.proofs.Faults.{input_wants}
 use Rattle.command_line.proofs.Replayed.Strangers.{mixed_wants}
 use Rattle.command_line.specs.declared.fault.ScriptFault.TheVariants as fault
 
@@ -140,12 +141,32 @@ either_stopped octets detail a b (inr h) = inr (inr h)
 
 -- no read is asked for, and no word looked at
 pub follow_fault : (octets : List ℕ) (r : Result (Unit {0}) ScriptFault)
-    → MatchResult r (λ done. IsSomeMixed octets) (IsMixedFault octets) → IfErr r IsFollowFault
+    → MatchResult r (λ done. IsSomeMixed octets) (IsMixedFault octets) → IfErr r (IsFollowFault octets)
 follow_fault octets (Ok done) h = tt
-follow_fault octets (Err fault.OutOfMemory) h = tt
+follow_fault octets (Err fault.OutOfMemory) h = inr h
 follow_fault octets (Err fault.CannotWrite) h = tt
 follow_fault octets (Err fault.TooLong) h = tt
 follow_fault octets (Err fault.BadTopology) h = tt
 follow_fault octets (Err (fault.BadLine number)) h = tt
 follow_fault octets (Err fault.CannotRead) h = absurd h
 follow_fault octets (Err fault.BadOptions) h = absurd h
+
+pub plain_fault : (octets : List ℕ) (r : Result (Unit {0}) ScriptFault) → IsSomeInput octets → IfErr r IsReplayFault
+    → IfErr r (IsFollowFault octets)
+plain_fault octets (Ok done) read known = tt
+plain_fault octets (Err fault.OutOfMemory) read known = inl (input_wants octets read.0 read.1 read.2)
+plain_fault octets (Err fault.CannotWrite) read known = tt
+plain_fault octets (Err fault.TooLong) read known = absurd known
+plain_fault octets (Err fault.BadTopology) read known = absurd known
+plain_fault octets (Err fault.CannotRead) read known = absurd known
+plain_fault octets (Err fault.BadOptions) read known = absurd known
+plain_fault octets (Err (fault.BadLine number)) read known = absurd known
+
+pub input_fault : (octets : List ℕ) (f : ScriptFault) → IsInputFault octets f → IsFollowFault octets f
+input_fault octets fault.OutOfMemory known = inl known
+input_fault octets fault.CannotWrite known = tt
+input_fault octets fault.TooLong known = tt
+input_fault octets fault.BadTopology known = tt
+input_fault octets (fault.BadLine number) known = tt
+input_fault octets fault.CannotRead known = absurd known
+input_fault octets fault.BadOptions known = absurd known

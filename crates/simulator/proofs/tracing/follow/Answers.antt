@@ -1,7 +1,7 @@
 use Rattle.simulator.proofs.Common.{◌⊎◌, List, ℕ, OnOk, subst, Keeps, asked_of, ScriptFault, TracesOn, EndsOn}
 use Rattle.command_line.specs.Input.{IsInputFault}
 use Rattle.simulator.proofs.Traces.MixedTraced.{either_stopped, either_traced, plain_stopped, plain_traced}
-use Rattle.command_line.proofs.lemmas.{either_read, follow_fault, plain_read}
+use Rattle.command_line.proofs.lemmas.{either_read, follow_fault, input_fault, plain_fault, plain_read}
 use Rattle.simulator.proofs.Traces.Traced.{only_replayed}
 use Rattle.simulator.proofs.tracing.follow.Goals as goal
 
@@ -28,6 +28,14 @@ returns-in-Ok-clause-stopped g c = λ e.
 
 pub returns-in-Ok-clause-untouched : goal.returns-in-Ok-clause-untouched
 returns-in-Ok-clause-untouched g c = only_replayed _ c.trace_on.result c.trace_on.ensures.fault
+
+pub returns-in-Ok-clause-fault : goal.returns-in-Ok-clause-fault
+returns-in-Ok-clause-fault g c =
+    let input = c.in-Ok.field-0 in
+    plain_fault c.args.octets.now c.trace_on.result (input.network, asked_of input.events, c.in-Ok.ensures.read.input) c.trace_on.ensures.fault
+
+pub returns-in-Err-clause-fault : goal.returns-in-Err-clause-fault
+returns-in-Err-clause-fault g c = input_fault c.args.octets.now c.in-Err.fault c.in-Err.ensures.fault
 
 -- ---- with them
 
