@@ -147,3 +147,9 @@ pub shorter : (left this more : List ℕ) → left ≡ this ++ 10 ∷ more → l
 shorter left this more is =
     let long : length left ≡ length this + length (10 ∷ more) = ap length is ∙ length-append this (10 ∷ more) in
     omega (arith, long)
+
+-- by all the octets of the line
+pub shorter_by : (left this more : List ℕ) → left ≡ this ++ 10 ∷ more → 6 ≤ length this → 6 + length more ≤ length left
+shorter_by left this more is six =
+    let long : length left ≡ length this + length (10 ∷ more) = ap length is ∙ length-append this (10 ∷ more) in
+    omega (arith, long, six)

@@ -4,7 +4,7 @@ ghost use Rattle.std.specs.Prelude.{◌≡◌, ◌∷◌, ◌++◌, [], OnOk};
 ghost use Rattle.book_log.specs.Log.{fates_of, lives_of};
 ghost use Rattle.book_log.specs.Steps.{Adds, is_bare, opening_book};
 
-use crate::lines::Line;
+use crate::lines::{Line, crossings_ahead};
 use interface::Crossing;
 use net_sim::{BitLog, Life};
 use promise::Fate;
@@ -99,21 +99,37 @@ impl LoggedBook {
     }
 
     /// Puts what a line describes at the end of the book, and answers whether the line may be there: a crossing before all lives and lists,
-    /// a life before all lists. The last line of a log describes nothing.
+    /// a life before all lists. The last line of a log describes nothing. The text begins with the line.
     ///
     /// Errors: `AllocError`.
-    pub(crate) fn add(&mut self, line: Line) -> Result<bool, AllocError>
+    pub(crate) fn add(&mut self, line: Line, text: &[u8]) -> Result<bool, AllocError>
         ensures { Adds line self.old result self.new }
     {
         match line {
             Line::Crossed(crossing) if self.has_no_life() && self.has_no_list() => {
-                self.crossings.push(crossing)?;
+                self.add_crossing(crossing, text)?;
             }
             Line::Lived(life, fate) if self.has_no_list() => self.add_life(life, fate)?,
             Line::Handed(bits) => self.handed.push(bits)?,
             Line::Crossed(_) | Line::Lived(_, _) | Line::End => return Ok(false),
         }
         Ok(true)
+    }
+
+    /// Puts a crossing at the end. With the first, room is taken for all with which the text begins.
+    ///
+    /// Errors: `AllocError`.
+    fn add_crossing(&mut self, crossing: Crossing, text: &[u8]) -> Result<(), AllocError>
+        ensures { OnOk result (self.new ≡ record self.old { crossings = self.old.crossings ++ crossing ∷ [] }) }
+    {
+        let room = if self.crossings.is_empty() {
+            crossings_ahead(text)
+        } else {
+            0
+        };
+        self.crossings.reserve_exact(room)?;
+        self.crossings.push(crossing)?;
+        Ok(())
     }
 
     /// Puts a life with its fate at the end.

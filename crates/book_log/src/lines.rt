@@ -1,7 +1,8 @@
 //! The lines of a log.
 
 ghost use Rattle.promise.specs.Fates.{is_over};
-ghost use Rattle.std.specs.Prelude.{◌≡◌, ◌↔◌, IfOk, IsTrue, MatchResult};
+ghost use Rattle.std.specs.Bool.{OnTrue};
+ghost use Rattle.std.specs.Prelude.{◌≡◌, ◌↔◌, ◌*◌, ◌≤◌, IfOk, IsTrue, MatchResult, length};
 ghost use Rattle.script.specs.Spelling.{IsHost, IsMessage, ReadsAs};
 ghost use Rattle.world_replay.specs.Printed.{kind_text};
 ghost use Rattle.book_log.specs.Log.{HasOctets, IsAmount, IsHanded, IsLived, answer_name, fate_name};
@@ -13,6 +14,7 @@ use bit_messages::Bits;
 use interface::{Answer, Crossing, Flow, HostAddr, HostMessage, Text};
 use net_sim::{Amount, BitLog, Life};
 use promise::Fate;
+use script::reading::cut;
 use std::alloc::{AllocError, Global};
 
 /// What a line of a log describes.
@@ -26,6 +28,29 @@ pub(crate) enum Line {
     Handed(BitLog),
     /// That nothing follows.
     End,
+}
+
+/// Returns how many of the lines with which a text begins look like crossings, up to the first that doesn't.
+pub(crate) fn crossings_ahead(text: &[u8]) -> usize
+    ensures { 6 * result ≤ length text.now }
+{
+    let mut count = 0;
+    let mut left = text;
+    'lines: while let Some((line, more)) = cut(left, b'\n') {
+        if !may_cross(line) {
+            return count;
+        }
+        count += 1;
+        left = more;
+    }
+    count
+}
+
+/// Returns whether a line is as long as that of a crossing, and begins as `out`, `in`, `answer`, `down` or `up`.
+fn may_cross(line: &[u8]) -> bool
+    ensures { OnTrue result (6 ≤ length line.now) }
+{
+    line.len() >= 6 && matches!(line[0], b'o' | b'i' | b'a' | b'd' | b'u')
 }
 
 /// Returns what a line describes. `None` where it is no line of a log.

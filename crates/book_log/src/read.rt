@@ -64,7 +64,7 @@ fn read_book(alloc: Global, text: &[u8]) -> Result<LoggedBook, LogFault>
                 Err(LogFault::BadLine(passed + 2))
             };
         }
-        if !book.add(told)? {
+        if !book.add(told, left)? {
             return Err(LogFault::BadLine(passed + 1));
         }
         passed += 1;

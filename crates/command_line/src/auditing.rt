@@ -175,7 +175,7 @@ pub fn run_audit<R: Source, W: Output>(
     ensures untouched { IfErr result (λ f. f ≢ AuditFault.CannotWrite → writer.new ≡ writer.old) }
 {
     let octets = read_octets(alloc, reader)?;
-    let log = read_book(alloc, &octets)?;
+    let log = read_book(alloc, octets)?;
     let (layout, found) = judged(alloc, log)?;
     write_found(&layout, found, writer)?;
     Ok(found)
@@ -206,13 +206,13 @@ fn read_octets<R: Source>(alloc: Global, reader: &mut R) -> Result<Vec<u8>, Audi
     Err(AuditFault::OutOfMemory)
 }
 
-/// Returns the strangers and the book of a log.
+/// Returns the strangers and the book of a log, whose octets are no longer kept.
 ///
 /// Errors: `BadLog`, `OutOfMemory`.
-fn read_book(alloc: Global, octets: &[u8]) -> Result<Log, AuditFault>
-    ensures { MatchResult result (λ log. IsLog octets.now log.strangers.items log.book) (IsBookFault octets.now) }
+fn read_book(alloc: Global, octets: Vec<u8>) -> Result<Log, AuditFault>
+    ensures { MatchResult result (λ log. IsLog octets.items log.strangers.items log.book) (IsBookFault octets.items) }
 {
-    match read_log(alloc, octets) {
+    match read_log(alloc, &octets) {
         Ok(log) => Ok(log),
         Err(LogFault::BadLine(number)) => Err(AuditFault::BadLog(number)),
         Err(LogFault::OutOfMemory) => Err(AuditFault::OutOfMemory),

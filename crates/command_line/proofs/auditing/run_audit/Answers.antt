@@ -11,8 +11,7 @@ returns-clause-audited g c =
     let v : Verdict = c.in_ok-layout.found in
     let hosts = c.in_ok-log.log.strangers.items in
     let book = c.in_ok-log.log.book in
-    let log : IsLog c.in_ok-octets.octets.items hosts book =
-    subst (λ (o : List ℕ). IsLog o hosts book) c.deref.ensures.value c.in_ok-log.ensures in
+    let log : IsLog c.in_ok-octets.octets.items hosts book = c.in_ok-log.ensures in
     let written = subst (λ (l : Layout). Appends (g.W.Output.contents c.args.writer.now) (g.W.Output.contents c.write_found.new.writer) (found_text l v)) c.in_ok-layout.ensures.0 c.in_ok-write_found.ensures.written in
     audited c.in_ok-octets.octets.items v (g.W.Output.contents c.args.writer.now) (g.W.Output.contents c.write_found.new.writer)
     (audits c.in_ok-octets.octets.items hosts book v (g.W.Output.contents c.args.writer.now) (g.W.Output.contents c.write_found.new.writer) log c.in_ok-layout.ensures.1 written)
@@ -22,14 +21,13 @@ returns-clause-says g c =
     let v : Verdict = c.in_ok-layout.found in
     let hosts = c.in_ok-log.log.strangers.items in
     let book = c.in_ok-log.log.book in
-    let log : IsLog c.in_ok-octets.octets.items hosts book =
-    subst (λ (o : List ℕ). IsLog o hosts book) c.deref.ensures.value c.in_ok-log.ensures in
+    let log : IsLog c.in_ok-octets.octets.items hosts book = c.in_ok-log.ensures in
     let written = subst (λ (l : Layout). Appends (g.W.Output.contents c.args.writer.now) (g.W.Output.contents c.write_found.new.writer) (found_text l v)) c.in_ok-layout.ensures.0 c.in_ok-write_found.ensures.written in
     known_audited (g.R.Source.remaining c.args.reader.now) c.in_ok-octets.octets.items v (g.W.Output.contents c.args.writer.now) (g.W.Output.contents c.write_found.new.writer) c.in_ok-octets.ensures.whole
     (audits c.in_ok-octets.octets.items hosts book v (g.W.Output.contents c.args.writer.now) (g.W.Output.contents c.write_found.new.writer) log c.in_ok-layout.ensures.1 written)
 
 pub returns-clause-read : goal.returns-clause-read
-returns-clause-read g c = λ whole. some_log (g.R.Source.remaining c.args.reader.now) c.in_ok-octets.octets.items c.in_ok-log.log.strangers.items c.in_ok-log.log.book c.in_ok-octets.ensures.whole (subst (λ (o : List ℕ). IsLog o c.in_ok-log.log.strangers.items c.in_ok-log.log.book) c.deref.ensures.value c.in_ok-log.ensures)
+returns-clause-read g c = λ whole. some_log (g.R.Source.remaining c.args.reader.now) c.in_ok-octets.octets.items c.in_ok-log.log.strangers.items c.in_ok-log.log.book c.in_ok-octets.ensures.whole c.in_ok-log.ensures
 
 pub returns-in_err-octets-clause-read : goal.returns-in_err-octets-clause-read
 returns-in_err-octets-clause-read g c = λ whole.
@@ -41,13 +39,12 @@ pub returns-in_err-log-clause-read : goal.returns-in_err-log-clause-read
 returns-in_err-log-clause-read g c = λ whole.
     let same : c.from_residual-in_err-log.result ≡ Err c.in_err-log.field-0.0 = search rules in
     unlogged (g.R.Source.remaining c.args.reader.now) c.in_ok-octets.octets.items c.from_residual-in_err-log.result
-    c.in_err-log.field-0.0 c.in_ok-octets.ensures.whole same
-    (subst (λ (o : List ℕ). IsBookFault o c.in_err-log.field-0.0) c.deref.ensures.value c.in_err-log.ensures)
+    c.in_err-log.field-0.0 c.in_ok-octets.ensures.whole same c.in_err-log.ensures
 
 pub returns-in_err-write_found-clause-read : goal.returns-in_err-write_found-clause-read
 returns-in_err-write_found-clause-read g c = λ whole.
     let same : c.from_residual-in_err-write_found.result ≡ Err fault.CannotWrite = search rules in
-    unwritten (g.R.Source.remaining c.args.reader.now) c.in_ok-octets.octets.items c.in_ok-log.log.strangers.items c.in_ok-log.log.book c.from_residual-in_err-write_found.result c.in_ok-octets.ensures.whole same (subst (λ (o : List ℕ). IsLog o c.in_ok-log.log.strangers.items c.in_ok-log.log.book) c.deref.ensures.value c.in_ok-log.ensures)
+    unwritten (g.R.Source.remaining c.args.reader.now) c.in_ok-octets.octets.items c.in_ok-log.log.strangers.items c.in_ok-log.log.book c.from_residual-in_err-write_found.result c.in_ok-octets.ensures.whole same c.in_ok-log.ensures
 
 pub returns-clause-kept : goal.returns-clause-kept
 returns-clause-kept g c = λ whole.
@@ -68,7 +65,7 @@ returns-in_err-log-clause-kept g c = λ whole.
 pub returns-in_err-layout-clause-read : goal.returns-in_err-layout-clause-read
 returns-in_err-layout-clause-read g c = λ whole.
     let same : c.from_residual-in_err-layout.result ≡ Err fault.OutOfMemory = search rules in
-    unjudged (g.R.Source.remaining c.args.reader.now) c.in_ok-octets.octets.items c.in_ok-log.log.strangers.items c.in_ok-log.log.book c.from_residual-in_err-layout.result c.in_ok-octets.ensures.whole same (subst (λ (o : List ℕ). IsLog o c.in_ok-log.log.strangers.items c.in_ok-log.log.book) c.deref.ensures.value c.in_ok-log.ensures)
+    unjudged (g.R.Source.remaining c.args.reader.now) c.in_ok-octets.octets.items c.in_ok-log.log.strangers.items c.in_ok-log.log.book c.from_residual-in_err-layout.result c.in_ok-octets.ensures.whole same c.in_ok-log.ensures
 
 pub returns-in_err-layout-clause-kept : goal.returns-in_err-layout-clause-kept
 returns-in_err-layout-clause-kept g c = λ whole.
