@@ -10,6 +10,7 @@ use Rattle.replay.specs.declared.events.ReplayFault.TheVariants as replay
 use Rattle.command_line.proofs.Common.{IsInput}
 use Rattle.command_line.specs.Events.{Asked}
 use Rattle.command_line.specs.Faults.{told_as}
+use Rattle.command_line.specs.Events.{IsFirstBadIn}
 use Rattle.command_line.specs.Steps.{IsEventsFault}
 use Rattle.command_line.specs.declared.fault.ScriptFault.TheVariants as fault
 
@@ -56,7 +57,7 @@ unwritten r f failed is other whole = (λ e. absurd (other (ap err_of (sym is �
 -- once they describe a network, memory may run out for its script
 pub script_fault : (octets document script : List ℕ) (network : TopologyFields) (f : ScriptFault)
     → length octets ≤ 268435456 → IsParted octets document script → Describes document network
-    → IsEventsFault network.raw script f → IsInputFault octets f
+    → IsEventsFault (IsFirstBadIn network.raw) script f → IsInputFault octets f
 script_fault octets document script network (fault.BadLine number) short parted described known =
     record { short = short; document = document; script = script; network = network; parted = parted; described = described; bad = known }
 script_fault octets document script network fault.OutOfMemory short parted described known =

@@ -19,7 +19,9 @@ use Rattle.world_replay.specs.Kinds.{ReplaysBy, RunsOutBy, mixed_kind}
 use Rattle.world_replay.specs.Output as lines
 use Rattle.world_replay.proofs.lemmas.Gained.{replays_show, stops_show}
 use Rattle.command_line.specs.Mixed.{DescribesMixed, IsMixedInput, MixedEndsOver, MixedShowsFrom, MixedStopsFrom}
-use Rattle.command_line.specs.Steps.{IsMixedEventsFault}
+use Rattle.command_line.specs.Steps.{IsEventsFault}
+use Rattle.script.specs.Script.{IsFirstBadAs}
+use Rattle.world_script.specs.WorldSpelling.{IsWorldEvent, world_spelling}
 use Rattle.command_line.proofs.Replayed.Written.{shows_book}
 use Rattle.command_line.specs.declared.fault.ScriptFault.TheVariants as fault
 
@@ -41,7 +43,7 @@ no_strangers octets document script (fault.BadLine number) parted known refused 
 -- once they describe a network, memory may run out for its script, and for all that follows
 pub mixed_script : (octets document script : List ℕ) (network : MixedFields) (f : ScriptFault)
     → length octets ≤ 268435456 → IsParted octets document script → DescribesMixed document network
-    → IsMixedEventsFault script f → IsMixedFault octets f
+    → IsEventsFault (IsFirstBadAs world_spelling (IsWorldEvent true)) script f → IsMixedFault octets f
 mixed_script octets document script network (fault.BadLine number) short parted described known =
     record { short = short; document = document; script = script; network = network; parted = parted; described = described; bad = known }
 mixed_script octets document script network fault.OutOfMemory short parted described known =
@@ -52,7 +54,7 @@ mixed_script octets document script network fault.BadOptions short parted descri
 mixed_script octets document script network fault.CannotRead short parted described known = absurd known
 mixed_script octets document script network fault.CannotWrite short parted described known = absurd known
 
-pub mixed_wants : (octets : List ℕ) (network : MixedFields) (events : List MixedWorldEvent)
+pub mixed_wants : (octets : List ℕ) (network : MixedFields) (events : List WorldEvent)
     → IsMixedInput octets network events → IsMixedFault octets fault.OutOfMemory
 mixed_wants octets network events input =
     record { document = input.document; script = input.script; parted = input.parted; wants = inr (network, input.described) }
