@@ -6,3 +6,4 @@ mod OneProgram
 mod Recorded
 mod Traces
 mod WorkedPrograms
+mod WorkedSessions

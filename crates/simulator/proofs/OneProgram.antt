@@ -50,7 +50,7 @@ unmarked : (front rest : List (List ℕ)) → [] ∷ [] ≡ front ++ codes "%" �
 unmarked [] rest e = cc
 unmarked (x ∷ front) rest e = none_left front rest (codes "%") (cc)
 
-no_parts : (topology script : List ℕ) → IsParted [] topology script → ⊥
+pub no_parts : (topology script : List ℕ) → IsParted [] topology script → ⊥
 no_parts topology script h = elim h.lines [
   | inl e ↦ unmarked h.before _ e
   | inr e ↦ unmarked h.before _ e.0

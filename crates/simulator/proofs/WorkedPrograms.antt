@@ -33,7 +33,7 @@ cons : (x : ℕ) (xs : List ℕ) → x ∷ xs ≡ [] → ⊥
 cons x xs e = cc
 
 -- what was kept of nothing is nothing
-kept_nothing : (written : Option (List ℕ)) (x : ℕ) → Keeps (Some []) written → Keeps written (Some (x ∷ [])) → ⊥
+pub kept_nothing : (written : Option (List ℕ)) (x : ℕ) → Keeps (Some []) written → Keeps written (Some (x ∷ [])) → ⊥
 kept_nothing None x h k = h
 kept_nothing (Some ys) x h k = cons x [] (k ∙ h)
 
@@ -197,7 +197,7 @@ ends_some : (a : List ℕ) → a ++ codes "end\n" ≡ [] → ⊥
 ends_some [] e = cc
 ends_some (x ∷ a) e = cc
 
-nothing_ended : (a : List ℕ) (written : Option (List ℕ)) → Appends (Some []) written (a ++ codes "end\n") →
+pub nothing_ended : (a : List ℕ) (written : Option (List ℕ)) → Appends (Some []) written (a ++ codes "end\n") →
     Keeps written (Some []) → ⊥
 nothing_ended a None h k = h
 nothing_ended a (Some ys) h k = ends_some a (sym h ∙ sym k)

@@ -9,9 +9,13 @@ use Rattle.simulator.specs.declared.program.Done.{Done}
 use Rattle.simulator.specs.declared.program.ProgramFault.{ProgramFault}
 use Rattle.simulator.specs.declared.program.ProgramFault.TheVariants as fault
 
+-- these octets are read, and those are written
+abbrev pub ran : List ℕ → List ℕ → Sides
+ran input output = sides (Some input) (Some []) false (Some []) (Some output)
+
 -- nothing was to be read, and these octets are written
 abbrev pub wrote : List ℕ → Sides
-wrote octets = sides (Some []) (Some []) false (Some []) (Some octets)
+wrote octets = ran [] octets
 
 -- these octets are left to be read, and nothing is written
 abbrev pub unread : List ℕ → Sides
@@ -19,7 +23,7 @@ unread octets = sides (Some octets) (Some octets) false (Some []) (Some [])
 
 -- this octet is read, and nothing is written
 abbrev pub drained : ℕ → Sides
-drained x = sides (Some (x ∷ [])) (Some []) false (Some []) (Some [])
+drained x = ran (x ∷ []) []
 
 -- no option, and only `--check`
 abbrev pub no_options : Options

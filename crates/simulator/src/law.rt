@@ -1,7 +1,7 @@
 //! What traces and the whole program promise, as laws over their definitions. The functions here do
 //! nothing: their clauses are the laws.
 
-ghost use Rattle.std.specs.Prelude.{◌≡◌, ℕ, Bool, true, false, List, [], ◌∷◌, length};
+ghost use Rattle.std.specs.Prelude.{◌≡◌, ℕ, Bool, true, false, List, [], ◌∷◌, ◌++◌, length};
 ghost use Rattle.std.specs.Prelude.{Ok, Err, Some, None, codes};
 ghost use Rattle.simulator.specs.Laws.{OneProgram, OneTrace};
 ghost use Rattle.simulator.specs.Named.{input_of};
@@ -9,13 +9,14 @@ ghost use Rattle.simulator.specs.Program.{Closes, EndsTask, LeavesUntouched, Sid
 ghost use Rattle.simulator.specs.Recorded.{PrintsTrace, recorded_text, unforgotten};
 ghost use Rattle.command_line.specs.Audits.{kept};
 ghost use Rattle.simulator.specs.WorkedSides.{Names, Never, starts};
-ghost use Rattle.simulator.specs.WorkedSides.{drained, no_options, only_check, out_of_memory, unread, wrote};
+ghost use Rattle.simulator.specs.WorkedSides.{drained, no_options, only_check, out_of_memory, ran, unread, wrote};
 ghost use Rattle.command_line.specs.declared.auditing.AuditFault.TheVariants as unlogged;
 ghost use Rattle.command_line.specs.declared.fault.ScriptFault.TheVariants as script;
 ghost use Rattle.command_line.specs.declared.options.Task.TheVariants as task;
 ghost use Rattle.simulator.specs.declared.program.Done.TheVariants as did;
 ghost use Rattle.simulator.specs.declared.program.ProgramFault.TheVariants as fault;
 ghost use Rattle.command_line.specs.declared.verdict.Verdict.{Verdict};
+ghost use Rattle.session.specs.Head.{IsHead};
 
 use command_line::law::{first_part, one_log, one_output};
 
@@ -67,6 +68,14 @@ pub fn worked_programs()
     // help that is not written, and words that ask for nothing taken for a replay
     ensures no_help { Never task.Help (wrote []) (Ok did.Written) }
     ensures not_refused { (s : Sides) → EndsTask None None s (Ok did.Written) → ⊥ }
+
+    // a session of nothing, one that writes nothing, and a line without its empty line, as in a plain replay
+    ensures no_input { Never task.Live (wrote (codes "end\n")) (Ok did.Written) }
+    ensures no_session { Never task.Live (wrote []) (Ok did.Written) }
+    ensures unanswered { (head document : List ℕ) → IsHead head document → Never task.Live (ran (head ++ codes "\n") (codes "end\n")) (Ok did.Written) }
+
+    // something that is written before a topology is found to be bad
+    ensures answered_first { (input : List ℕ) (x : ℕ) → Never task.Live (ran input (x ∷ [])) (Err (fault.Script script.BadTopology)) }
 
     // what was written is held back when memory runs out, and something is written before a bad line is found
     ensures held_back { Closes out_of_memory false false false ⊥ → ⊥ }

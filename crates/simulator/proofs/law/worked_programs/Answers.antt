@@ -1,4 +1,5 @@
 use Rattle.simulator.proofs.WorkedPrograms.{audit_memory, check_memory, held_back, left, left_written, log_memory, no_help, no_log, no_trace, not_ok, not_refused}
+use Rattle.simulator.proofs.WorkedSessions.{answered_first, no_input, no_session, unanswered}
 use Rattle.simulator.proofs.law.worked_programs.Goals as goal
 
 pub returns-clause-log_memory : goal.returns-clause-log_memory
@@ -33,3 +34,15 @@ returns-clause-held_back c = held_back
 
 pub returns-clause-left_written : goal.returns-clause-left_written
 returns-clause-left_written c = left_written
+
+pub returns-clause-no_input : goal.returns-clause-no_input
+returns-clause-no_input c = no_input
+
+pub returns-clause-no_session : goal.returns-clause-no_session
+returns-clause-no_session c = no_session
+
+pub returns-clause-unanswered : goal.returns-clause-unanswered
+returns-clause-unanswered c = unanswered
+
+pub returns-clause-answered_first : goal.returns-clause-answered_first
+returns-clause-answered_first c = answered_first
