@@ -13,7 +13,7 @@ use Rattle.script.specs.Input.{ended_line}
 use Rattle.script.specs.Script.{lines_of}
 use Rattle.session.specs.Hearing.{Hearing, Hears, IsEnded, IsLine, IsTooLong, hearing}
 use Rattle.session.specs.Head.{HasNoHead, IsHead, WasNoHead}
-use Rattle.session.proofs.Lines.{hears_both}
+use Rattle.session.proofs.Lines.{by_read, hears_both}
 use Rattle.session.proofs.Turns.{first_line, first_lines}
 
 -- octets are the lines of a topology so far
@@ -81,14 +81,8 @@ said (Some xs) h = h
 -- why hearing ended
 pub unheard : (known : Option (List ℕ)) (mid : Hearing) (octets : List ℕ) (f : ScriptFault) → Hears (record { heard = 0; left = known }) mid octets
     → IsReadFault f → (f ≡ fault.TooLong → IsTooLong mid) → WasNoHead known f
-unheard known mid octets fault.TooLong h read long =
-    (λ e. cc, λ e. cc, longer_before known mid.heard mid.left octets h (long refl))
-unheard known mid octets fault.CannotRead h read long = (λ e. cc, λ e. cc, said known tt)
-unheard known mid octets fault.OutOfMemory h read long = (λ e. cc, λ e. cc, said known tt)
-unheard known mid octets fault.BadTopology h read long = absurd read
-unheard known mid octets fault.CannotWrite h read long = absurd read
-unheard known mid octets fault.BadOptions h read long = absurd read
-unheard known mid octets (fault.BadLine number) h read long = absurd read
+unheard known mid octets f h read long = by_read (WasNoHead known) f read
+    (λ e. (λ x. cc, λ x. cc, longer_before known mid.heard mid.left octets h (long e))) (λ x. cc, λ x. cc, said known tt) (λ x. cc, λ x. cc, said known tt)
 
 -- the input ended before its marker line
 pub unended : (known : Option (List ℕ)) (mid last : Hearing) (octets line : List ℕ) → Hears (record { heard = 0; left = known }) mid octets

@@ -6,6 +6,9 @@ use Rattle.std.proofs.lemmas.List.Elements.{All-append}
 use Rattle.std.proofs.Math.Seq.{take-append_seam}
 use Rattle.std.specs.Io.KnownBytes.{Consumes, IsAtEnd, Keeps, prepend_known}
 use Rattle.script.specs.Input.{ended_line}
+use Rattle.command_line.specs.Steps.{IsReadFault}
+use Rattle.command_line.specs.declared.fault.ScriptFault.{ScriptFault}
+use Rattle.command_line.specs.declared.fault.ScriptFault.TheVariants as fault
 use Rattle.session.specs.Hearing.{EndsAt, Hearing, Hears, IsEnded, IsHeard, IsLine, IsTooLong, hearing}
 
 -- what was read before has no end of a line, and the line's end has come
@@ -73,3 +76,13 @@ nothing false (x ∷ line) left heard none = absurd (omega (arith, none))
 pub either_line : (whole : Bool) (line : List ℕ) (left : Option (List ℕ)) → IsHeard whole line left → IsEnded line ⊎ IsLine line
 either_line true line left h = inl h
 either_line false line left h = inr h.0
+
+-- what is so of each fault of hearing
+pub by_read : (P : ScriptFault → Type 0) (f : ScriptFault) → IsReadFault f → (f ≡ fault.TooLong → P fault.TooLong) → P fault.CannotRead → P fault.OutOfMemory → P f
+by_read P fault.TooLong read long failed memory = long refl
+by_read P fault.CannotRead read long failed memory = failed
+by_read P fault.OutOfMemory read long failed memory = memory
+by_read P fault.BadTopology read long failed memory = absurd read
+by_read P fault.CannotWrite read long failed memory = absurd read
+by_read P fault.BadOptions read long failed memory = absurd read
+by_read P (fault.BadLine number) read long failed memory = absurd read

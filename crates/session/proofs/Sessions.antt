@@ -1,26 +1,32 @@
 -- A session is of an input.
-use Rattle.std.proofs.Common.{◌≡◌, ◌≤◌, ◌+◌, ◌∙◌, ℕ, List, [], ◌++◌, Option, None, Some, Result, Ok, Err, IfErr, IfSome, ap, arith, codes, drop, inl, inr, length, refl, subst, sym, take, ◌⊎◌}
+use Rattle.std.proofs.Common.{◌≡◌, ◌≤◌, ◌+◌, ◌∙◌, ℕ, List, [], ◌++◌, Option, None, Some, Result, Ok, Err, IfErr, IfSome, ap, arith, codes, drop, false, inl, inr, length, refl, subst, sym, take, ◌⊎◌}
 use Rattle.std.proofs.KnownBytes.{Appends-trans, Consumes-trans, Consumes-whole, Keeps-trans}
 use Rattle.std.proofs.lemmas.Grind.{flat_map-append}
-use Rattle.std.proofs.lemmas.List.{append-nil, append_assoc, length-append, take-append-drop}
+use Rattle.std.proofs.lemmas.List.{append-nil, length-append, take-append-drop}
 use Rattle.std.specs.Io.KnownBytes.{Appends, Keeps}
+use Rattle.replay.specs.declared.print.Detail.TheVariants.{Texts}
 use Rattle.script.proofs.lemmas.{parted_once}
 use Rattle.script.specs.Input.{IsParted}
+use Rattle.script.specs.Script.{lines_of}
 use Rattle.topology.specs.Mixed.{MixedFields}
 use Rattle.topology.specs.Topology.{TopologyFields}
+use Rattle.topology.specs.declared.network.CarrierKind.{CarrierKind}
+use Rattle.topology.specs.declared.network.CarrierKind.TheVariants as kind
+use Rattle.world_script.specs.WorldScript.{AskFor}
 use Rattle.world_script.specs.declared.event.WorldEvent.{WorldEvent}
 use Rattle.command_line.specs.Described.{Describes}
 use Rattle.command_line.specs.Either.{IsEitherFault}
-use Rattle.command_line.specs.Events.{Asked}
+use Rattle.command_line.specs.Events.{Asked, AsksFor}
 use Rattle.command_line.specs.Input.{IsInput, IsInputFault}
-use Rattle.command_line.specs.Mixed.{DescribesMixed, IsMixedFault, IsMixedInput}
+use Rattle.command_line.specs.Mixed.{DescribesMixed, IsMixedInput, MixedReplaysOver}
+use Rattle.command_line.specs.Replayed.{ReplaysOver}
 use Rattle.command_line.specs.declared.fault.ScriptFault.{ScriptFault}
 use Rattle.command_line.specs.declared.fault.ScriptFault.TheVariants as fault
 use Rattle.session.specs.Hearing.{Hearing, Hears, hearing}
 use Rattle.session.specs.Head.{HasNoHead, IsHead}
-use Rattle.session.specs.Session.{EndsEarly, IsSession, Opens, Serving, after_head, on, on_mixed}
+use Rattle.session.specs.Session.{EndsEarly, IsSession, PrintsOn, Serving, after_head, on}
 use Rattle.session.proofs.Turns.{cause_as}
-use Rattle.session.specs.Turns.{Breaks, Ends, IsCause, Reading, Serves, Turn, answers_of, script_of, session_of}
+use Rattle.session.specs.Turns.{Breaks, Ends, Reading, Serves, Turn, answers_of, script_of, session_of}
 
 -- the first lines are no longer than all
 shorter : (turns : List Turn) (n : ℕ) → length (script_of (take n turns)) ≤ length (script_of turns)
@@ -80,6 +86,16 @@ module _ {r q : Reading} (old : Hearing) (t : Translates old.heard r q) where
 
 -- ---- after a head
 
+plain_on : (k : CarrierKind) (t : TopologyFields) (script said : List ℕ) → PrintsOn k t None script said
+    → (events : Asked) × AsksFor t.raw events (lines_of script) × ReplaysOver k t false Texts events (Some []) (Some (said ++ codes "end\n"))
+plain_on kind.Plain t script said h = h
+plain_on kind.Subnet t script said h = h
+
+mixed_on : (k : CarrierKind) (t : MixedFields) (script said : List ℕ) → PrintsOn k t.network (Some t.strangers) script said
+    → (events : List WorldEvent) × AskFor true events (lines_of script) × MixedReplaysOver k t false Texts events (Some []) (Some (said ++ codes "end\n"))
+mixed_on kind.Plain t script said h = h
+mixed_on kind.Subnet t script said h = h
+
 module _ (head document : List ℕ) (opens : IsHead head document) where
   -- the head has one topology
   one_document : (other script : List ℕ) → IsParted head other script → other ≡ document
@@ -89,60 +105,50 @@ module _ (head document : List ℕ) (opens : IsHead head document) where
   short_after : (script : List ℕ) → length head + length script ≤ 268435456 → length (head ++ script) ≤ 268435456
   short_after script short = (let both : length (head ++ script) ≡ length head + length script = length-append head script in omega (arith, both, short))
 
-  pub mixed_reads : (network : MixedFields) (events : List WorldEvent) → IsMixedInput head network events
-      → Translates (length head) (on_mixed network) (after_head head)
-  mixed_reads network events input =
-      let described : DescribesMixed document network =
-      subst (λ (text : List ℕ). DescribesMixed text network) (one_document input.document input.script input.parted) input.described in
+  pub mixed_reads : (t : MixedFields) (events : List WorldEvent) → IsMixedInput head t events
+      → Translates (length head) (on t.network (Some t.strangers)) (after_head head)
+  mixed_reads t events input =
+      let described : DescribesMixed document t =
+      subst (λ (text : List ℕ). DescribesMixed text t) (one_document input.document input.script input.parted) input.described in
       record {
-        prints = λ script said short h. inr (record {
-          network = network;
-          events = h.0;
-          input = record { short = short_after script short; document = document; script = script; parted = opens script; described = described; asked = h.1 };
-          replayed = h.2;
-        });
+        prints = λ script said short h. (let (asked, is, replayed) = mixed_on t.network.carrier t script said h in inr (record {
+          network = t;
+          events = asked;
+          input = record { short = short_after script short; document = document; script = script; parted = opens script; described = described; asked = is };
+          replayed = replayed;
+        }));
         refuses = λ script number short bad. inr (record {
           short = short_after script short;
           document = document;
           script = script;
-          network = network;
+          network = t;
           parted = opens script;
           described = described;
           bad = bad;
         });
       }
 
-  pub plain_reads : (network : TopologyFields) (events : Asked) → IsInput head network events → Translates (length head) (on network) (after_head head)
-  plain_reads network events input =
-      let described : Describes document network =
-      subst (λ (text : List ℕ). Describes text network) (one_document input.document input.script input.parted) input.described in
+  pub plain_reads : (t : TopologyFields) (events : Asked) → IsInput head t events → Translates (length head) (on t None) (after_head head)
+  plain_reads t events input =
+      let described : Describes document t =
+      subst (λ (text : List ℕ). Describes text t) (one_document input.document input.script input.parted) input.described in
       record {
-        prints = λ script said short h. inl (record {
-          network = network;
-          events = h.0;
-          input = record { short = short_after script short; document = document; script = script; parted = opens script; described = described; asked = h.1 };
-          replayed = h.2;
-        });
+        prints = λ script said short h. (let (asked, is, replayed) = plain_on t.carrier t script said h in inl (record {
+          network = t;
+          events = asked;
+          input = record { short = short_after script short; document = document; script = script; parted = opens script; described = described; asked = is };
+          replayed = replayed;
+        }));
         refuses = λ script number short bad. inl (record {
           short = short_after script short;
           document = document;
           script = script;
-          network = network;
+          network = t;
           parted = opens script;
           described = described;
           bad = bad;
         });
       }
-
--- a head that is no input for either reason
-pub bad_head : (head : List ℕ) (f : ScriptFault) → IsInputFault head fault.BadTopology → IsMixedFault head f → IsEitherFault head f
-bad_head head (fault.BadLine number) plain mixed = inr mixed
-bad_head head fault.TooLong plain mixed = mixed
-bad_head head fault.BadTopology plain mixed = (plain, mixed)
-bad_head head fault.CannotRead plain mixed = mixed
-bad_head head fault.OutOfMemory plain mixed = tt
-bad_head head fault.CannotWrite plain mixed = inr mixed
-bad_head head fault.BadOptions plain mixed = mixed
 
 pub plain_head : (head : List ℕ) (f : ScriptFault) → (f ≡ fault.BadTopology → ⊥) → IsInputFault head f → IsEitherFault head f
 plain_head head (fault.BadLine number) other plain = inl plain
@@ -157,7 +163,8 @@ plain_head head fault.BadOptions other plain = plain
 pub served : (head : List ℕ) (old : Hearing) (before after : Option (List ℕ)) (result : Result (Unit {0}) ScriptFault)
     → Ends (after_head head) old before after result → Serving head old before after result
 served head old before after (Ok done) h = h
-served head old before after (Err f) h = inr h
+served head old before after (Err f) (inl breaks) = inr breaks
+served head old before after (Err f) (inr (is, kept)) = inl (subst (λ g. IsEitherFault head g) (sym is) tt, kept)
 
 -- ---- the whole session
 
@@ -177,12 +184,20 @@ serves_first opening before said kept h = record {
   written = kept_first opening before said (session_of h.turns) kept h.written;
 }
 
+pub serving_first : (head : List ℕ) (old : Hearing) (opening before after : Option (List ℕ)) (result : Result (Unit {0}) ScriptFault) → Keeps opening before
+    → Serving head old before after result → Serving head old opening after result
+unfolding serves_first
+serving_first head old opening before after (Ok done) kept (last, h, end) = (last, serves_first opening before after kept h, end)
+serving_first head old opening before after (Err f) kept (inl (bad, more)) = inl (bad, Keeps-trans opening before after kept more)
+serving_first head old opening before after (Err f) kept (inr h) =
+    inr (record { last = h.last; said = h.said; serves = serves_first opening before h.said kept h.serves; cause = h.cause })
+
 -- all lines of the script that follows a head are answered
-pub whole_session : (known : Option (List ℕ)) (head document : List ℕ) (mid : Hearing) (opening before said after : Option (List ℕ)) → IsHead head document
-    → Hears (record { heard = 0; left = known }) mid head → Keeps opening before → Serving head mid before said (Ok tt)
-    → Appends said after (codes "end\n") → IfSome known (λ octets. IsSession octets opening after)
-whole_session known head document mid opening before said after opens k kept (last, h, over) end =
-    Consumes-whole known last.left (head ++ script_of h.turns) (λ octets. IsSession octets opening after)
+pub whole_session : (known : Option (List ℕ)) (head document : List ℕ) (mid : Hearing) (before said after : Option (List ℕ)) → IsHead head document
+    → Hears (record { heard = 0; left = known }) mid head → Serving head mid before said (Ok tt)
+    → Appends said after (codes "end\n") → IfSome known (λ octets. IsSession octets before after)
+whole_session known head document mid before said after opens k (last, h, over) end =
+    Consumes-whole known last.left (head ++ script_of h.turns) (λ octets. IsSession octets before after)
     (Consumes-trans known mid.left last.left head (script_of h.turns) k.consumed h.heard.consumed) over
     (record {
       head = head;
@@ -191,46 +206,25 @@ whole_session known head document mid opening before said after opens k kept (la
       turns = h.turns;
       whole = refl;
       answers = h.answers;
-      written = kept_first opening before after (session_of h.turns ++ codes "end\n") kept
-          (Appends-trans before said after (session_of h.turns) (codes "end\n") h.written end);
+      written = Appends-trans before said after (session_of h.turns) (codes "end\n") h.written end;
     })
 
--- no head was heard
-pub no_head : (known : Option (List ℕ)) (f : ScriptFault) (before after : Option (List ℕ)) → IfSome known (λ octets. HasNoHead octets f) → Keeps before after
-    → IfSome known (λ octets. EndsEarly octets f before after)
-no_head None f before after h kept = tt
-no_head (Some xs) f before after h kept = inl (h, kept)
-
--- a head was heard
-after_one : (known rest : Option (List ℕ)) (head document ahead : List ℕ) (f : ScriptFault) (before after : Option (List ℕ)) → IsHead head document
-    → Hears (record { heard = 0; left = known }) (hearing (length head) ahead rest) head
-    → (IsEitherFault head f × Keeps before after) ⊎ Breaks (after_head head) (hearing (length head) ahead rest) f before after
-    → IfSome known (λ octets. EndsEarly octets f before after)
-after_one None rest head document ahead f before after opens k h = tt
-after_one (Some xs) None head document ahead f before after opens k h = absurd k.consumed
-after_one (Some xs) (Some zs) head document ahead f before after opens k h =
-    inr (head, ahead ++ zs, record { document = document; opens = opens; whole = k.consumed }, h)
-
-ended : (head : List ℕ) (old : Hearing) (f : ScriptFault) (opening before after : Option (List ℕ)) → Keeps opening before
-    → Serving head old before after (Err f) → (IsEitherFault head f × Keeps opening after) ⊎ Breaks (after_head head) old f opening after
-unfolding serves_first
-ended head old f opening before after kept (inl (bad, more)) = inl (bad, Keeps-trans opening before after kept more)
-ended head old f opening before after kept (inr (inl h)) =
-    inr (record { last = h.last; said = h.said; serves = serves_first opening before h.said kept h.serves; cause = h.cause })
-ended head old f opening before after kept (inr (inr (is, more))) =
-    inl (subst (λ g. IsEitherFault head g) (sym is) tt, Keeps-trans opening before after kept more)
-
 module _ (known rest : Option (List ℕ)) (head document ahead : List ℕ) (opens : IsHead head document)
-    (k : Hears (record { heard = 0; left = known }) (hearing (length head) ahead rest) head) (opening before : Option (List ℕ)) (kept : Keeps opening before) where
-  pub early_session : (f : ScriptFault) (after : Option (List ℕ)) → Serving head (hearing (length head) ahead rest) before after (Err f)
-      → IfSome known (λ octets. EndsEarly octets f opening after)
-  early_session f after h =
-      after_one known rest head document ahead f opening after opens k (ended head (hearing (length head) ahead rest) f opening before after kept h)
+    (k : Hears (record { heard = 0; left = known }) (hearing (length head) ahead rest) head) where
+  -- a head was heard
+  pub early_session : (f : ScriptFault) (before after : Option (List ℕ)) → Serving head (hearing (length head) ahead rest) before after (Err f)
+      → IfSome known (λ octets. EndsEarly octets f before after)
+  early_session f before after h = by known rest k.consumed h
+    where
+      by : (known rest : Option (List ℕ)) → Consumes known (prepend_known ahead rest) head
+          → Serving head (hearing (length head) ahead rest) before after (Err f) → IfSome known (λ octets. EndsEarly octets f before after)
+      by None rest consumed h = tt
+      by (Some xs) None consumed h = absurd consumed
+      by (Some xs) (Some zs) consumed h = inr (head, ahead ++ zs, record { document = document; opens = opens; whole = consumed }, h)
 
   -- the last line couldn't be written
-  pub no_end : (said after : Option (List ℕ)) (result : Result (Unit {0}) ScriptFault) → Serving head (hearing (length head) ahead rest) before said (Ok tt)
-      → IfErr result (λ f. f ≡ fault.CannotWrite) → IfErr result (λ f. IfSome known (λ octets. EndsEarly octets f opening after))
-  no_end said after (Ok done) h is = tt
-  no_end said after (Err f) (last, h, over) is = subst (λ g. IfSome known (λ octets. EndsEarly octets g opening after)) (sym is)
-      (after_one known rest head document ahead fault.CannotWrite opening after opens k
-      (inr (record { last = last; said = said; serves = serves_first opening before said kept h; cause = tt })))
+  pub no_end : (before said after : Option (List ℕ)) (result : Result (Unit {0}) ScriptFault) → Serving head (hearing (length head) ahead rest) before said (Ok tt)
+      → IfErr result (λ f. f ≡ fault.CannotWrite) → IfErr result (λ f. IfSome known (λ octets. EndsEarly octets f before after))
+  no_end before said after (Ok done) h is = tt
+  no_end before said after (Err f) (last, h, over) is = subst (λ g. IfSome known (λ octets. EndsEarly octets g before after)) (sym is)
+      (early_session fault.CannotWrite before after (inr (record { last = last; said = said; serves = h; cause = tt })))

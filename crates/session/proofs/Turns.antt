@@ -2,8 +2,7 @@
 use Rattle.std.proofs.Common.{◌≡◌, ◌≢◌, ◌≤◌, ◌⊎◌, ◌==◌, ◌∙◌, ◌+◌, ◌-◌, inl, inr, ℕ, zero, suc, true, List, [], ◌∷◌, ◌++◌, drop, filter, length, slice_get, take, Option, Some, refl, ap, ap₂, sym, subst}
 use Rattle.std.proofs.KnownBytes.{Appends-nil, Appends-trans, Keeps-refl}
 use Rattle.std.proofs.Math.Seq.{drop-append_seam, take-append_seam}
-use Rattle.std.proofs.lemmas.Grind.{flat_map-append}
-use Rattle.std.proofs.lemmas.List.{append-nil, append_assoc, length-append, map-append}
+use Rattle.std.proofs.lemmas.List.{append-nil, append_assoc, flat_map_more, length-append, map-append}
 use Rattle.std.proofs.lemmas.List.Elements.{All-append, All-cons, All-head, All-nil, All-tail, filter-append}
 use Rattle.std.proofs.lemmas.List.Splits.{slice_split_at, slice_split_none}
 use Rattle.std.specs.Io.KnownBytes.{Appends}
@@ -17,20 +16,11 @@ use Rattle.command_line.specs.declared.fault.ScriptFault.{ScriptFault}
 use Rattle.command_line.specs.declared.fault.ScriptFault.TheVariants as fault
 use Rattle.session.specs.Hearing.{Hearing, Hears, IsEnded, IsLine, IsTooLong}
 use Rattle.session.specs.Turns.{AreLines, Breaks, GoesOn, IsAnswered, IsBadLine, IsCause, IsRefused, Leads, Prints, Replaying, Serves, Turn, answers_of, reading, script_of, session_of}
-use Rattle.session.proofs.Lines.{hears_both, hears_none}
+use Rattle.session.proofs.Lines.{by_read, hears_both, hears_none}
 
 -- all lines have their ends
 abbrev pub AreEnded : List Turn → Type 0
 AreEnded turns = All (λ (t : Turn). IsEnded t.line) turns
-
-script_more : (turns : List Turn) (t : Turn) → script_of (turns ++ t ∷ []) ≡ script_of turns ++ t.line
-script_more turns t = flat_map-append (λ (u : Turn). u.line) turns (t ∷ []) ∙ ap (λ xs. script_of turns ++ xs) (append-nil t.line)
-
-answers_more : (turns : List Turn) (t : Turn) → answers_of (turns ++ t ∷ []) ≡ answers_of turns ++ t.answer
-answers_more turns t = flat_map-append (λ (u : Turn). u.answer) turns (t ∷ []) ∙ ap (λ xs. answers_of turns ++ xs) (append-nil t.answer)
-
-session_more : (turns : List Turn) (t : Turn) → session_of (turns ++ t ∷ []) ≡ session_of turns ++ ended_line t.answer
-session_more turns t = flat_map-append (λ (u : Turn). ended_line u.answer) turns (t ∷ []) ∙ ap (λ xs. session_of turns ++ xs) (append-nil (ended_line t.answer))
 
 -- ---- lines with their ends, and a last one
 
@@ -151,15 +141,6 @@ cause_as fault.CannotWrite said after so long h = h
 cause_as fault.BadTopology said after so long h = h
 cause_as fault.BadOptions said after so long h = h
 
-unheard : (R : ℕ → Type 0) {L : Type 0} (f : ScriptFault) (said : Option (List ℕ)) → IsReadFault f → (f ≡ fault.TooLong → L) → IsCause R L f said said
-unheard R (fault.BadLine number) said read long = absurd read
-unheard R fault.TooLong said read long = (long refl, Keeps-refl said)
-unheard R fault.CannotRead said read long = Keeps-refl said
-unheard R fault.OutOfMemory said read long = ([], Appends-nil said)
-unheard R fault.CannotWrite said read long = absurd read
-unheard R fault.BadTopology said read long = absurd read
-unheard R fault.BadOptions said read long = absurd read
-
 -- ---- a session begins, continues and ends
 
 -- this many lines so far have their ends and are answered, and the network is where their events lead
@@ -178,10 +159,10 @@ module _ {S E : Type 0} {spelled : E → List ℕ} {IsMeant : E → Type 0} {Rep
     events = h.events ++ k.events;
     asked = record {
       spelled = map-append spelled h.events k.events ∙ ap₂ (λ (xs ys : List (List ℕ)). xs ++ ys) h.asked.spelled k.asked.spelled
-          ∙ sym (asked_after turns t.line ended) ∙ ap (λ (xs : List ℕ). filter asks (lines_of xs)) (sym (script_more turns t));
+          ∙ sym (asked_after turns t.line ended) ∙ ap (λ (xs : List ℕ). filter asks (lines_of xs)) (flat_map_more (λ (u : Turn). u.line) [] turns t);
       meant = All-append IsMeant h.events k.events h.asked.meant k.asked.meant;
     };
-    replayed = subst (Replays opening (h.events ++ k.events) new) (sym (answers_more turns t))
+    replayed = subst (Replays opening (h.events ++ k.events) new) (flat_map_more (λ (u : Turn). u.answer) [] turns t)
         (goes_on opening mid new h.events k.events (answers_of turns) t.answer h.replayed k.replayed);
   }
 
@@ -209,7 +190,7 @@ module _ {S E : Type 0} {spelled : E → List ℕ} {IsMeant : E → Type 0} {Rep
       → Standing spelled IsMeant Replays opening now old here before mid passed → IsReadFault f → (f ≡ fault.TooLong → IsTooLong here)
       → Breaks (reading spelled IsMeant Replays opening) old f before mid
   breaks_unheard {opening} {now} {old} {here} {before} {mid} f h read long =
-      record { last = here; said = mid; serves = h.serves; cause = unheard _ f mid read long }
+      record { last = here; said = mid; serves = h.serves; cause = by_read (λ g. IsCause _ (IsTooLong here) g mid mid) f read (λ e. (long e, Keeps-refl mid)) (Keeps-refl mid) ([], Appends-nil mid) }
 
   module _ {opening now : S} {old here next : Hearing} {line : List ℕ} {before mid : Option (List ℕ)} {passed : ℕ}
       (h : Standing spelled IsMeant Replays opening now old here before mid passed) (k : Hears here next line) (short : next.heard ≤ 268435456) where
@@ -236,7 +217,7 @@ module _ {S E : Type 0} {spelled : E → List ℕ} {IsMeant : E → Type 0} {Rep
           let P : List Turn → Type 0 = λ us. Prints spelled IsMeant Replays opening (script_of us) (answers_of us) in
           record {
             turns = answered;
-            heard = subst (Hears old next) (sym (script_more h.serves.turns t)) (hears_both h.serves.heard k);
+            heard = subst (Hears old next) (flat_map_more (λ (u : Turn). u.line) [] h.serves.turns t) (hears_both h.serves.heard k);
             answers = record {
               lines = lines;
               in_turn = λ n. elim (take_more h.serves.turns t n) [
@@ -245,7 +226,7 @@ module _ {S E : Type 0} {spelled : E → List ℕ} {IsMeant : E → Type 0} {Rep
               ];
             };
             short = short;
-            written = subst (Appends before after) (sym (session_more h.serves.turns t))
+            written = subst (Appends before after) (flat_map_more (λ (u : Turn). ended_line u.answer) [] h.serves.turns t)
                 (Appends-trans before mid after (session_of h.serves.turns) (ended_line said.answer) h.serves.written said.written);
           }
 

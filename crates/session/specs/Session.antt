@@ -1,19 +1,23 @@
 -- A session of an input.
-use Rattle.std.specs.Prelude.{◌≡◌, ◌⊎◌, ◌<◌, ◌++◌, Bool, List, Option, Result, Ok, Err, Some, [], codes, false, length, ℕ}
+use Rattle.std.specs.Prelude.{◌≡◌, ◌⊎◌, ◌<◌, ◌++◌, Bool, List, None, Option, Result, Ok, Err, Some, [], codes, false, length, ℕ}
 use Rattle.std.specs.Io.KnownBytes.{Appends, Keeps}
 use Rattle.interface.specs.Calls.{Calls}
 use Rattle.interface.specs.Host.{Host}
+use Rattle.leader1822.specs.Boxes.{plain_calls}
 use Rattle.replay.specs.declared.print.Detail.TheVariants.{Texts}
 use Rattle.script.specs.Script.{IsFirstBadAs, lines_of}
-use Rattle.topology.specs.Mixed.{MixedFields}
+use Rattle.subnet.specs.Working.{subnet_calls}
 use Rattle.topology.specs.Topology.{TopologyFields}
+use Rattle.topology.specs.declared.network.CarrierKind.{CarrierKind}
+use Rattle.topology.specs.declared.network.CarrierKind.TheVariants as kind
 use Rattle.world_script.specs.WorldScript.{AskFor}
 use Rattle.world_script.specs.WorldSpelling.{IsWorldEvent, world_spelling}
 use Rattle.world_script.specs.declared.event.WorldEvent.{WorldEvent}
+use Rattle.command_line.specs.Carriers.{plain_of, subnet_of}
 use Rattle.command_line.specs.Either.{IsEitherFault, ReplaysEither}
 use Rattle.command_line.specs.Events.{Asked, AsksFor, IsFirstBadIn}
-use Rattle.command_line.specs.Mixed.{MixedReplaysOn, MixedShowsFrom}
-use Rattle.command_line.specs.Replayed.{ReplaysFrom, ReplaysOn, WritesWorld}
+use Rattle.command_line.specs.Mixed.{MixedShowsFrom}
+use Rattle.command_line.specs.Replayed.{ReplaysFrom, WritesWorld}
 use Rattle.command_line.specs.declared.fault.ScriptFault.{ScriptFault}
 use Rattle.command_line.specs.declared.fault.ScriptFault.TheVariants as fault
 use Rattle.session.specs.Head.{HasNoHead, IsHead}
@@ -59,33 +63,26 @@ EndsEarly octets f before after = (HasNoHead octets f × Keeps before after)
 -- all lines are answered in turn, or those before the fault; or the head is no input by itself
 abbrev pub Serving : List ℕ → Hearing → Option (List ℕ) → Option (List ℕ) → Result (Unit {0}) ScriptFault → Type 0
 Serving head old before after (Ok done) = Ends (after_head head) old before after (Ok done)
-Serving head old before after (Err f) = (IsEitherFault head f × Keeps before after) ⊎ Ends (after_head head) old before after (Err f)
+Serving head old before after (Err f) = (IsEitherFault head f × Keeps before after) ⊎ Breaks (after_head head) old f before after
 
--- of a script, without strangers and with them
-abbrev pub over : {C : Type 0} → Calls C → C → Bool → Reading
-over calls carrier raw = record {
-  Prints = λ script said. (events : Asked) × AsksFor raw events (lines_of script)
-      × ReplaysFrom calls carrier false Texts events (Some []) (Some (said ++ codes "end\n"));
-  Refuses = IsFirstBadIn raw;
-}
+-- what is printed of a script without strangers, or among these; over a carrier, and over the one that a topology names
+abbrev pub PrintsOver : {C : Type 0} → Calls C → C → Bool → Option (List Host) → List ℕ → List ℕ → Type 0
+PrintsOver calls carrier raw None script said = (events : Asked) × AsksFor raw events (lines_of script)
+    × ReplaysFrom calls carrier false Texts events (Some []) (Some (said ++ codes "end\n"))
+PrintsOver calls carrier raw (Some strangers) script said = (events : List WorldEvent) × AskFor true events (lines_of script)
+    × WritesWorld false Texts (MixedShowsFrom calls strangers carrier events) (Some []) (Some (said ++ codes "end\n"))
 
-abbrev pub on : TopologyFields → Reading
-on t = record {
-  Prints = λ script said. (events : Asked) × AsksFor t.raw events (lines_of script)
-      × ReplaysOn t false Texts events (Some []) (Some (said ++ codes "end\n"));
-  Refuses = IsFirstBadIn t.raw;
-}
+abbrev pub PrintsOn : CarrierKind → TopologyFields → Option (List Host) → List ℕ → List ℕ → Type 0
+PrintsOn kind.Plain t strangers script said = PrintsOver plain_calls (plain_of t) t.raw strangers script said
+PrintsOn kind.Subnet t strangers script said = PrintsOver subnet_calls (subnet_of t) t.raw strangers script said
 
-abbrev pub among : {C : Type 0} → Calls C → List Host → C → Reading
-among calls strangers carrier = record {
-  Prints = λ script said. (events : List WorldEvent) × AskFor true events (lines_of script)
-      × WritesWorld false Texts (MixedShowsFrom calls strangers carrier events) (Some []) (Some (said ++ codes "end\n"));
-  Refuses = IsFirstBadAs world_spelling (IsWorldEvent true);
-}
+-- which of its lines is the first that is no event
+abbrev pub IsRefusedOn : Bool → Option (List Host) → List ℕ → ℕ → Type 0
+IsRefusedOn raw None script number = IsFirstBadIn raw script number
+IsRefusedOn raw (Some strangers) script number = IsFirstBadAs world_spelling (IsWorldEvent true) script number
 
-abbrev pub on_mixed : MixedFields → Reading
-on_mixed t = record {
-  Prints = λ script said. (events : List WorldEvent) × AskFor true events (lines_of script)
-      × MixedReplaysOn t false Texts events (Some []) (Some (said ++ codes "end\n"));
-  Refuses = IsFirstBadAs world_spelling (IsWorldEvent true);
-}
+abbrev pub over : {C : Type 0} → Calls C → C → Bool → Option (List Host) → Reading
+over calls carrier raw strangers = record { Prints = PrintsOver calls carrier raw strangers; Refuses = IsRefusedOn raw strangers }
+
+abbrev pub on : TopologyFields → Option (List Host) → Reading
+on t strangers = record { Prints = PrintsOn t.carrier t strangers; Refuses = IsRefusedOn t.raw strangers }

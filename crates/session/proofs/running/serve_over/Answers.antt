@@ -1,7 +1,15 @@
 use Rattle.interface.specs.Calls.{Calls}
 use Rattle.session.proofs.Sessions.{ends_as}
-use Rattle.session.proofs.Strangers.{raw_prints, world_prints}
+use Rattle.session.proofs.Strangers.{mixed_prints, raw_prints, world_prints}
 use Rattle.session.proofs.running.serve_over.Goals as goal
+
+pub returns-in-Ok-clause-ends : goal.returns-in-Ok-clause-ends
+returns-in-Ok-clause-ends g c =
+    let calls : Calls g.row.C.Denot = g.C.Carrier.calls in
+    ends_as _ (record {
+      prints = λ script said short h. mixed_prints calls c.args.carrier c.args.raw c.in-Some.strangers.now c.in-Ok.world c.in-Ok.ensures.1 script said h;
+      refuses = λ script number short bad. bad;
+    }) _ _ c.answer_lines.result c.answer_lines.ensures.ends
 
 pub returns-then-raw-clause-ends : goal.returns-then-raw-clause-ends
 returns-then-raw-clause-ends g c =
