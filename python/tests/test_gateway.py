@@ -24,6 +24,7 @@ from dorydate.live.frames import LAST, READY, Frame
 from dorydate.live.gateway import Gateway
 from dorydate.live.interface import Allowance, Interface
 from dorydate.live.record import Record, read
+from dorydate.live.services import Served
 from dorydate.live.session import Session, Wish
 from dorydate.network import Host
 from dorydate.replay import output_of
@@ -286,6 +287,16 @@ class Live(unittest.TestCase):
         script = (self.folder / "flaps" / "script").read_text()
         self.assertLessEqual(script.count("\nhostup 0/3") + script.count("\nhostdown 0/3"), 1 + 4 + 5)
         self.assertGreaterEqual(script.count("\nhostup 0/3"), 2)
+
+    def test_a_server_whose_socket_is_in_use_is_not_begun_in_each_round(self) -> None:
+        session, gateway = self.rounds("served")
+        gateway.begin()
+        session.happen([Wish(read_event("server 0/1 1 300"))])
+        gateway.tenders.append(Served(gateway, Host(0, 1), 1, []))
+        for _ in range(20):
+            gateway.round()
+        script, printed = ((self.folder / "served" / it).read_text() for it in ("script", "printed"))
+        self.assertEqual((script.count("\nserver "), printed.count("failed server 0/1 local")), (2, 1))
 
     def test_a_host_that_is_silent_and_one_that_floods(self) -> None:
         session, gateway = self.rounds("silent")

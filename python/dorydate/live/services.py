@@ -3,6 +3,7 @@
 from __future__ import annotations
 
 import asyncio
+import time
 from collections.abc import Callable, Iterator, Sequence
 
 from dorydate.live.gateway import Gateway
@@ -19,6 +20,7 @@ PATIENCE = 20.0  # seconds for a contact and for an initial connection
 LINGERS = 0.5  # seconds in which what is under way may still come, when the input of a terminal has ended
 PIECE = 700  # octets that a program's output is sent in
 GRANTED = 4, 8_192  # messages and bits that a program's input may have
+AGAIN = 1.0  # seconds until a server is begun again that couldn't begin, as its socket is in use
 
 
 class Served:
@@ -28,21 +30,25 @@ class Served:
         self.gateway, self.host, self.listens = gateway, host, listens
         self.base = highest(earlier, rf"server {host} \d+ (\d+)", FIRST_BASE)
         self.waits = False
+        self.tried = -AGAIN  # when it couldn't begin
         gateway.session.hears.append(self.hear)
 
     def wishes(self) -> Iterator[Wish]:
-        if not self.waits and self.host in self.gateway.session.known.up:
+        held = self.waits or time.monotonic() - self.tried < AGAIN
+        if not held and self.host in self.gateway.session.known.up:
             self.waits = True
             self.base += 2
             yield Wish(Server(self.host, self.listens, self.base), self._begun)
 
     def _begun(self, said: Sequence[str]) -> None:
         self.waits = refusal(said) is None and not any(it.startswith("failed ") for it in said)
+        if not self.waits:
+            self.tried = time.monotonic()
 
     def hear(self, said: Sequence[str]) -> None:
         over = (f"done server {self.host} ", f"failed server {self.host} ", f"down {self.host}")
         if any(it.startswith(over) for it in said):
-            self.waits = False
+            self.waits, self.tried = False, -AGAIN
             self.gateway.wake()
 
 
