@@ -279,12 +279,14 @@ class Live(unittest.TestCase):
         gateway.parts.append(interface)
         sent: list[bytes] = []
         wire = mock.Mock(send=lambda words, ready=True: sent.append(words), has_room=lambda: True, where=lambda: "udp")
-        for _ in range(20):
+        for _ in range(100):
             interface.comes(wire)
             gateway.round()
             interface.goes("it says so")
             gateway.round()
         script = (self.folder / "flaps" / "script").read_text()
+        self.assertLessEqual(script.count("\ncalm"), 1 + 9 * gateway.enough())
+        self.assertLessEqual(script.count(" is gone: "), 5)
         self.assertLessEqual(script.count("\nhostup 0/3") + script.count("\nhostdown 0/3"), 1 + 4 + 5)
         self.assertGreaterEqual(script.count("\nhostup 0/3"), 2)
 

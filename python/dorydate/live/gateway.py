@@ -65,12 +65,14 @@ class Gateway:
         self.session.happen([*(Wish(HostDown(it)) for it in self.session.network.strangers()), Wish(Calm(rounds))])
 
     def round(self) -> None:
-        """One round. Quiet rounds that follow one another become longer: nobody sees them."""
-        passes = [Wish(Calm(length := max(1, min(self.quiet, self.enough()))))]
-        if self.weather:
-            length, passes = 1, [*self.weather.wishes()]
+        """One round. Quiet rounds that follow one another become longer, and none passes after enough of them."""
         wishes = [wish for it in self.parts for wish in it.before()]
         wishes += [wish for it in (*self.tenders, self.upkeep) for wish in it.wishes()]
+        length, passes = 0, []
+        if self.weather:
+            length, passes = 1, [*self.weather.wishes()]
+        elif wishes or self.quiet < self.enough():
+            passes = [Wish(Calm(length := max(1, min(self.quiet, self.enough()))))]
         printed = self.session.happen([*wishes, *passes, *(wish for it in self.parts for wish in it.after())])
         self.quiet = 0 if printed else self.quiet + length
 

@@ -28,11 +28,15 @@ class Allowance:
         self.most, self.a_second = most, a_second
         self.left, self.since = most, time.monotonic()
 
-    def take(self) -> bool:
+    def has(self) -> bool:
+        """Whether one may come now."""
         now = time.monotonic()
         self.left = min(self.most, self.left + (now - self.since) * self.a_second)
         self.since = now
-        if self.left < 1:
+        return self.left >= 1
+
+    def take(self) -> bool:
+        if not self.has():
             return False
         self.left -= 1
         return True
@@ -94,15 +98,21 @@ class Interface:
     def comes(self, wire: Wire) -> None:
         """Its host says over a wire that it is ready."""
         self.wire, self.said, self.heard_at = wire, True, time.monotonic()
-        self.wake()
+        self._turned()
 
     def goes(self, why: str) -> None:
         """Its host is not ready any more."""
         if self.said:
+            if self.up and not self.fell:
+                self.session.say(f"{self.host} is gone: {why}")
             self.said, self.fell = False, self.up
-            self.session.say(f"{self.host} is gone: {why}")
-            self.wake()
+            self._turned()
         self.queue.clear()
+
+    def _turned(self) -> None:
+        """Its ready line has changed. While that has come too often, it is only looked at now and then (`waits`)."""
+        if self.turns.has():
+            self.wake()
 
     def asks(self) -> None:
         """Its host asks whether the IMP is there."""
