@@ -54,7 +54,8 @@ class Engines(unittest.TestCase):
     def test_each_line_is_answered_by_itself(self) -> None:
         lines = Lines(self.echo, TWO)
         self.assertEqual(lines.hear(EVENTS[:2]), [["calm 2"], ["contact 0/1 0/2"]])
-        self.assertEqual(lines.resumed([b"calm 5", b"calm 6"]), ["calm 5", "calm 6"])
+        many = [f"calm {it}" for it in range(10, 10_000)]
+        self.assertEqual(lines.resumed([it.encode() for it in many]), many)
         lines.end()
         self.assertEqual(lines.process.returncode, 0)
         lines.end()

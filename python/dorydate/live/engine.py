@@ -6,7 +6,7 @@ import os
 import select
 import subprocess
 import time
-from collections.abc import Sequence
+from collections.abc import Iterator, Sequence
 from typing import Protocol
 
 from dorydate.marks import LAST, NO_SUCH_LINE, Part, Unmarked, printed_in
@@ -19,7 +19,8 @@ Heard = list[list[str]]  # what each event prints, with the octets of messages
 
 
 LIVE = "--live"
-AT_ONCE = 1 << 16  # octets of an answer that are read at once
+AT_ONCE = 1 << 16  # octets of answers that are read at once
+MOST_SAID = 1 << 15  # octets of lines that are said before their answers are heard: a pipe holds more
 
 
 class Ended(Exception):
@@ -113,11 +114,11 @@ class Lines:
         self._say(topology.encode("utf-8", "surrogateescape") + b"%\n")
 
     def hear(self, events: Sequence[Event]) -> Heard:
-        return [self._answer(str(it).encode("latin-1")) for it in events]
+        return [*self._answers([str(it).encode("latin-1") + b"\n" for it in events])]
 
     def resumed(self, lines: Sequence[bytes]) -> list[str]:
         """Lets all lines of an earlier session happen, and answers what they print."""
-        return [said for it in lines for said in self._answer(it)]
+        return [said for answer in self._answers([it + b"\n" for it in lines]) for said in answer]
 
     def end(self) -> None:
         """Ends the input, after which the program prints its last line and ends."""
@@ -135,22 +136,48 @@ class Lines:
         except BrokenPipeError:
             self._ended()
 
-    def _answer(self, line: bytes) -> list[str]:
-        """What the program prints of a line."""
-        self._say(line + b"\n")
+    def _answers(self, lines: Sequence[bytes]) -> Iterator[list[str]]:
+        """What the program prints of each line. Several are said at once: fewer waits, and the same answers."""
+        said: list[bytes] = []
+        room = MOST_SAID
+        for line in lines:
+            room -= len(line)
+            if said and room < 0:
+                yield from self._said_to(said)
+                said, room = [], MOST_SAID - len(line)
+            said.append(line)
+        if said:
+            yield from self._said_to(said)
+
+    def _said_to(self, lines: Sequence[bytes]) -> Heard:
+        """Says lines, and hears what the program prints of each, up to its empty line."""
+        self._say(b"".join(lines))
+        answers: Heard = [[]]
+        octets, left, last = 0, b"", time.monotonic() + SECONDS
+        while len(answers) <= len(lines):
+            piece = self._read(last)
+            octets += len(piece)
+            if octets > MOST_PRINTED:
+                raise self._stopped(PrintedTooMuch())
+            *ended, left = (left + piece).split(b"\n")
+            for it in ended:
+                if it:
+                    answers[-1].append(it.decode("latin-1"))
+                else:
+                    answers.append([])
+                    octets, last = 0, time.monotonic() + SECONDS
+        return answers[:-1]
+
+    def _read(self, last: float) -> bytes:
+        """Some octets that the program prints, until a moment."""
         stdout = self.process.stdout
         assert stdout is not None
-        last = time.monotonic() + SECONDS
-        answer = bytearray()
-        while not (answer == b"\n" or answer.endswith(b"\n\n")):
-            if not select.select([stdout], [], [], max(0.0, last - time.monotonic()))[0]:
-                raise self._stopped(TookTooLong(f"the program ran longer than {SECONDS} seconds"))
-            if not (piece := os.read(stdout.fileno(), AT_ONCE)):
-                self._ended()
-            answer += piece
-            if len(answer) > MOST_PRINTED:
-                raise self._stopped(PrintedTooMuch())
-        return answer.decode("latin-1").splitlines()[:-1]
+        if not select.select([stdout], [], [], max(0.0, last - time.monotonic()))[0]:
+            raise self._stopped(TookTooLong(f"the program ran longer than {SECONDS} seconds"))
+        if not (piece := os.read(stdout.fileno(), AT_ONCE)):
+            self._ended()
+            raise Ended("the program has ended")
+        return piece
 
     def _ended(self) -> bytes:
         """What the program still prints at the end of its input. It says why, if it ended with a fault."""

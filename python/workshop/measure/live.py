@@ -1,15 +1,18 @@
-"""How soon a live network answers, and what its rounds cost as its script grows: ./measure live [--write]
+"""How soon a live network answers, and what an event costs as its script grows: ./measure live [--write]
 
 Two strangers at the ends of a chain of IMPs speak over UDP, by the program that is kept for these sources: one
-message after another, from the frame in to the frame out, and to the RFNM. Then the program runs over first parts of
-the script of such a session, as each round does: least processor time of five. Then ten dialogues of hosts in C on the
-map of August 1972. Times by the clock are those of this machine with what else it has to do, so its load is said.
---write keeps what was measured in docs/measured/live.md. It wants `cc`, and is not part of the gate.
+message after another, from the frame in to the frame out, and to the RFNM. Then one program answers the lines of such
+a session again and again, each before the next is said: how long an answer takes after a thousand lines and after
+more, and what the program has used by then. Then it runs over first parts of that script, as each round of a program
+without --live does: least processor time of five. Then ten dialogues of hosts in C on the map of August 1972. Times by
+the clock are those of this machine with what else it has to do, so its load is said. --write keeps what was measured in
+docs/measured/live.md. It wants `cc`, and is not part of the gate.
 """
 
 from __future__ import annotations
 
 import datetime
+import itertools
 import os
 import resource
 import shutil
@@ -22,6 +25,7 @@ from collections.abc import Iterator
 from pathlib import Path
 
 from dorydate.export.leaders import leader
+from dorydate.live.engine import LIVE
 from dorydate.live.frames import LAST, READY, Frame
 from dorydate.network import Host, Imp, Line, Network
 from workshop.checks.live import HOST, compiled, on_the_map
@@ -33,6 +37,8 @@ PAGE = f"{ROOT}/docs/measured/live.md"
 CHAINS = (2, 3, 20, 63)  # IMPs
 MESSAGES = 60
 LENGTHS = (100, 1_000, 5_000, 20_000)  # lines of a script
+ANSWERED = (1_000, 10_000, 100_000, 1_000_000)  # lines that were answered before
+TIMED = 1_000  # answers that are timed then
 TEXT = bytes(60)
 HEAD = """# A live network: figures
 
@@ -104,11 +110,65 @@ def processor_time(program: str, octets: bytes) -> float:
     return after.ru_utime - before.ru_utime + after.ru_stime - before.ru_stime
 
 
-def growth(room: Room) -> Iterator[str]:
-    """What a round costs in the program, by the length of the script, which is that of three IMPs again and again."""
+def recorded(room: Room) -> tuple[str, list[str], list[str]]:
+    """The topology of three IMPs, the first lines of their session, and others that may come again and again."""
     topology, script = (room.folder / "chain-3" / "script").read_text().split("\n%\n")
     lines = [it for it in script.splitlines() if not it.startswith("#")]
-    first, rest = lines[:8], [it for it in lines[8:] if not it.startswith("host")]
+    return topology, lines[:8], [it for it in lines[8:] if not it.startswith("host")]
+
+
+class Open:
+    """A program that stays, and how many lines it has answered."""
+
+    def __init__(self, program: str, topology: str, first: list[str], rest: list[str]) -> None:
+        pipe = subprocess.PIPE
+        self.process = subprocess.Popen([program, LIVE], stdin=pipe, stdout=pipe, text=True, encoding="latin-1")
+        self.lines = itertools.chain(first, itertools.cycle(rest))
+        self.answered = 0
+        self.say(f"{topology}\n%\n")
+
+    def say(self, text: str) -> None:
+        assert self.process.stdin is not None
+        self.process.stdin.write(text)
+        self.process.stdin.flush()
+
+    def ask(self) -> float:
+        """Seconds until the next line is answered."""
+        assert self.process.stdout is not None
+        line = next(self.lines)
+        began = time.perf_counter()
+        self.say(f"{line}\n")
+        while self.process.stdout.readline() != "\n":
+            pass
+        self.answered += 1
+        return time.perf_counter() - began
+
+    def used(self) -> tuple[float, int]:
+        """The seconds of the processor that it has used, and the kB of memory that it has had at most."""
+        fields = text_of(f"/proc/{self.process.pid}/stat").rpartition(")")[2].split()
+        status = text_of(f"/proc/{self.process.pid}/status").splitlines()
+        ticks = int(fields[11]) + int(fields[12])
+        return ticks / os.sysconf("SC_CLK_TCK"), next(int(it.split()[1]) for it in status if it.startswith("VmHWM"))
+
+
+def answers(room: Room) -> Iterator[str]:
+    """What an answer costs of a program that stays, after so many lines."""
+    it = Open(room.program, *recorded(room))
+    rows: list[tuple[str, ...]] = []
+    for length in ANSWERED:
+        while it.answered < length:
+            it.ask()
+        seconds, most = it.used()
+        median = statistics.median(it.ask() for _ in range(TIMED))
+        rows.append((f"{length:,}", f"{1e6 * median:.0f}", f"{1e6 * seconds / length:.1f}", f"{most:,}"))
+    it.process.communicate()
+    titles = "Lines answered before", "microseconds to an answer, median", "microseconds of the processor a line", "kB"
+    yield from (f"| {' | '.join(row)} |" for row in (titles, ["---"] * len(titles), *rows))
+
+
+def growth(room: Room) -> Iterator[str]:
+    """What a run costs by the length of the script, which is that of three IMPs again and again."""
+    topology, first, rest = recorded(room)
     yield f"| Lines of script | {' | '.join(f'{it:,}' for it in LENGTHS)} |"
     yield f"|---|{'---|' * len(LENGTHS)}"
     times = []
@@ -128,9 +188,10 @@ def main() -> int:
         room = Room(Path(folder), program, compiled(Path(folder), text_of(HOST)) if shutil.which("cc") else "")
         load, cores = os.getloadavg()[0], len(os.sched_getaffinity(0))
         said = [f"Measured on {datetime.date.today()}, on {cores} cores at a load of {load:.0f}.\n"]
-        said.append(f"{MESSAGES} messages of {8 * len(TEXT)} bits, one at a time, each round a run of the program:\n")
+        said.append(f"{MESSAGES} messages of {8 * len(TEXT)} bits, one at a time:\n")
         said += latencies(room)
-        said += ["\nA run over so long a script, as each round is:\n", *growth(room)]
+        said += [f"\nA program that stays (`{LIVE}`), each line answered before the next is said:\n", *answers(room)]
+        said += [f"\nA run over so long a script, as is each round of a program without `{LIVE}`:\n", *growth(room)]
         if room.host:
             wrong = [*on_the_map(room)]
             seconds = text_of(f"{folder}/map/outcome")
