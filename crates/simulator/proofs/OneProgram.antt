@@ -77,8 +77,7 @@ pub audited_kept : (input before after : List ℕ) (left : Option (List ℕ)) (u
     → IsKeptLog input → EndsAudit (sides (Some input) left unread (Some before) (Some after)) (Ok said)
     → (said ≡ kept) × (after ≡ before ++ codes "kept\n")
 audited_kept input before after left unread said k ends =
-    let same : said ≡ kept = said_kept input said (Some before) (Some after) ends.says k in
-    (
+    let same : said ≡ kept = said_kept input said (Some before) (Some after) ends.says k in (
       same,
       subst (λ (v : Verdict). after ≡ before ++ verdict_text ends.says.strangers ends.says.book v) same
           ends.says.written,
