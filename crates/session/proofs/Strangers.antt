@@ -21,8 +21,7 @@ use Rattle.world_replay.specs.Kinds.{HappensBy, mixed_kind}
 use Rattle.world_replay.specs.Output as lines
 use Rattle.world_replay.specs.Replay.{world_kind}
 use Rattle.world_script.specs.WorldSpelling.{IsWorldEvent, world_spelling}
-use Rattle.command_line.proofs.Replayed.Strangers.{mixed_writes_all}
-use Rattle.command_line.proofs.Replayed.Written.{world_writes_all, writes_all}
+use Rattle.command_line.proofs.lemmas.{mixed_writes_all, world_writes_all, writes_all}
 use Rattle.command_line.specs.Carriers.{plain_of, subnet_of}
 use Rattle.command_line.specs.Events.{Raw, World}
 use Rattle.session.specs.Networks.{KeepsAll, KeepsRun, ReplaysWith}
