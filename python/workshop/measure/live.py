@@ -152,7 +152,7 @@ class Open:
 
 
 def answers(room: Room) -> Iterator[str]:
-    """What an answer costs of a program that stays, after so many lines."""
+    """What an answer costs of a program that stays, after that many lines."""
     it = Open(room.program, *recorded(room))
     rows: list[tuple[str, ...]] = []
     for length in ANSWERED:
