@@ -14,8 +14,8 @@ pub trait ScriptEvent: Drop {
     /// The line that asks for it.
     ghost spelled: { Self → List ℕ };
 
-    /// Which events a script may ask for, by whether there are strangers, hosts without a program, among those with one.
-    /// It may hold values that no line spells.
+    /// Which events a script may ask for, by whether there are strangers, hosts without a program, among those with
+    /// one. It may hold values that no line spells.
     ghost is_meant: { Bool → Self → Type 0 };
 
     /// Which lines need memory to be read and kept.

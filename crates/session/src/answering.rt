@@ -12,9 +12,9 @@ use script::reading::{ScriptEvent, read_events};
 use script::{LineFault, MAX_INPUT};
 use std::alloc::Global;
 
-/// Hears the lines of a script of a network with strangers, or without, to the end of the input, and answers each before
-/// it hears the next: what its event shows, and an empty line. Octets of the script that were read already are in `ahead`;
-/// `heard` octets of the input were heard before.
+/// Hears the lines of a script of a network with strangers, or without, to the end of the input, and answers each
+/// before it hears the next: what its event shows, and an empty line. Octets of the script that were read already are
+/// in `ahead`; `heard` octets of the input were heard before.
 ///
 /// Errors: `CannotRead`, `TooLong` and `OutOfMemory` as in [`hear`]; `BadLine` for the first line that is no event;
 /// `OutOfMemory` within an answer, of which a part may be written then; `CannotWrite`. The lines before it were answered.

@@ -39,10 +39,6 @@ one_seen {S} {W} kind detail contents flushed old mid new events e before goes h
     (record { shown = seen.shown; is_shown = seen.is_shown; written = tt }) in
     (both.shown, both.is_shown)
 
-is_calm : (e : WorldEvent) (n : ℕ) → rounds_in e ≡ Some n → e ≡ Calm n
-is_calm (Happen e) n has = absurd (let no : None ≡ Some n = has in cc)
-is_calm (Calm m) n has = ap Calm (let same : Some m ≡ Some n = has in cc)
-
 -- this many rounds have passed, and what they showed is written
 abbrev pub HaveRounds : {S : Type 0} → Kind S → Detail → ℕ → S → S → Option (List ℕ) → Option (List ℕ) → Type 0
 HaveRounds kind detail zero old now a b = (now ≡ old) × Appends a b []
@@ -238,4 +234,6 @@ module _ {S : Type 0} (kind : Kind S) (is : IsReplayable kind) where
       (a b : Option (List ℕ))
       → rounds_in e ≡ Some rounds → EventEnds kind detail old (Calm rounds) r new a b
       → EventEnds kind detail old e r new a b
-  calm_event detail old e rounds r new a b has h = subst (λ (x : WorldEvent). EventEnds kind detail old x r new a b) (sym (is_calm e rounds has)) h
+  calm_event detail old (Happen e) rounds r new a b has h = absurd (let no : None ≡ Some rounds = has in cc)
+  calm_event detail old (Calm n) rounds r new a b has h =
+      subst (λ (m : ℕ). EventEnds kind detail old (Calm m) r new a b) (let alike : Some n ≡ Some rounds = has in cc) h

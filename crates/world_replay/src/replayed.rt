@@ -46,8 +46,8 @@ impl<C: Carrier> Replayed for World<C> {
 
     fn happen(&mut self, event: WorldEvent) -> Result<(), WorldFault> {
         match event {
-            WorldEvent::Happen(event) => self.step(event),
-            WorldEvent::Calm(rounds) => self.calm(rounds),
+            WorldEvent::Happen(event) => World::step(self, event),
+            WorldEvent::Calm(rounds) => World::calm(self, rounds),
         }
     }
 
@@ -67,8 +67,8 @@ impl<C: Carrier> Replayed for MixedWorld<C> {
 
     fn happen(&mut self, event: WorldEvent) -> Result<(), WorldFault> {
         match event {
-            WorldEvent::Happen(event) => self.step(event),
-            WorldEvent::Calm(rounds) => self.calm(rounds),
+            WorldEvent::Happen(event) => MixedWorld::step(self, event),
+            WorldEvent::Calm(rounds) => MixedWorld::calm(self, rounds),
         }
     }
 

@@ -29,7 +29,7 @@ SPELLINGS = ("script/specs/Spelling", WORLDS)
 MAILBOXES, SCOPES = "leader1822/specs/Boxes", "subnet_trace/specs/*"
 SPELLED = re.compile(r'^(\w*spelling) .*?\((?:\w+\.)(\w+)[^=]* = codes "(\w+) " \+\+ (.*)$', re.MULTILINE)
 REFUSED = re.compile(r"^step_refusal b \(event\.(\w+)[^)]*\) = ", re.MULTILINE)
-BARRED = re.compile(r"^IsWorldEvent strangers \(world\.Happen \(event\.(\w+)[^=]*= (?:⊥$|\(strangers ≡ true\))", re.MULTILINE)
+BARRED = re.compile(r"^IsWorldEvent \w+ \(world\.Happen \(event\.(\w+)[^=]*= (?:⊥$|\(strangers ≡)", re.MULTILINE)
 SCOPE = re.compile(r"^scope_of n \(event\.(?:Net \(net\.)?(\w+)[^=]*\) = (.*)$", re.MULTILINE)
 ROW = re.compile(r"^\| ((?:`[a-z]+ [A-Z][^`]*`(?:, )?)+) \| .* \|$", re.MULTILINE)
 NAMES = ("replay/specs/Output", "world_replay/specs/Printed")
