@@ -63,8 +63,8 @@ module _ (number other : ℕ → ℕ → ℕ → ℕ) (tells : IsTelling number)
     told_more : ((own foreign : ℕ) → said_of gone q.entries own foreign ≡ closings_in pending (heard_by b) own foreign) → (own foreign : ℕ)
         → said_of over left own foreign ≡ closings_in (pending ++ speaks.new) (heard_by b) own foreign
     told_more told own foreign =
-        speaks.counts own foreign ∙ closings_same speaks.new (said_of gone q.entries) (closings_in pending (heard_by b)) told own foreign
-        ∙ sym (ap (λ (n : ℕ → ℕ → ℕ). n own foreign) (closings_append pending speaks.new (heard_by b)))
+        speaks.counts own foreign ∙ closings_same speaks.new _ _ told own foreign
+        ∙ sym (ap (λ (n : ℕ → ℕ → ℕ). n own foreign) (closings_append pending _ _))
 
     module _ (told : (own foreign : ℕ) → said_of gone q.entries own foreign ≡ closings_in pending (heard_by b) own foreign) (line : Line number link (heard_by b) pending x.receiver.asked x.to_sender y.to_receiver)
         (news : AskedSame number link x.receiver.asked (all_received rm x.receiver).asked (said_of gone q.entries)) where
@@ -75,14 +75,14 @@ module _ (number other : ℕ → ℕ → ℕ → ℕ) (tells : IsTelling number)
       said_line : Line number link (heard_by b) (pending ++ speaks.new) (all_received rm x.receiver).asked (x.to_sender ++ received_words rm) (y.to_receiver ++ sent_words sm y.sender)
       said_line = record {
         received = map-append plain x.to_sender (received_words rm)
-            ∙ ap (λ (l : List Word). l ++ map plain (received_words rm)) (line.received ∙ receiver_same number link x.receiver.asked (all_received rm x.receiver).asked pending (heard_by b) (heard_by b) (λ own foreign. refl) still_asked)
+            ∙ ap (λ (l : List Word). l ++ map plain (received_words rm)) (line.received ∙ receiver_same number link x.receiver.asked (all_received rm x.receiver).asked pending _ _ (λ own foreign. refl) still_asked)
             ∙ ap (λ (l : List Word). receiver_words number link (all_received rm x.receiver).asked (heard_by b) pending ++ l)
-            (speaks.received ∙ receiver_same number link (all_received rm x.receiver).asked (all_received rm x.receiver).asked speaks.new (said_of gone q.entries) (closings_in pending (heard_by b)) told (λ own foreign g l. refl))
-            ∙ sym (receiver_append number link (all_received rm x.receiver).asked pending speaks.new (heard_by b));
+            (speaks.received ∙ receiver_same number link (all_received rm x.receiver).asked (all_received rm x.receiver).asked speaks.new _ _ told (λ own foreign g l. refl))
+            ∙ sym (receiver_append number link (all_received rm x.receiver).asked pending _ (heard_by b));
         sent = map-append plain y.to_receiver (sent_words sm y.sender)
             ∙ ap (λ (l : List Word). l ++ map plain (sent_words sm y.sender)) line.sent
-            ∙ ap (λ (l : List Word). sender_words number link (heard_by b) pending ++ l) (speaks.sent ∙ sender_same number link speaks.new (said_of gone q.entries) (closings_in pending (heard_by b)) told)
-            ∙ sym (sender_append number link pending speaks.new (heard_by b));
+            ∙ ap (λ (l : List Word). sender_words number link (heard_by b) pending ++ l) (speaks.sent ∙ sender_same number link speaks.new _ _ told)
+            ∙ sym (sender_append number link pending _ _);
       }
 
     -- the other host is as it was, but for what is heard of it, and its message. `news`: nothing is asked for of which a CLS was said

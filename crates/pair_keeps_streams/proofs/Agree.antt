@@ -20,7 +20,7 @@ found_step name link r test e z zs here rest false t f i = rest (rw t at f) i
 
 asked_at_link : (name : ℕ → ℕ → ℕ) (link : ℕ) (es : List Entry) (r : Receiver) (test : Entry → Bool) (e : Entry) → AreLinked name link es r → find test es ≡ Some e → is_receiving e ≡ true → r.asked (named name e) ≡ is_link link e.link
 asked_at_link name link [] r test e l f i = absurd (let no : None ≡ Some e = f in cc)
-asked_at_link name link (z ∷ zs) r test e l f i = found_step name link r test e z zs l.0 (λ g. asked_at_link name link zs r test e l.1 g) (test z) refl f i
+asked_at_link name link (z ∷ zs) r test e l f i = found_step name link r test e z zs l.0 (λ g. asked_at_link name link zs r test e l.1 g) _ refl f i
 
 no_words : (ws : List Word) → map plain ws ≡ [] → ws ≡ []
 no_words [] e = refl
@@ -58,10 +58,10 @@ pub record OfOne (number other : ℕ → ℕ → ℕ → ℕ) (a b : Party) (tak
 module _ (number other : ℕ → ℕ → ℕ → ℕ) (tells : IsTelling number) (others : IsTelling other) (link : ℕ) (x y : Stream) (a b : Party) (j : Joint number other tells others link x y a b) (here : a.stays ≡ true) (there : b.stays ≡ true)
     (taker giver : Entry) (o : OfOne number other a b taker giver) (sends : sends_on link giver ≡ true) where
   taker_name : named (name_of number a.gone) taker ≡ name_of number a.gone o.own o.foreign
-  taker_name = own_name (name_of number a.gone) link o.own o.foreign taker a.entries o.taker_found
+  taker_name = own_name (name_of number a.gone) link o.own _ taker _ o.taker_found
 
   giver_name : named (name_of other b.gone) giver ≡ name_of other b.gone o.foreign o.own
-  giver_name = own_name (name_of other b.gone) link o.foreign o.own giver b.entries o.giver_found
+  giver_name = own_name (name_of other b.gone) link _ o.own giver _ o.giver_found
 
   names : named (name_of other b.gone) giver ≡ named (name_of number a.gone) taker
   names = giver_name ∙ sym o.same ∙ sym taker_name
@@ -81,7 +81,7 @@ module _ (number other : ℕ → ℕ → ℕ → ℕ) (tells : IsTelling number)
   -- the taker's end has the giver's link
   linked_by : IsSender (named (name_of other b.gone) giver) giver x.sender → is_link link taker.link ≡ true
   linked_by gives =
-      sym (asked_at_link (name_of number a.gone) link a.entries x.receiver (is_at o.own o.foreign) taker mine.linked o.taker_found o.receiving) ∙ j.inv_x.ends.heard (named (name_of number a.gone) taker) (sender_end gives)
+      sym (asked_at_link _ link _ _ _ taker mine.linked o.taker_found o.receiving) ∙ j.inv_x.ends.heard (named (name_of number a.gone) taker) (sender_end gives)
 
   -- while data wait, which no end that leaves has sent
   pub linked_waiting : (k z : ℕ) (bits : List Bool) → x.box ≡ Waiting k z bits → is_link link taker.link ≡ true
@@ -93,17 +93,17 @@ module _ (number other : ℕ → ℕ → ℕ → ℕ) (tells : IsTelling number)
   -- each has heard as many CLS as the other has said
   module _ (same : (own foreign g : ℕ) → other own foreign g ≡ number foreign own g) (silent : a.pending ≡ []) (quiet : b.pending ≡ []) where
     gone_same : a.gone o.own o.foreign ≡ b.gone o.foreign o.own
-    gone_same = tells.gone o.own o.foreign (a.gone o.own o.foreign) o.own o.foreign (b.gone o.foreign o.own) (o.same ∙ same o.foreign o.own (b.gone o.foreign o.own))
+    gone_same = tells.gone o.own o.foreign (a.gone o.own o.foreign) o.own o.foreign (b.gone o.foreign o.own) (o.same ∙ same o.foreign o.own _)
 
     pub taker_heard : has_cls giver.closing ≡ taker.partner_closed
     taker_heard =
-        count_same (b.gone o.foreign o.own) (has_cls giver.closing) taker.partner_closed
+        count_same (b.gone o.foreign o.own) _ _
         (ap (λ (e : Option Entry). counted (has_said e) (b.gone o.foreign o.own)) (sym o.giver_found) ∙ j.told_a here there o.foreign o.own ∙ ap (λ (cs : List Command). closings_in cs (heard_by a) o.foreign o.own) quiet
         ∙ ap (λ (e : Option Entry). counted (has_heard e) (a.gone o.own o.foreign)) o.taker_found ∙ ap (λ (g : ℕ). counted taker.partner_closed g) gone_same)
 
     pub giver_heard : has_cls taker.closing ≡ giver.partner_closed
     giver_heard =
-        count_same (a.gone o.own o.foreign) (has_cls taker.closing) giver.partner_closed
+        count_same (a.gone o.own o.foreign) _ _
         (ap (λ (e : Option Entry). counted (has_said e) (a.gone o.own o.foreign)) (sym o.taker_found) ∙ j.told_b here there o.own o.foreign ∙ ap (λ (cs : List Command). closings_in cs (heard_by b) o.own o.foreign) silent
         ∙ ap (λ (e : Option Entry). counted (has_heard e) (b.gone o.foreign o.own)) o.giver_found ∙ ap (λ (g : ℕ). counted giver.partner_closed g) (sym gone_same))
 
@@ -125,7 +125,7 @@ module _ (number other : ℕ → ℕ → ℕ → ℕ) (tells : IsTelling number)
     gives : IsSender (named (name_of other b.gone) giver) giver x.sender
     gives = elim ends [
       | inl is ↦ is
-      | inr n ↦ absurd (unlike (is_open giver) giver_open (leaving_shut giver x.sender n))
+      | inr n ↦ absurd (unlike (is_open giver) giver_open (leaving_shut giver _ n))
     ]
 
     pub linked : is_link link taker.link ≡ true
@@ -135,19 +135,19 @@ module _ (number other : ℕ → ℕ → ℕ → ℕ) (tells : IsTelling number)
     receives = rw (o.receiving, linked) refl
 
     takes : IsReceiver (named (name_of number a.gone) taker) taker x.receiver
-    takes = (own_receiver (name_of number a.gone) link (is_at o.own o.foreign) (λ z. z) taker a.entries x.receiver o.taker_found receives receives mine.holds.received).0
+    takes = (own_receiver (name_of number a.gone) link (is_at o.own o.foreign) (λ z. z) taker a.entries _ o.taker_found receives receives mine.holds.received).0
 
     module _ (box : waiting_in x.box ≡ []) where
       to_sender : x.to_sender ≡ []
-      to_sender = no_words x.to_sender ((j.to_b there).received ∙ ap (λ (cs : List Command). receiver_words number link x.receiver.asked (heard_by b) cs) silent)
+      to_sender = no_words _ ((j.to_b there).received ∙ ap (λ (cs : List Command). receiver_words number link x.receiver.asked (heard_by b) cs) silent)
 
       to_receiver : x.to_receiver ≡ []
-      to_receiver = no_words x.to_receiver ((j.to_a here).sent ∙ ap (λ (cs : List Command). sender_words other link (heard_by a) cs) quiet)
+      to_receiver = no_words _ ((j.to_a here).sent ∙ ap (λ (cs : List Command). sender_words other link (heard_by a) cs) quiet)
 
       rest : IsAtRest x (named (name_of number a.gone) taker)
       rest = record {
         receiver = takes.end;
-        receives = open_same (named (name_of number a.gone) taker) taker x.receiver takes ∙ taker_open;
+        receives = open_same _ taker _ takes ∙ taker_open;
         sender = sender_end gives;
         sends = open_same_senders (named (name_of number a.gone) taker) giver x.sender
             (record { end = sender_end gives; opened = gives.opened; shut = gives.shut; closed = ap x.sender.closed (sym names) ∙ gives.closed; size = ap x.sender.size (sym names) ∙ gives.size; allocation = gives.allocation; live = gives.live }) ∙ giver_open;

@@ -1,5 +1,5 @@
 -- What a host has asked for on a link, by each call.
-use Rattle.pair_keeps_streams.proofs.Common.{◌≡◌, ◌⊎◌, ℕ, Bool, true, false, not, ◌&&◌, ◌==◌, if◌then◌else◌, List, [], ◌∷◌, length, Option, Some, None, is_some, refl, ◌∙◌, inl, inr, eqb-true, data_bits, Command, DataHeader, covers, for, holds, is_size, Receiver, data_of, entry_at, is_receiving, receives_on, PairState, Closing, Entry, Listener, all_received, received_close, received_gone, received_open, answers_str, asked_received, asks_for, closed_received, closes_on, cls_received, data_received, received_out, str_received, named}
+use Rattle.pair_keeps_streams.proofs.Common.{◌≡◌, ◌⊎◌, ℕ, Bool, true, false, ◌&&◌, if◌then◌else◌, List, [], ◌∷◌, length, Option, Some, None, is_some, refl, ◌∙◌, inl, inr, eqb-true, data_bits, Command, DataHeader, covers, for, holds, is_size, Receiver, data_of, entry_at, receives_on, PairState, Closing, Entry, Listener, all_received, received_close, received_gone, received_open, answers_str, asked_received, asks_for, closed_received, closes_on, cls_received, data_received, received_out, str_received, named}
 use Rattle.ncp_control.specs.declared.command.Command.TheVariants as command
 use Rattle.stream_law.specs.Words as words
 use Rattle.stream_law.specs.Receivers as receivers
@@ -68,15 +68,15 @@ not_none false ms a = a
 module _ (name : ℕ → ℕ → ℕ) (link : ℕ) where
   -- an STR for an end that is there
   pub str_none : (c z : ℕ) (listener : Option Listener) (free : Option ℕ) (e : Entry) → AllAskNone (str_received link c z listener free (Some e))
-  str_none c z listener free e = not_none (is_some e.partner) (receivers.Hear (words.Str c z) ∷ received_open (receives_on link e && is_some e.asked) c) (tt, open_none (receives_on link e && is_some e.asked) c)
+  str_none c z listener free e = not_none _ (receivers.Hear (words.Str c z) ∷ received_open (receives_on link e && is_some e.asked) c) (tt, open_none _ c)
 
   pub cls_none : (c : ℕ) (o : Option Entry) → AllAskNone (cls_received link c o)
   cls_none c None = tt
-  cls_none c (Some e) = if_none (is_receiving e && not e.partner_closed) (receivers.Hear (words.Cls c) ∷ closes_on link c e) (tt, if_none (receives_on link e) (received_close e.closing c) (close_none e.closing c))
+  cls_none c (Some e) = if_none _ (receivers.Hear (words.Cls c) ∷ closes_on link c e) (tt, if_none (receives_on link e) (received_close e.closing c) (close_none e.closing c))
 
   pub data_none : (l : ℕ) (text : List Bool) (o : Option DataHeader) → AllAskNone (data_received link l text o)
   data_none l text None = tt
-  data_none l text (Some h) = if_none (l == link) (receivers.Take h.size (data_of (data_bits h) text) ∷ []) (tt, tt)
+  data_none l text (Some h) = if_none _ (receivers.Take h.size (data_of (data_bits h) text) ∷ []) (tt, tt)
 
   asked_none : (o : Option Entry) → AllAskNone (asked_received name link o)
   asked_none None = tt

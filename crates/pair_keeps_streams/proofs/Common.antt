@@ -7,13 +7,13 @@ pub use Rattle.host_keeps_streams.specs.Histories.{Answered, AsksBack, Call, Clo
 pub use Rattle.host_keeps_streams.specs.Moves.{answers_str, asked_received, asked_sent, asks_for, closed_received, closes, closes_on, cls_received, data_received, hears_rts, of_end, on_link, received_out, rts_sent, sent_out, str_received}
 pub use Rattle.host_keeps_streams.specs.Names.{AreApart, is_among, named, numbers}
 pub use Rattle.host_pairs.proofs.lemmas.{both}
-pub use Rattle.host_pairs.specs.Asked.{receiver_requested, requested, with_end, with_more_bits}
-pub use Rattle.host_pairs.specs.Commands.{Ending, Found, Open, Unconnected, all_taken, asked_on_link, asked_with_size, at_end, cls_taken_by, desk_taken, given_back, granted, gvb_taken, interrupted, receiver_on, ret_taken, returned, rts_heard, rts_taken, rts_taken_by, sender_on, str_heard, str_linked, str_taken_by}
-pub use Rattle.host_pairs.specs.Data.{arrived_if, data_found, data_of, data_taken, data_text, is_acceptable, spent}
+pub use Rattle.host_pairs.specs.Asked.{receiver_requested, requested, with_end}
+pub use Rattle.host_pairs.specs.Commands.{Ending, Found, Open, Unconnected, all_taken, at_end, cls_taken_by, desk_taken, given_back, granted, gvb_taken, interrupted, receiver_on, ret_taken, rts_heard, rts_taken, rts_taken_by, sender_on, str_heard, str_linked, str_taken_by}
+pub use Rattle.host_pairs.specs.Data.{arrived_if, data_found, data_of, data_taken, data_text, is_acceptable}
 pub use Rattle.host_pairs.specs.Desk.{DeskState, desk_of, listener_on, settled}
 pub use Rattle.host_pairs.specs.Entries.{called_off, changed_at, changed_first, closed_by_partner, cls_of, entry_at, free_link, has_cls, is_at, is_busy, is_due, is_link, is_mine_on, is_open, is_receiving, must_close, receives_on, receiving_end, refused_end, sending_end, sends_on}
 pub use Rattle.host_pairs.specs.Pair.{PairState}
-pub use Rattle.host_pairs.specs.Parcels.{Bytes, asked_at, bits_gone, command_gone, link_of, may_send_on, next_of}
+pub use Rattle.host_pairs.specs.Parcels.{Bytes, command_gone, link_of, next_of}
 pub use Rattle.host_pairs.specs.Turn.{freed}
 pub use Rattle.host_pairs.specs.declared.entry.Closing.{Closing}
 pub use Rattle.host_pairs.specs.declared.entry.Entry.{Entry}

@@ -68,7 +68,7 @@ module _ (number other : ℕ → ℕ → ℕ → ℕ) (tells : IsTelling number)
       → (mine theirs : Post) → IsBox (record b { post = theirs }) (later mine) box_x → IsBox (later mine) (record b { post = theirs }) box_y
       → Joint number other tells others link (receives rms x) (sends sms y) (later mine) (record b { post = theirs })
   alone silent box_x box_y rx sy ready mine theirs bx by =
-      any x.to_receiver y.to_sender box_x box_y rx sy ready b.pending line told mine theirs bx by where
+      any _ _ box_x box_y rx sy ready _ line told mine theirs bx by where
         same : (own foreign : ℕ) → heard_from gone q.entries own foreign ≡ heard_by (later post) own foreign
         same own foreign = sym (facts.unheard link gone peer q listening x.receiver y.sender k allowed (j.mine refl).holds silent foreign own)
 
@@ -77,9 +77,9 @@ module _ (number other : ℕ → ℕ → ℕ → ℕ) (tells : IsTelling number)
 
         line : Line other link (heard_by (later post)) b.pending y.receiver.asked y.to_sender x.to_receiver
         line = record {
-          received = before.received ∙ receiver_same other link y.receiver.asked y.receiver.asked b.pending (heard_from gone q.entries) (heard_by (later post)) same (λ own foreign g l. refl);
-          sent = before.sent ∙ sender_same other link b.pending (heard_from gone q.entries) (heard_by (later post)) same;
+          received = before.received ∙ receiver_same other link y.receiver.asked y.receiver.asked b.pending _ _ same (λ own foreign g l. refl);
+          sent = before.sent ∙ sender_same other link b.pending _ _ same;
         }
 
         told : b.stays ≡ true → (own foreign : ℕ) → said_by b own foreign ≡ closings_in b.pending (heard_by (later post)) own foreign
-        told e own foreign = j.told_a refl e own foreign ∙ closings_same b.pending (heard_from gone q.entries) (heard_by (later post)) same own foreign
+        told e own foreign = j.told_a refl e own foreign ∙ closings_same b.pending _ _ same own foreign

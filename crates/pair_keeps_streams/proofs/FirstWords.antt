@@ -73,7 +73,7 @@ rts_hears c None None f = (refl, (tt, tt))
 rts_hears c (Some l) None f = (tt, (refl, tt))
 rts_hears c l (Some e) f =
     let first : is_some e.partner ≡ false = ap is_some (f e refl) in
-    subst (λ (v : Bool). HearOneSent (Rts c) (if v then [] else hears_rts true c ++ sent_open (true && is_some e.asked) c)) (sym first) (refl, open_quiet_sent (true && is_some e.asked) c)
+    subst (λ (v : Bool). HearOneSent (Rts c) (if v then [] else hears_rts true c ++ sent_open (true && is_some e.asked) c)) (sym first) (refl, open_quiet_sent _ c)
 
 pub rts_quiet : (c : ℕ) (l : Option Listener) (o : Option Entry) → AreQuietSent (rts_sent false c l o)
 rts_quiet c None None = (tt, tt)
@@ -92,7 +92,7 @@ pub str_hears : (link c z : ℕ) (l : Option Listener) (free : Option ℕ) (o : 
 str_hears link c z l free None f = (refl, answers_quiet link c l free)
 str_hears link c z l free (Some e) f =
     let first : is_some e.partner ≡ false = ap is_some (f e refl) in
-    subst (λ (v : Bool). HearOne (Str c z) (if v then [] else receivers.Hear (Str c z) ∷ received_open (receives_on link e && is_some e.asked) c)) (sym first) (refl, open_quiet (receives_on link e && is_some e.asked) c)
+    subst (λ (v : Bool). HearOne (Str c z) (if v then [] else receivers.Hear (Str c z) ∷ received_open (receives_on link e && is_some e.asked) c)) (sym first) (refl, open_quiet _ c)
 
 close_quiet : (v : Closing) (c : ℕ) → AreQuiet (received_close v c)
 close_quiet closing.Queued c = tt
@@ -130,7 +130,7 @@ module _ (name : ℕ → ℕ → ℕ) (busy : List ℕ) (own foreign : ℕ) (es 
   end_away c (Some k) f = let t : (k == c) ≡ false = ne_eqb k c (λ e. f (ap (λ (n : ℕ). Some n) e)) in rw t refl
 
   pub sent_here : is_receiving e ≡ false → s.end ≡ Some (named name e) → cls_sent name busy own foreign es s (Some e) ≡ senders.Hear (Cls (named name e)) ∷ closes name busy (changed_at own foreign closed_by_partner es)
-  sent_here r end = sent_foreign r ∙ ap (λ (ms : List senders.Move). ms ++ closes name busy (changed_at own foreign closed_by_partner es)) (end_here (named name e) s.end end)
+  sent_here r end = sent_foreign r ∙ ap (λ (ms : List senders.Move). ms ++ closes name busy (changed_at own foreign closed_by_partner es)) (end_here _ s.end end)
 
   pub sent_away : is_receiving e ≡ false → (s.end ≡ Some (named name e) → ⊥) → cls_sent name busy own foreign es s (Some e) ≡ closes name busy (changed_at own foreign closed_by_partner es)
-  sent_away r f = sent_foreign r ∙ ap (λ (ms : List senders.Move). ms ++ closes name busy (changed_at own foreign closed_by_partner es)) (end_away (named name e) s.end f)
+  sent_away r f = sent_foreign r ∙ ap (λ (ms : List senders.Move). ms ++ closes name busy (changed_at own foreign closed_by_partner es)) (end_away _ s.end f)

@@ -1,5 +1,5 @@
 -- Nothing that was granted is lost while both hosts stay: an end that opens by its own request does so before the other's is open.
-use Rattle.pair_keeps_streams.proofs.Common.{◌≡◌, inl, inr, ℕ, suc, ◌==◌, ◌&&◌, not, Bool, true, false, if◌then◌else◌, List, [], ◌∷◌, ◌++◌, filter, Option, Some, None, is_some, refl, ap, sym, subst, ◌∙◌, eq-eqb, Host, is_receive_socket, Command, Word, Rts, All, Cls, Receiver, Sender, Stream, Receives, happens, Exact, Inv, kept, some_is, changed_at, changed_first, closed_by_partner, entry_at, is_at, is_link, is_receiving, must_close, receives_on, sends_on, PairState, asked_at, Entry, Listener, both, MayAllReceive, MayAllSend, sent_open, AreReceiver, has_opened, Says, IsTelling, ends_by, gone_by, asked_sent, closes, hears_rts, of_end, rts_sent, sent_out, AreApart, named, numbers, Holds, apart_changed, find_passes, first_is, name_of, own_name, own_parity, stays, unlike}
+use Rattle.pair_keeps_streams.proofs.Common.{◌≡◌, inl, inr, ℕ, suc, ◌==◌, ◌&&◌, not, Bool, true, false, if◌then◌else◌, List, [], ◌∷◌, ◌++◌, filter, Option, Some, None, is_some, refl, ap, sym, subst, ◌∙◌, eq-eqb, Host, is_receive_socket, Command, Word, Rts, All, Cls, Receiver, Sender, Stream, Receives, happens, Exact, Inv, kept, some_is, changed_at, changed_first, closed_by_partner, entry_at, is_at, is_link, is_receiving, must_close, receives_on, sends_on, PairState, Entry, Listener, both, MayAllReceive, MayAllSend, sent_open, AreReceiver, has_opened, Says, IsTelling, ends_by, gone_by, asked_sent, closes, hears_rts, of_end, rts_sent, sent_out, AreApart, named, numbers, Holds, apart_changed, find_passes, first_is, name_of, own_name, own_parity, stays, unlike}
 use Rattle.std.proofs.lemmas.Option.{same_Some}
 use Rattle.ncp_control.specs.declared.command.Command.TheVariants as command
 use Rattle.stream_law.specs.Receivers as receivers
@@ -75,7 +75,7 @@ cls_none name busy own foreign es s (Some e) = by e.partner_closed (is_receiving
   by : (v w : Bool) → NoOpens (if v then [] else (if w then [] else of_end (named name e) s.end (senders.Hear (Cls (named name e)) ∷ [])) ++ closes name busy (changed_at own foreign closed_by_partner es))
   by true w = tt
   by false true = after
-  by false false = none_more (named name e) s.end (closes name busy (changed_at own foreign closed_by_partner es)) after
+  by false false = none_more _ s.end _ after
 
 -- a request that is heard
 rts_none : (here : Bool) (c : ℕ) (ms : List senders.Move) → NoOpens ms → NoOpens (hears_rts here c ++ ms)
@@ -88,7 +88,7 @@ heard_none false c = tt
 
 -- where an end opens by it, nothing was lost before
 pub heard_kept : (here : Bool) (c : ℕ) (listener : Option Listener) (o : Option Entry) (y : Stream) → (here ≡ true → Claims c (happens (Sends (senders.Hear (Rts c))) y)) → AreKept (rts_sent here c listener o) y
-heard_kept here c None None y claims = none_kept (hears_rts here c ++ senders.Close c ∷ []) y (rts_none here c (senders.Close c ∷ []) tt)
+heard_kept here c None None y claims = none_kept _ y (rts_none here c _ tt)
 heard_kept here c (Some l) None y claims = none_kept (senders.Ask c l.size ∷ hears_rts here c) y (heard_none here c)
 heard_kept here c listener (Some e) y claims = by (is_some e.partner) here (is_some e.asked) claims where
   by : (p h a : Bool) → (h ≡ true → Claims c (happens (Sends (senders.Hear (Rts c))) y)) → AreKept (if p then [] else hears_rts h c ++ sent_open (h && a) c) y
@@ -118,7 +118,7 @@ sends_half true v e = absurd (let no : false ≡ true = e in cc)
 module _ (number : ℕ → ℕ → ℕ → ℕ) (tells : IsTelling number) (link : ℕ) (gone : ℕ → ℕ → ℕ) (es : List Entry) (x : Receiver) (y : Stream) (h : Holds number tells link gone es x y.sender) (inv : Inv y) (unasked : IsUnasked (name_of number gone) es y.receiver) where
   module _ (own foreign : ℕ) (e : Entry) (found : entry_at own foreign es ≡ Some e) (on : sends_on link e ≡ true) where
     sending : is_receiving e ≡ false
-    sending = sends_half (is_receiving e) _ on
+    sending = sends_half _ _ on
 
     name_is : named (name_of number gone) e ≡ name_of number gone own foreign
     name_is = own_name (name_of number gone) link own foreign e es found
@@ -127,10 +127,10 @@ module _ (number : ℕ → ℕ → ℕ → ℕ) (tells : IsTelling number) (link
     claims partner unopened = elim (own_senders.own_sender (name_of number gone) link (is_at own foreign) (λ z. z) e es y.sender found on on h.sent.here).0 [
       | inl is ↦
           (let closed : has_opened e ≡ false = sym is.opened ∙ unopened in
-          let asked : e.asked ≡ None = no_some e.asked (asked_none (is_some e.asked) (is_some e.partner) closed partner) in
-          claims_ungranted y (named (name_of number gone) e) inv
+          let asked : e.asked ≡ None = no_some _ (asked_none _ _ closed partner) in
+          claims_ungranted y _ inv
           (λ end. unasked own foreign e (sym (own_parity (name_of number gone) link own foreign e es found) ∙ sending) found asked (end ∙ ap (λ (n : ℕ). Some n) name_is)))
-      | inr n ↦ λ u o. absurd (unlike (y.sender.closed (named (name_of number gone) e)) ((known_found (name_of number gone) (is_at own foreign) e es y.sender sending h.sent.known found).closed ∙ n.closed) o.sender)
+      | inr n ↦ λ u o. absurd (unlike (y.sender.closed (named (name_of number gone) e)) ((known_found (name_of number gone) _ e es _ sending h.sent.known found).closed ∙ n.closed) o.sender)
     ]
 
     opens : (v : Bool) → is_some e.partner ≡ v → AreKept (sent_open v (named (name_of number gone) e)) y
@@ -159,8 +159,8 @@ IsRequest c = ⊥
 
 module _ (number : ℕ → ℕ → ℕ → ℕ) (tells : IsTelling number) (link : ℕ) (gone : ℕ → ℕ → ℕ) (es : List Entry) (x : Receiver) (y : Stream) (h : Holds number tells link gone es x y.sender) (inv : Inv y) where
   pub out_kept : (c : Command) → (IsRequest c → IsUnasked (name_of number gone) es y.receiver) → AreKept (sent_out (name_of number gone) link c es y.sender) y
-  out_kept (command.Rts receive send l) u = asked_kept number tells link gone es x y h inv (u tt) receive send (entry_at receive send es) refl
-  out_kept (command.Str send receive z) u = asked_kept number tells link gone es x y h inv (u tt) send receive (entry_at send receive es) refl
+  out_kept (command.Rts receive send l) u = asked_kept number tells link gone es x y h inv (u tt) receive send _ refl
+  out_kept (command.Str send receive z) u = asked_kept number tells link gone es x y h inv (u tt) send receive _ refl
   out_kept c u = tt
 
 -- ---- more that goes out in the same message
@@ -197,18 +197,18 @@ kept_some (Some z) f e = by (stays z) refl where
   by false s = absurd (let none : None ≡ Some f = (rw s at e) in cc)
 
 filter_was : (es after : List Entry) → AreSeparate after → WasThere es after → WasThere es (filter stays after)
-filter_was es after a was own foreign f found none = was own foreign f (kept_some (entry_at own foreign after) f (sym (sweep_found after a own foreign) ∙ found)) none
+filter_was es after a was own foreign f found none = was own foreign f (kept_some _ f (sym (sweep_found after a own foreign) ∙ found)) none
 
 same_was : (es : List Entry) → WasThere es es
 same_was es own foreign f found none = (f, found, none)
 
 gone_was : (name : ℕ → ℕ → ℕ) (peer : Host) (stamp : ℕ) (q : PairState) (listening : List Listener) → AreApart (numbers name q.entries) → (c : Command) → WasThere q.entries (ends_by peer (Says stamp c) q listening)
-gone_was name peer stamp q listening apart (command.Rts receive send l) = changed_was (is_at receive send) (asked_at stamp) (record { own = λ x. refl; foreign = λ x. refl }) (λ e n. absurd (let no : Some stamp ≡ None = n in cc)) q.entries
-gone_was name peer stamp q listening apart (command.Str send receive z) = changed_was (is_at send receive) (asked_at stamp) (record { own = λ x. refl; foreign = λ x. refl }) (λ e n. absurd (let no : Some stamp ≡ None = n in cc)) q.entries
+gone_was name peer stamp q listening apart (command.Rts receive send l) = changed_was _ _ (record { own = λ x. refl; foreign = λ x. refl }) (λ e n. absurd (let no : Some stamp ≡ None = n in cc)) _
+gone_was name peer stamp q listening apart (command.Str send receive z) = changed_was _ _ (record { own = λ x. refl; foreign = λ x. refl }) (λ e n. absurd (let no : Some stamp ≡ None = n in cc)) _
 gone_was name peer stamp q listening apart (command.Cls own foreign) =
-    filter_was q.entries (changed_first (is_at own foreign) cls_sent q.entries) (separate name (changed_first (is_at own foreign) cls_sent q.entries) (apart_changed name (is_at own foreign) cls_sent q.entries (λ x. refl) apart))
-    (changed_was (is_at own foreign) cls_sent (record { own = λ x. refl; foreign = λ x. refl }) (λ e n. n) q.entries)
-gone_was name peer stamp q listening apart c = same_was q.entries
+    filter_was _ _ (separate name _ (apart_changed name _ cls_sent _ (λ x. refl) apart))
+    (changed_was _ cls_sent (record { own = λ x. refl; foreign = λ x. refl }) (λ e n. n) _)
+gone_was name peer stamp q listening apart c = same_was _
 
 gone_still : (u : Bool) (o : Option Entry) (f : Entry) (g : ℕ) → o ≡ Some f → (if u && not (is_some o) then suc g else g) ≡ g
 gone_still true o f g e = rw e refl
@@ -224,7 +224,7 @@ pub taken_gone : (number : ℕ → ℕ → ℕ → ℕ) (other : ℕ → ℕ →
 taken_gone number other gone peer stamp q listening fs apart c u own foreign e f odd even found none there same =
     let w : (d : Entry) × (entry_at own foreign q.entries ≡ Some d) × (d.asked ≡ None) = gone_was (name_of number gone) peer stamp q listening apart c own foreign e found none in
     u own foreign w.0 f odd even w.1 w.2 there
-    (same ∙ ap (λ (g : ℕ). number own foreign g) (gone_still (is_some (entry_at own foreign q.entries)) (entry_at own foreign (ends_by peer (Says stamp c) q listening)) e (gone own foreign) found))
+    (same ∙ ap (λ (g : ℕ). number own foreign g) (gone_still _ _ e _ found))
 
 -- ---- so it isn't open
 
@@ -236,7 +236,7 @@ found_alone test f (z ∷ zs) a e = by (test z) refl (found_alone test f zs a.1)
   here x same = rw (eq-eqb x.own x.own refl, eq-eqb x.foreign x.foreign refl) refl
 
   later : entry_at f.own f.foreign zs ≡ Some f → (v : Bool) → is_at f.own f.foreign z ≡ v → entry_at f.own f.foreign (z ∷ zs) ≡ Some f
-  later rest true t = absurd (let none : entry_at f.own f.foreign zs ≡ None = none_at f.own f.foreign z zs t a.0 in let no : None ≡ Some f = sym none ∙ rest in cc)
+  later rest true t = absurd (let none : entry_at f.own f.foreign zs ≡ None = none_at f.own _ z zs t a.0 in let no : None ≡ Some f = sym none ∙ rest in cc)
   later rest false t = rw t rest
 
   by : (v : Bool) → test z ≡ v → (filter test zs ≡ f ∷ [] → entry_at f.own f.foreign zs ≡ Some f) → entry_at f.own f.foreign (z ∷ zs) ≡ Some f
@@ -244,7 +244,7 @@ found_alone test f (z ∷ zs) a e = by (test z) refl (found_alone test f zs a.1)
       let parts : z ∷ filter test zs ≡ f ∷ [] = (rw t at e) in
       let same : z ≡ f = cc in
       subst (λ (x : Entry). entry_at x.own x.foreign (z ∷ zs) ≡ Some x) same (let t : is_at z.own z.foreign z ≡ true = here z same in rw t refl)
-  by false t rest = later (rest (rw t at e)) (is_at f.own f.foreign z) refl
+  by false t rest = later (rest (rw t at e)) _ refl
 
 module _ (number other : ℕ → ℕ → ℕ → ℕ) (tells : IsTelling number) (others : IsTelling other) (same : (own foreign g : ℕ) → other own foreign g ≡ number foreign own g) (link : ℕ) (gone gone_there : ℕ → ℕ → ℕ) (es fs : List Entry) (r : Receiver) (s : Sender)
     (h : Holds other others link gone_there fs r s) (none : NotTaken (name_of number gone) (name_of other gone_there) es fs) where
@@ -253,16 +253,16 @@ module _ (number other : ℕ → ℕ → ℕ → ℕ) (tells : IsTelling number)
     by : (xs : List Entry) → filter (receives_on link) fs ≡ xs → AreReceiver (name_of other gone_there) xs r → r.opened ≡ false
     by [] is has = absurd (let no : None ≡ Some (name_of number gone own foreign) = sym has ∙ end in cc)
     by (f ∷ []) is has =
-        let named_same : number f.foreign f.own (gone_there f.own f.foreign) ≡ number own foreign (gone own foreign) = sym (same f.own f.foreign (gone_there f.own f.foreign)) ∙ same_end (sym has.end ∙ end) in
-        let mine : f.foreign ≡ own = tells.own f.foreign f.own (gone_there f.own f.foreign) own foreign (gone own foreign) named_same in
-        let theirs : f.own ≡ foreign = tells.foreign f.foreign f.own (gone_there f.own f.foreign) own foreign (gone own foreign) named_same in
-        let there : entry_at f.own f.foreign fs ≡ Some f = found_alone (receives_on link) f fs (separate (name_of other gone_there) fs h.sound.apart) is in
+        let named_same : number f.foreign f.own (gone_there f.own f.foreign) ≡ number own foreign (gone own foreign) = sym (same f.own _ _) ∙ same_end (sym has.end ∙ end) in
+        let mine : f.foreign ≡ own = tells.own f.foreign f.own (gone_there f.own _) own foreign (gone own foreign) named_same in
+        let theirs : f.own ≡ foreign = tells.foreign f.foreign f.own (gone_there f.own _) own foreign (gone own foreign) named_same in
+        let there : entry_at f.own f.foreign fs ≡ Some f = found_alone _ f fs (separate _ fs h.sound.apart) is in
         let at_it : entry_at foreign own fs ≡ Some f = subst (λ (n : ℕ). entry_at n own fs ≡ Some f) theirs (subst (λ (n : ℕ). entry_at f.own n fs ≡ Some f) mine there) in
         let name : name_of other gone_there foreign own ≡ name_of number gone own foreign =
         subst (λ (n : ℕ). name_of other gone_there n own ≡ name_of number gone own foreign) theirs (subst (λ (n : ℕ). name_of other gone_there f.own n ≡ name_of number gone own foreign) mine (same_end (sym has.end ∙ end))) in
-        let even : is_receive_socket foreign ≡ true = subst (λ (n : ℕ). is_receive_socket n ≡ true) theirs (both (is_receiving f) (is_link link f.link) (find_passes (receives_on link) f fs (first_is (receives_on link) f [] fs is))).0 in
+        let even : is_receive_socket foreign ≡ true = subst (λ (n : ℕ). is_receive_socket n ≡ true) theirs (both (is_receiving f) (is_link link f.link) (find_passes _ f fs (first_is (receives_on link) f [] fs is))).0 in
         let partner : f.partner ≡ None = none own foreign e f odd even found asked at_it name in
-        has.opened ∙ ap (λ (o : Option ℕ). is_some f.asked && is_some o) partner ∙ and_false (is_some f.asked)
+        has.opened ∙ ap (λ (o : Option ℕ). is_some f.asked && is_some o) partner ∙ and_false _
       where
         same_end : {m n : ℕ} → Some m ≡ Some n → m ≡ n
         same_end {m} {n} e = some_is m n e

@@ -52,10 +52,10 @@ changed_step test change s shut x y z zs rest false false t a = rw (t, a) rest
 
 pub changed_alike : (test : Entry → Bool) (change : Entry → Entry) → Stays change → ((e : Entry) → (change e).partner_closed ≡ e.partner_closed) → (es : List Entry) (x y : ℕ) → IsAlike (entry_at x y es) (entry_at x y (changed_first test change es))
 changed_alike test change s shut [] x y = (refl, refl)
-changed_alike test change s shut (z ∷ zs) x y = changed_step test change s shut x y z zs (changed_alike test change s shut zs x y) (test z) (is_at x y z) refl refl
+changed_alike test change s shut (z ∷ zs) x y = changed_step test change s shut x y z zs (changed_alike test change s shut zs x y) _ _ refl refl
 
 pub changed_unheard : (test : Entry → Bool) (change : Entry → Entry) → Stays change → ((e : Entry) → (change e).partner_closed ≡ e.partner_closed) → (es : List Entry) → IsUnheard es (changed_first test change es)
-changed_unheard test change s shut es x y = alike_unheard (entry_at x y es) (entry_at x y (changed_first test change es)) (changed_alike test change s shut es x y)
+changed_unheard test change s shut es x y = alike_unheard _ _ (changed_alike test change s shut es x y)
 
 settled_step : (busy : List ℕ) (x y : ℕ) (z : Entry) (zs : List Entry) → IsAlike (entry_at x y zs) (entry_at x y (map (shut_one busy) zs)) → (b : Bool) → is_at x y z ≡ b → IsAlike (entry_at x y (z ∷ zs)) (entry_at x y (map (shut_one busy) (z ∷ zs)))
 settled_step busy x y z zs rest true a = rw a (refl, refl)
@@ -64,7 +64,7 @@ settled_step busy x y z zs rest false a = rw a rest
 -- those that are due close
 pub settled_alike : (busy : List ℕ) (es : List Entry) (x y : ℕ) → IsAlike (entry_at x y es) (entry_at x y (map (shut_one busy) es))
 settled_alike busy [] x y = (refl, refl)
-settled_alike busy (z ∷ zs) x y = settled_step busy x y z zs (settled_alike busy zs x y) (is_at x y z) refl
+settled_alike busy (z ∷ zs) x y = settled_step busy x y z zs (settled_alike busy zs x y) _ refl
 
 pub alike_both : (o p q : Option Entry) → IsAlike o p → IsAlike p q → IsAlike o q
 alike_both o p q a b = (b.0 ∙ a.0, b.1 ∙ a.1)
@@ -81,7 +81,7 @@ alone_unheard e x y unshut true a = rw a unshut
 alone_unheard e x y unshut false a = rw a refl
 
 pub append_unheard : (es : List Entry) (e : Entry) → e.partner_closed ≡ false → IsUnheard es (es ++ e ∷ [])
-append_unheard [] e unshut x y = alone_unheard e x y unshut (is_at x y e) refl
+append_unheard [] e unshut x y = alone_unheard e x y unshut _ refl
 append_unheard (z ∷ zs) e unshut x y = append_step e z x y zs (append_unheard zs e unshut x y) (is_at x y z) refl
 
 -- ---- ends that go
@@ -100,11 +100,11 @@ sweep_heard (Some f) e there false s = sym (over_heard e s)
 sweep_option : (o p : Option Entry) → is_some p ≡ is_some o → is_heard o (kept_if p) ≡ has_heard p
 sweep_option None None same = refl
 sweep_option (Some e) None same = absurd (let l : false ≡ true = same in cc)
-sweep_option o (Some e) same = sweep_heard o e (sym same) (stays e) refl
+sweep_option o (Some e) same = sweep_heard o e (sym same) _ refl
 
 -- those of which both CLS have passed go: one was heard of them
 pub swept_heard : (es after : List Entry) → AreSeparate after → (x y : ℕ) → is_some (entry_at x y after) ≡ is_some (entry_at x y es) → is_heard (entry_at x y es) (entry_at x y (filter stays after)) ≡ has_heard (entry_at x y after)
-swept_heard es after a x y same = ap (λ (o : Option Entry). is_heard (entry_at x y es) o) (sweep_found after a x y) ∙ sweep_option (entry_at x y es) (entry_at x y after) same
+swept_heard es after a x y same = ap (λ (o : Option Entry). is_heard (entry_at x y es) o) (sweep_found after a x y) ∙ sweep_option _ _ same
 
 -- ---- a CLS is heard
 
@@ -117,7 +117,7 @@ shut_step own foreign z zs x y rest false false t a = rw (t, a) rest
 
 shut_there : (own foreign : ℕ) (es : List Entry) (x y : ℕ) → is_some (entry_at x y (changed_first (is_at own foreign) closed_by_partner es)) ≡ is_some (entry_at x y es)
 shut_there own foreign [] x y = refl
-shut_there own foreign (z ∷ zs) x y = shut_step own foreign z zs x y (shut_there own foreign zs x y) (is_at own foreign z) (is_at x y z) refl refl
+shut_there own foreign (z ∷ zs) x y = shut_step own foreign z zs x y (shut_there own foreign zs x y) _ (is_at x y z) refl refl
 
 here_step : (own foreign : ℕ) (z : Entry) (zs : List Entry) → (is_some (entry_at own foreign zs) ≡ true → has_heard (entry_at own foreign (changed_first (is_at own foreign) closed_by_partner zs)) ≡ true)
     → (b : Bool) → is_at own foreign z ≡ b → is_some (entry_at own foreign (z ∷ zs)) ≡ true → has_heard (entry_at own foreign (changed_first (is_at own foreign) closed_by_partner (z ∷ zs))) ≡ true
@@ -126,7 +126,7 @@ here_step own foreign z zs rest false t there = let more : is_some (entry_at own
 
 shut_here : (own foreign : ℕ) (es : List Entry) → is_some (entry_at own foreign es) ≡ true → has_heard (entry_at own foreign (changed_first (is_at own foreign) closed_by_partner es)) ≡ true
 shut_here own foreign [] there = absurd (cc)
-shut_here own foreign (z ∷ zs) there = here_step own foreign z zs (shut_here own foreign zs) (is_at own foreign z) refl there
+shut_here own foreign (z ∷ zs) there = here_step own foreign z zs (shut_here own foreign zs) _ refl there
 
 not_both : (own foreign x y : ℕ) (z : Entry) → (y == foreign && x == own) ≡ false → is_at own foreign z ≡ true → is_at x y z ≡ true → ⊥
 not_both own foreign x y z other t a =
@@ -148,7 +148,7 @@ other_step own foreign x y z zs other rest false false t a = rw (t, a) rest
 
 shut_elsewhere : (own foreign x y : ℕ) (es : List Entry) → (y == foreign && x == own) ≡ false → has_heard (entry_at x y (changed_first (is_at own foreign) closed_by_partner es)) ≡ has_heard (entry_at x y es)
 shut_elsewhere own foreign x y [] other = refl
-shut_elsewhere own foreign x y (z ∷ zs) other = other_step own foreign x y z zs other (shut_elsewhere own foreign x y zs other) (is_at own foreign z) (is_at x y z) refl refl
+shut_elsewhere own foreign x y (z ∷ zs) other = other_step own foreign x y z zs other (shut_elsewhere own foreign x y zs other) _ _ refl refl
 
 module _ (peer : Host) (busy : List ℕ) (own foreign : ℕ) (name gone : ℕ → ℕ → ℕ) (d : DeskState) (apart : AreApart (numbers name d.entries)) (e : Entry) (found : entry_at own foreign d.entries ≡ Some e) (first : e.partner_closed ≡ false) where
   abbrev shut_entries : List Entry
@@ -156,22 +156,22 @@ module _ (peer : Host) (busy : List ℕ) (own foreign : ℕ) (name gone : ℕ �
 
   shut_separate : AreSeparate shut_entries
   shut_separate = separate name shut_entries
-      (subst AreApart (sym (numbers_mapped name (shut_one busy) (changed_first (is_at own foreign) closed_by_partner d.entries) (λ x. refl))) (apart_changed name (is_at own foreign) closed_by_partner d.entries (λ x. refl) apart))
+      (subst AreApart (sym (numbers_mapped name _ _ (λ x. refl))) (apart_changed name _ closed_by_partner _ (λ x. refl) apart))
 
   shut_heard : (x y : ℕ) → is_heard (entry_at x y d.entries) (entry_at x y (filter stays shut_entries)) ≡ has_heard (entry_at x y (changed_first (is_at own foreign) closed_by_partner d.entries))
   shut_heard x y =
-      let a : IsAlike (entry_at x y (changed_first (is_at own foreign) closed_by_partner d.entries)) (entry_at x y shut_entries) = settled_alike busy (changed_first (is_at own foreign) closed_by_partner d.entries) x y in
-      swept_heard d.entries shut_entries shut_separate x y (a.0 ∙ shut_there own foreign d.entries x y) ∙ a.1
+      let a : IsAlike (entry_at x y (changed_first (is_at own foreign) closed_by_partner d.entries)) (entry_at x y shut_entries) = settled_alike busy _ x y in
+      swept_heard _ shut_entries shut_separate x y (a.0 ∙ shut_there own foreign _ x y) ∙ a.1
 
   heard_here : heard_of (gone_by d.entries (filter stays shut_entries) gone) (filter stays shut_entries) own foreign ≡ suc (heard_of gone d.entries own foreign)
   heard_here =
-      let now : has_heard (entry_at own foreign (changed_first (is_at own foreign) closed_by_partner d.entries)) ≡ true = shut_here own foreign d.entries (ap is_some found) in
+      let now : has_heard (entry_at own foreign (changed_first (is_at own foreign) closed_by_partner d.entries)) ≡ true = shut_here own foreign _ (ap is_some found) in
       let before : has_heard (entry_at own foreign d.entries) ≡ false = ap has_heard found ∙ first in
-      heard_after gone d.entries (filter stays shut_entries) own foreign ∙ ap (λ (v : Bool). counted v (gone own foreign)) (shut_heard own foreign ∙ now) ∙ ap (λ (v : Bool). suc (counted v (gone own foreign))) (sym before)
+      heard_after gone _ _ own foreign ∙ ap (λ (v : Bool). counted v (gone own foreign)) (shut_heard own foreign ∙ now) ∙ ap (λ (v : Bool). suc (counted v (gone own foreign))) (sym before)
 
   heard_elsewhere : (x y : ℕ) → (y == foreign && x == own) ≡ false → heard_of (gone_by d.entries (filter stays shut_entries) gone) (filter stays shut_entries) x y ≡ heard_of gone d.entries x y
   heard_elsewhere x y other =
-      heard_after gone d.entries (filter stays shut_entries) x y ∙ ap (λ (v : Bool). counted v (gone x y)) (shut_heard x y ∙ shut_elsewhere own foreign x y d.entries other)
+      heard_after gone _ _ x y ∙ ap (λ (v : Bool). counted v (gone x y)) (shut_heard x y ∙ shut_elsewhere own foreign x y _ other)
 
   heard_at : (x y : ℕ) (v : Bool) → (y == foreign && x == own) ≡ v → heard_of (gone_by d.entries (filter stays shut_entries) gone) (filter stays shut_entries) x y ≡ (if v then suc (heard_of gone d.entries x y) else heard_of gone d.entries x y)
   heard_at x y true t =
@@ -183,4 +183,4 @@ module _ (peer : Host) (busy : List ℕ) (own foreign : ℕ) (name gone : ℕ �
   heard_at x y false t = heard_elsewhere x y t
 
   pub cls_heard : (x y : ℕ) → heard_from (gone_by d.entries (cls_taken_by peer busy own foreign (Some e) d).entries gone) (cls_taken_by peer busy own foreign (Some e) d).entries y x ≡ with_closing (command.Cls foreign own) (heard_from gone d.entries) y x
-  cls_heard x y = rw first (heard_at x y (y == foreign && x == own) refl)
+  cls_heard x y = rw first (heard_at x y _ refl)

@@ -37,7 +37,7 @@ module _ (name : ℕ → ℕ → ℕ) (link : ℕ) (r : Receiver) where
 
   pub linked_filter : (keep : Entry → Bool) (es : List Entry) → AreLinked name link es r → AreLinked name link (filter keep es) r
   linked_filter keep [] l = tt
-  linked_filter keep (y ∷ ys) l = filter_step keep y ys l (linked_filter keep ys l.1) (keep y) refl
+  linked_filter keep (y ∷ ys) l = filter_step keep y ys l (linked_filter keep ys l.1) _ refl
 
   pub linked_append : (es : List Entry) (e : Entry) → AreLinked name link es r → (is_receiving e ≡ true → r.asked (named name e) ≡ is_link link e.link) → AreLinked name link (es ++ e ∷ []) r
   linked_append [] e l one = (one, tt)

@@ -1,5 +1,5 @@
 -- A call asks only for connections of which no CLS was said.
-use Rattle.pair_keeps_streams.proofs.Common.{◌≡◌, ℕ, ◌<◌, ◌==◌, ◌&&◌, Bool, true, false, if◌then◌else◌, List, [], ◌∷◌, length, Option, Some, None, is_some, not, refl, sym, subst, ◌∙◌, arith, ne_eqb, header_of, data_bits, Command, DataHeader, for, covers, holds, is_size, Receiver, Sender, data_of, listener_on, entry_at, free_link, is_receiving, receives_on, PairState, Closing, Entry, Listener, all_received, received_close, received_gone, received_open, Call, Hears, Takes, Says, OpensReceiver, Grants, AsksBack, Closes, IsTelling, IsAllowed, received_at, answers_str, asked_received, asks_for, closed_received, cls_received, data_received, str_received, named, name_of, counted, has_said, said_of}
+use Rattle.pair_keeps_streams.proofs.Common.{◌≡◌, ℕ, ◌<◌, ◌==◌, ◌&&◌, Bool, true, false, if◌then◌else◌, List, [], ◌∷◌, length, Option, Some, None, is_some, refl, sym, subst, ◌∙◌, arith, ne_eqb, data_bits, Command, DataHeader, for, covers, holds, is_size, Receiver, Sender, data_of, entry_at, receives_on, PairState, Closing, Entry, Listener, all_received, received_close, received_gone, received_open, Call, Hears, Takes, Says, OpensReceiver, Grants, AsksBack, Closes, IsTelling, IsAllowed, received_at, answers_str, asked_received, asks_for, closed_received, cls_received, data_received, str_received, named, name_of, counted, has_said, said_of}
 use Rattle.ncp_control.specs.declared.command.Command.TheVariants as command
 use Rattle.stream_law.specs.Words as words
 use Rattle.stream_law.specs.Receivers as receivers
@@ -65,23 +65,23 @@ module _ (P : ℕ → Type 0) where
 
   asks_ask : (link c : ℕ) (o : Option ℕ) → P c → AllAsk P (asks_for link c o)
   asks_ask link c None p = tt
-  asks_ask link c (Some other) p = if_ask (other == link) (receivers.Ask c ∷ []) (p, tt)
+  asks_ask link c (Some other) p = if_ask _ (receivers.Ask c ∷ []) (p, tt)
 
   answers_ask : (link c : ℕ) (l : Option Listener) (o : Option ℕ) → P c → AllAsk P (answers_str link c l o)
   answers_ask link c None o p = tt
   answers_ask link c (Some l) None p = tt
-  answers_ask link c (Some l) (Some other) p = if_ask (other == link) (receivers.Ask c ∷ []) (p, tt)
+  answers_ask link c (Some l) (Some other) p = if_ask _ (receivers.Ask c ∷ []) (p, tt)
 
   str_ask : (link c z : ℕ) (l : Option Listener) (free : Option ℕ) (o : Option Entry) → (o ≡ None → P c) → AllAsk P (str_received link c z l free o)
   str_ask link c z l free None p = (tt, answers_ask link c l free (p refl))
   str_ask link c z l free (Some e) p = by (is_some e.partner) where
     by : (v : Bool) → AllAsk P (if v then [] else receivers.Hear (words.Str c z) ∷ received_open (receives_on link e && is_some e.asked) c)
     by true = tt
-    by false = (tt, open_ask (receives_on link e && is_some e.asked) c)
+    by false = (tt, open_ask _ c)
 
   cls_ask : (link c : ℕ) (o : Option Entry) → AllAsk P (cls_received link c o)
   cls_ask link c None = tt
-  cls_ask link c (Some e) = if_ask (is_receiving e && not e.partner_closed) (receivers.Hear (words.Cls c) ∷ (if receives_on link e then received_close e.closing c else [])) (tt, if_ask (receives_on link e) (received_close e.closing c) (close_ask e.closing c))
+  cls_ask link c (Some e) = if_ask _ (receivers.Hear (words.Cls c) ∷ (if receives_on link e then received_close e.closing c else [])) (tt, if_ask (receives_on link e) (received_close e.closing c) (close_ask e.closing c))
 
   data_ask : (link l : ℕ) (text : List Bool) (o : Option DataHeader) → AllAsk P (data_received link l text o)
   data_ask link l text None = tt
@@ -100,9 +100,9 @@ module _ (P : ℕ → Type 0) where
 
   module _ (name : ℕ → ℕ → ℕ) (link : ℕ) (q : PairState) (listening : List Listener) (new : (own foreign : ℕ) → entry_at own foreign q.entries ≡ None → P (name own foreign)) where
     heard_ask : (stamp said : ℕ) (c : Command) → AllAsk P (received_at name link (Hears stamp said c) q listening)
-    heard_ask stamp said (command.Str send receive z) = str_ask link (name receive send) z (listener_on receive listening) (free_link q.entries) (entry_at receive send q.entries) (new receive send)
+    heard_ask stamp said (command.Str send receive z) = str_ask link _ z _ _ _ (new receive send)
     heard_ask stamp said (command.Cls foreign own) = cls_ask link (name own foreign) (entry_at own foreign q.entries)
-    heard_ask stamp said (command.Ret l m n) = if_ask (l == link) (receivers.Hear (words.Ret said m n) ∷ []) (tt, tt)
+    heard_ask stamp said (command.Ret l m n) = if_ask _ (receivers.Hear (words.Ret said m n) ∷ []) (tt, tt)
     heard_ask stamp said c = tt
 
     out_ask : (stamp : ℕ) (c : Command) → AllAsk P (received_at name link (Says stamp c) q listening)
@@ -113,12 +113,12 @@ module _ (P : ℕ → Type 0) where
 
     call_ask : (k : Call) (s : Sender) → IsAllowed link k q s → AllAsk P (received_at name link k q listening)
     call_ask (Hears stamp said c) s a = heard_ask stamp said c
-    call_ask (Takes l text) s a = data_ask link l text (header_of text)
+    call_ask (Takes l text) s a = data_ask link l text _
     call_ask (Says stamp c) s a = out_ask stamp c
-    call_ask (OpensReceiver own foreign) s a = asks_ask link (name own foreign) (free_link q.entries) (new own foreign a.1)
-    call_ask (Grants socket m n e) s a = if_ask (receives_on link e) (receivers.Grant (named name e) m n ∷ []) (tt, tt)
-    call_ask (AsksBack socket m n e) s a = if_ask (receives_on link e) (receivers.AskBack (named name e) m n ∷ []) (tt, tt)
-    call_ask (Closes socket e) s a = if_ask (receives_on link e) (receivers.Close (named name e) ∷ []) (tt, tt)
+    call_ask (OpensReceiver own foreign) s a = asks_ask link _ _ (new own foreign a.1)
+    call_ask (Grants socket m n e) s a = if_ask _ (receivers.Grant (named name e) m n ∷ []) (tt, tt)
+    call_ask (AsksBack socket m n e) s a = if_ask _ (receivers.AskBack (named name e) m n ∷ []) (tt, tt)
+    call_ask (Closes socket e) s a = if_ask _ (receivers.Close (named name e) ∷ []) (tt, tt)
     call_ask k s a = tt
 
 -- ---- no CLS was said of it
@@ -134,12 +134,12 @@ module _ (number : ℕ → ℕ → ℕ → ℕ) (tells : IsTelling number) (link
       let b : foreign ≡ n.1 = tells.foreign own foreign g n.0 n.1 (gone n.0 n.1) n.2 in
       let c : g ≡ gone n.0 n.1 = tells.gone own foreign g n.0 n.1 (gone n.0 n.1) n.2 in
       let m : g < said_of gone q.entries n.0 n.1 = subst (λ (i : ℕ). g < said_of gone q.entries n.0 i) b (subst (λ (i : ℕ). g < said_of gone q.entries i foreign) a l) in
-      absurd (less (entry_at n.0 n.1 q.entries) n.3 (gone n.0 n.1) c m) where
+      absurd (less _ n.3 _ c m) where
         less : (o : Option Entry) → o ≡ None → (h : ℕ) → g ≡ h → g < counted (has_said o) h → ⊥
         less None e h c m = absurd (omega (arith, c, m))
         less (Some y) e h c m = absurd (cc)
 
   pub news : AskedSame number link r.asked (all_received (received_at (name_of number gone) link k q listening) r).asked (said_of gone q.entries)
   news own foreign g l =
-      moves_asked IsNone (number own foreign g) (none_said own foreign g l) (received_at (name_of number gone) link k q listening) r
+      moves_asked IsNone (number own foreign g) (none_said own foreign g l) _ r
       (call_ask IsNone (name_of number gone) link q listening (λ o f e. (o, f, refl, e)) k s allowed)

@@ -155,8 +155,8 @@ module _ (number other : ℕ → ℕ → ℕ → ℕ) (tells : IsTelling number)
     mine = λ e. never e;
     theirs = λ e. record { holds = (j.theirs e).holds; linked = (j.theirs e).linked };
     to_b = λ e. record {
-      received = (j.to_b e).received ∙ receiver_same number link x.receiver.asked (receivers.takes z bits x.receiver.end x.receiver).asked a.pending (heard_by b) (heard_by b) (λ own foreign. refl)
-          (λ own foreign g l. take_asked (λ k. ⊥) (number own foreign g) (λ n. n) z bits x.receiver.end x.receiver);
+      received = (j.to_b e).received ∙ receiver_same number link x.receiver.asked (receivers.takes z bits x.receiver.end x.receiver).asked a.pending (heard_by b) _ (λ own foreign. refl)
+          (λ own foreign g l. take_asked (λ k. ⊥) (number own foreign g) (λ n. n) z bits x.receiver.end _);
       sent = (j.to_b e).sent;
     };
     to_a = λ e. never e;

@@ -1,10 +1,10 @@
 -- What each call of a program queues is what the moves by it say.
-use Rattle.pair_keeps_streams.proofs.Common.{◌≡◌, ℕ, ◌==◌, ◌&&◌, Bool, true, false, if◌then◌else◌, List, [], ◌∷◌, ◌++◌, map, Option, Some, None, is_some, refl, ap, sym, subst, ◌∙◌, arith, list_any, Host, IsCommand, is_receive_socket, Command, Word, Receiver, Sender, receiver_on, sender_on, asked_on_link, asked_with_size, rts_heard, rts_taken, rts_taken_by, str_heard, str_linked, str_taken_by, DeskState, desk_of, listener_on, changed_first, entry_at, free_link, has_cls, is_at, receives_on, receiving_end, sending_end, sends_on, PairState, freed, Entry, Listener, all_received, received_open, sent_open, Call, Hears, Takes, Says, Answered, OpensReceiver, OpensSender, Grants, AsksBack, Gives, Closes, IsAllowed, IsTelling, ends_by, received_at, sent_at, answers_str, hears_rts, rts_sent, str_received, Holds, IsAhead, is_there, name_of, odd_is, unlike, plain, received_words, sent_words}
+use Rattle.pair_keeps_streams.proofs.Common.{◌≡◌, ℕ, ◌==◌, ◌&&◌, Bool, true, false, if◌then◌else◌, List, [], ◌∷◌, ◌++◌, map, Option, Some, None, is_some, refl, ap, sym, subst, ◌∙◌, arith, list_any, Host, IsCommand, is_receive_socket, Command, Word, Receiver, Sender, rts_heard, rts_taken, rts_taken_by, str_heard, str_linked, str_taken_by, DeskState, desk_of, listener_on, changed_first, entry_at, free_link, has_cls, is_at, receives_on, receiving_end, sending_end, sends_on, PairState, Entry, Listener, all_received, received_open, sent_open, Call, Hears, Takes, Says, Answered, OpensReceiver, OpensSender, Grants, AsksBack, Gives, Closes, IsAllowed, IsTelling, ends_by, received_at, sent_at, answers_str, hears_rts, rts_sent, str_received, Holds, IsAhead, is_there, name_of, odd_is, unlike, plain, received_words, sent_words}
 use Rattle.ncp_control.specs.declared.command.Command.TheVariants as command
 use Rattle.stream_law.specs.Words as words
 use Rattle.stream_law.specs.Receivers as receivers
 use Rattle.stream_law.specs.Senders as senders
-use Rattle.host_pairs.specs.Commands.{matched_once, str_taken}
+use Rattle.host_pairs.specs.Commands.{matched_once, str_taken, asked_on_link, asked_with_size}
 use Rattle.host_keeps_streams.specs.Histories.{Sends}
 use Rattle.pair_keeps_streams.proofs.Joint.{AreLinked, IsPairedCall, Speaks, queue_by}
 use Rattle.pair_keeps_streams.proofs.Queues.{Told, append_kept, changed_kept, one_told, silent}
@@ -32,10 +32,10 @@ module _ (number : ℕ → ℕ → ℕ → ℕ) (link : ℕ) (gone : ℕ → ℕ
   -- one for an end
   matched_told : (asked : ℕ → Bool) (c : Command) (e : Entry) (change : Entry → Entry) (rs ss : List Word) → rs ≡ [] → ss ≡ [] → ((x : Entry) → (change x).own ≡ x.own) → ((x : Entry) → (change x).foreign ≡ x.foreign) → ((x : Entry) → (change x).closing ≡ x.closing)
       → (v : Bool) → is_some e.partner ≡ v → RequestTold asked (matched_once peer own foreign c e change d) rs ss
-  matched_told asked c e change rs ss r s o f k true p = rw p (wrong_told number link gone asked d.entries d.queue _ _ rs ss r s)
+  matched_told asked c e change rs ss r s o f k true p = rw p (wrong_told number link gone asked _ _ _ _ rs ss r s)
   matched_told asked c e change rs ss r s o f k false p =
       rw p (silent number link gone d.entries d.queue (changed_first (is_at own foreign) change d.entries) asked
-      (changed_kept (is_at own foreign) change (record { own = o; foreign = f }) d.entries (λ x t. ap has_cls (k x))) rs ss r s)
+      (changed_kept _ change (record { own = o; foreign = f }) _ (λ x t. ap has_cls (k x))) rs ss r s)
 
   module _ (asked : ℕ → Bool) (l : ℕ) (odd : is_receive_socket own ≡ false) (s : Sender) where
     rts_end : (e : Entry) → (v : Bool) → sent_words (if v then [] else hears_rts (l == link) (name_of number gone own foreign) ++ sent_open ((l == link) && is_some e.asked) (name_of number gone own foreign)) s ≡ []
@@ -50,24 +50,24 @@ module _ (number : ℕ → ℕ → ℕ → ℕ) (link : ℕ) (gone : ℕ → ℕ
         (sym (rts_quiet (l == link) (name_of number gone own foreign) (senders.Close (name_of number gone own foreign) ∷ []) s (λ t. refl)))
         (refused_sender number link gone d.entries d.queue own foreign stamp none asked odd)
     rts_new none (Some m) =
-        one_told number link gone d.entries d.queue (d.entries ++ asked_on_link stamp l (sending_end own foreign m.size) ∷ []) asked (append_kept d.entries (asked_on_link stamp l (sending_end own foreign m.size)) refl) (command.Str own foreign m.size) (λ n x y. refl)
-        [] (sent_words (senders.Ask (name_of number gone own foreign) m.size ∷ hears_rts (l == link) (name_of number gone own foreign)) s) refl
-        (ap (map plain) (asks_quiet (l == link) (name_of number gone own foreign) m.size s) ∙ str_word number link gone asked own foreign m.size d.entries none)
+        one_told number link gone d.entries d.queue (d.entries ++ asked_on_link stamp l (sending_end own foreign m.size) ∷ []) asked (append_kept _ _ refl) _ (λ n x y. refl)
+        [] _ refl
+        (ap (map plain) (asks_quiet (l == link) _ m.size s) ∙ str_word number link gone asked own foreign m.size _ none)
 
     rts_by : (o : Option Entry) → entry_at own foreign d.entries ≡ o
         → RequestTold asked (rts_taken_by peer own foreign l stamp o d) [] (sent_words (rts_sent (l == link) (name_of number gone own foreign) (listener_on own d.listening) o) s)
-    rts_by None none = rts_new none (listener_on own d.listening)
+    rts_by None none = rts_new none _
     rts_by (Some e) found =
-        matched_told asked (command.Rts foreign own l) e (asked_on_link stamp l) [] _ refl (rts_end e (is_some e.partner)) (λ x. refl) (λ x. refl) (λ x. refl) (is_some e.partner) refl
+        matched_told asked (command.Rts foreign own l) e (asked_on_link stamp l) [] _ refl (rts_end e _) (λ x. refl) (λ x. refl) (λ x. refl) _ refl
 
     rts_free : (v : Bool) → list_any (sends_on l) d.entries ≡ v
         → RequestTold asked (rts_taken peer own foreign l stamp d) [] (sent_words (if v then [] else rts_sent (l == link) (name_of number gone own foreign) (listener_on own d.listening) (entry_at own foreign d.entries)) s)
-    rts_free true t = rw t (wrong_told number link gone asked d.entries d.queue _ _ [] [] refl refl)
-    rts_free false t = rw t (rts_by (entry_at own foreign d.entries) refl)
+    rts_free true t = rw t (wrong_told number link gone asked _ _ _ _ [] [] refl refl)
+    rts_free false t = rw t (rts_by _ refl)
 
     rts_told : RequestTold asked (rts_taken peer own foreign l stamp d) []
         (sent_words (if list_any (sends_on l) d.entries then [] else rts_sent (l == link) (name_of number gone own foreign) (listener_on own d.listening) (entry_at own foreign d.entries)) s)
-    rts_told = rts_free (list_any (sends_on l) d.entries) refl
+    rts_told = rts_free _ refl
 
   module _ (size : ℕ) (even : is_receive_socket own ≡ true) (r : Receiver) (new : entry_at own foreign d.entries ≡ None → r.asked (name_of number gone own foreign) ≡ false) where
     abbrev StrTold : DeskState → List receivers.Move → Type 0
@@ -76,28 +76,28 @@ module _ (number : ℕ → ℕ → ℕ → ℕ) (link : ℕ) (gone : ℕ → ℕ
     str_end : (e : Entry) → (v : Bool)
         → received_words (if v then [] else receivers.Hear (words.Str (name_of number gone own foreign) size) ∷ received_open (receives_on link e && is_some e.asked) (name_of number gone own foreign)) ≡ []
     str_end e true = refl
-    str_end e false = opened_received (receives_on link e && is_some e.asked) (name_of number gone own foreign)
+    str_end e false = opened_received _ _
 
     str_free : entry_at own foreign d.entries ≡ None → (m : Listener) (o : Option ℕ)
         → StrTold (str_linked own foreign size stamp o d) (receivers.Hear (words.Str (name_of number gone own foreign) size) ∷ answers_str link (name_of number gone own foreign) (Some m) o)
-    str_free none m None = refused_receiver number link gone d.entries d.queue own foreign stamp none r.asked even (new none)
+    str_free none m None = refused_receiver number link gone d.entries d.queue own foreign stamp none _ even (new none)
     str_free none m (Some other) =
-        one_told number link gone d.entries d.queue (d.entries ++ asked_with_size stamp size (receiving_end own foreign other) ∷ []) _ (append_kept d.entries (asked_with_size stamp size (receiving_end own foreign other)) refl)
-        (command.Rts own foreign other) (λ n x y. refl) _ [] (rts_word number link gone r.asked own foreign other d.entries none (other == link) refl) refl
+        one_told number link gone d.entries d.queue (d.entries ++ asked_with_size stamp size (receiving_end own foreign other) ∷ []) _ (append_kept _ _ refl)
+        _ (λ n x y. refl) _ [] (rts_word number link gone r.asked own foreign other _ none _ refl) refl
 
     str_new : entry_at own foreign d.entries ≡ None → (o : Option Listener)
         → StrTold (str_heard own foreign size stamp o d) (receivers.Hear (words.Str (name_of number gone own foreign) size) ∷ answers_str link (name_of number gone own foreign) o (free_link d.entries))
-    str_new none None = refused_receiver number link gone d.entries d.queue own foreign stamp none r.asked even (new none)
-    str_new none (Some m) = str_free none m (free_link d.entries)
+    str_new none None = refused_receiver number link gone d.entries d.queue own foreign stamp none _ even (new none)
+    str_new none (Some m) = str_free none m _
 
     str_by : (o : Option Entry) → entry_at own foreign d.entries ≡ o
         → StrTold (str_taken_by peer own foreign size stamp o d) (str_received link (name_of number gone own foreign) size (listener_on own d.listening) (free_link d.entries) o)
-    str_by None none = str_new none (listener_on own d.listening)
+    str_by None none = str_new none _
     str_by (Some e) found =
-        matched_told _ (command.Str foreign own size) e (asked_with_size stamp size) _ [] (str_end e (is_some e.partner)) refl (λ x. refl) (λ x. refl) (λ x. refl) (is_some e.partner) refl
+        matched_told _ (command.Str foreign own size) e (asked_with_size stamp size) _ [] (str_end e _) refl (λ x. refl) (λ x. refl) (λ x. refl) _ refl
 
     str_told : StrTold (str_taken peer own foreign size stamp d) (str_received link (name_of number gone own foreign) size (listener_on own d.listening) (free_link d.entries) (entry_at own foreign d.entries))
-    str_told = str_by (entry_at own foreign d.entries) refl
+    str_told = str_by _ refl
 
 -- ---- all calls
 
@@ -107,7 +107,7 @@ module _ (number : ℕ → ℕ → ℕ → ℕ) (tells : IsTelling number) (link
   never_asked : (own foreign : ℕ) → entry_at own foreign q.entries ≡ None → r.asked (name_of number gone own foreign) ≡ false
   never_asked own foreign none = (h.unknown own foreign (gone own foreign) ahead).unasked where
     ahead : IsAhead gone q.entries own foreign (gone own foreign)
-    ahead = record { none = λ t. omega arith; one = λ t. absurd (unlike (is_there own foreign q.entries) t (ap is_some none)) }
+    ahead = record { none = λ t. omega arith; one = λ t. absurd (unlike (is_there own foreign _) t (ap is_some none)) }
 
   abbrev CallTold : Call → Type 0
   CallTold k =
@@ -120,21 +120,21 @@ module _ (number : ℕ → ℕ → ℕ → ℕ) (tells : IsTelling number) (link
   hears_told stamp said (command.Cls foreign own) i = cls_told number link gone q.entries q.queue r h.sound.apart h.received linked peer q.busy own foreign listening s
   hears_told stamp said (command.All l m n) i =
       all_told number link gone (desk_of q listening) r.asked l m n [] _ refl (if_sent (l == link) (senders.Hear (words.All said m n) ∷ []) s refl)
-  hears_told stamp said (command.Gvb l m n) i = gvb_told number link gone (desk_of q listening) r.asked (name_of number gone) said l m n s h.sent.here
+  hears_told stamp said (command.Gvb l m n) i = gvb_told number link gone (desk_of q listening) r.asked _ said l m n s h.sent.here
   hears_told stamp said (command.Ret l m n) i =
       ret_told number link gone (desk_of q listening) _ l m n _ [] (if_received (l == link) (receivers.Hear (words.Ret said m n) ∷ []) refl) refl
-  hears_told stamp said (command.Inr l) i = interrupt_told number link gone (desk_of q listening) r.asked (command.Inr l) (sender_on l (desk_of q listening))
-  hears_told stamp said (command.Ins l) i = interrupt_told number link gone (desk_of q listening) r.asked (command.Ins l) (receiver_on l (desk_of q listening))
+  hears_told stamp said (command.Inr l) i = interrupt_told number link gone (desk_of q listening) r.asked (command.Inr l) _
+  hears_told stamp said (command.Ins l) i = interrupt_told number link gone (desk_of q listening) r.asked (command.Ins l) _
   hears_told stamp said (command.Eco octet) i = echo_told number link gone (desk_of q listening) r.asked octet
   hears_told stamp said c i = quiet_told number link gone (desk_of q listening) r.asked
 
   call_told : (k : Call) → IsAllowed link k q s → IsPairedCall k → CallTold k
   call_told (Hears stamp said c) a p = hears_told stamp said c a.0
-  call_told (Takes l text) a p = data_told number link gone _ l text (desk_of q listening)
+  call_told (Takes l text) a p = data_told number link gone _ l text _
   call_told (Says stamp c) a p = says_told number link gone _ peer stamp c q listening s h.sound.apart a
   call_told (Sends stamp e size count) a p = bytes_told number link gone r.asked peer stamp e size count q listening s
-  call_told (Answered l) a p = answered_told number link gone q.entries q.queue r h.sound.apart h.received linked (freed l q).busy l s
-  call_told (OpensReceiver own foreign) a p = opens_receiver number link gone _ own foreign q a.1 (free_link q.entries)
+  call_told (Answered l) a p = answered_told number link gone q.entries q.queue r h.sound.apart h.received linked _ l s
+  call_told (OpensReceiver own foreign) a p = opens_receiver number link gone _ own foreign q a.1 _
   call_told (OpensSender own foreign size) a p = opens_sender number link gone r.asked own foreign size q s a
   call_told (Grants socket m n e) a p = grants_told number link gone _ free socket q e a.0 m n a.1
   call_told (AsksBack socket m n e) a p = asks_back_told number link gone _ free socket q e a.0 m n p

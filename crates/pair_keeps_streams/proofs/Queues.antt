@@ -55,7 +55,7 @@ module _ (number : ℕ → ℕ → ℕ → ℕ) (link : ℕ) (gone : ℕ → ℕ
   one_told k c still rs ss r s = record {
     new = c ∷ [];
     adds = refl;
-    counts = λ x y. kept_counts gone before after k x y ∙ sym (still (said_of gone before) x y);
+    counts = λ x y. kept_counts gone before after k x y ∙ sym (still _ x y);
     received = r ∙ sym (append-nil (receiver_word number link asked (said_of gone before) c));
     sent = s ∙ sym (append-nil (sender_word number link (said_of gone before) c));
   }
@@ -67,7 +67,7 @@ kept_option None = refl
 kept_option (Some e) = refl
 
 pub kept_same : (es : List Entry) → IsKept es es
-kept_same es x y = kept_option (entry_at x y es)
+kept_same es x y = kept_option _
 
 -- both are there or none, and of both a CLS was said or of none
 abbrev pub IsAlike : Option Entry → Option Entry → Type 0
@@ -105,10 +105,10 @@ pub changed_alike : (test : Entry → Bool) (change : Entry → Entry) → Stays
     → IsAlike (entry_at x y es) (entry_at x y (changed_first test change es))
 changed_alike test change s [] said x y = (refl, refl)
 changed_alike test change s (z ∷ zs) said x y =
-    changed_step test change s x y z zs (λ t. said z (first_found test z zs t)) (λ t. changed_alike test change s zs (λ e f. said e (later_found test z e zs t f)) x y) (test z) (is_at x y z) refl refl
+    changed_step test change s x y z zs (λ t. said z (first_found test z zs t)) (λ t. changed_alike test change s zs (λ e f. said e (later_found test z e zs t f)) x y) _ _ refl refl
 
 pub changed_kept : (test : Entry → Bool) (change : Entry → Entry) → Stays change → (es : List Entry) → ((e : Entry) → find test es ≡ Some e → has_cls (change e).closing ≡ has_cls e.closing) → IsKept es (changed_first test change es)
-changed_kept test change s es said x y = alike_kept (entry_at x y es) (entry_at x y (changed_first test change es)) (changed_alike test change s es said x y)
+changed_kept test change s es said x y = alike_kept _ _ (changed_alike test change s es said x y)
 
 -- ---- a new end
 
@@ -123,8 +123,8 @@ alone_kept e x y unsaid false a = rw a refl
 
 -- one that said no CLS
 pub append_kept : (es : List Entry) (e : Entry) → has_cls e.closing ≡ false → IsKept es (es ++ e ∷ [])
-append_kept [] e unsaid x y = alone_kept e x y unsaid (is_at x y e) refl
-append_kept (z ∷ zs) e unsaid x y = append_step e z x y zs unsaid (append_kept zs e unsaid x y) (is_at x y z) refl
+append_kept [] e unsaid x y = alone_kept e x y unsaid _ refl
+append_kept (z ∷ zs) e unsaid x y = append_step e z x y zs unsaid (append_kept zs e unsaid x y) _ refl
 
 -- ---- sockets
 
@@ -149,8 +149,8 @@ separate name (z ∷ zs) a = (by (entry_at z.own z.foreign zs) refl, separate na
   by : (o : Option Entry) → entry_at z.own z.foreign zs ≡ o → entry_at z.own z.foreign zs ≡ None
   by None f = f
   by (Some e) f =
-      let there : is_among (named name e) (numbers name zs) ≡ true = found_among name (is_at z.own z.foreign) e zs f in
-      let same : named name e ≡ named name z = own_name name 0 z.own z.foreign e zs f in
+      let there : is_among (named name e) (numbers name zs) ≡ true = found_among name _ e zs f in
+      let same : named name e ≡ named name z = own_name name 0 z.own _ e zs f in
       absurd (unlike (is_among (named name z) (numbers name zs)) (subst (λ (n : ℕ). is_among n (numbers name zs) ≡ true) same there) a.0)
 
 pub none_at : (x y : ℕ) (z : Entry) (zs : List Entry) → is_at x y z ≡ true → entry_at z.own z.foreign zs ≡ None → entry_at x y zs ≡ None
@@ -173,10 +173,10 @@ sweep_step x y z zs none rest false false s a = rw (s, a) rest
 
 pub sweep_found : (es : List Entry) → AreSeparate es → (x y : ℕ) → entry_at x y (filter stays es) ≡ kept_if (entry_at x y es)
 sweep_found [] a x y = refl
-sweep_found (z ∷ zs) a x y = sweep_step x y z zs (λ t. none_at x y z zs t a.0) (sweep_found zs a.1 x y) (stays z) (is_at x y z) refl refl
+sweep_found (z ∷ zs) a x y = sweep_step x y z zs (λ t. none_at x y z zs t a.0) (sweep_found zs a.1 x y) _ _ refl refl
 
 over_said : (e : Entry) → stays e ≡ false → has_cls e.closing ≡ true
-over_said e s = of e.closing refl where
+over_said e s = of _ refl where
   of : (v : Closing) → e.closing ≡ v → has_cls v ≡ true
   of closing.No same = absurd (let r : true ≡ false = rw same at s in cc)
   of closing.Due same = absurd (let r : true ≡ false = rw same at s in cc)
@@ -191,11 +191,11 @@ sweep_said (Some f) e there false s = sym (over_said e s)
 sweep_option : (o p : Option Entry) → is_some p ≡ is_some o → is_said o (kept_if p) ≡ has_said p
 sweep_option None None same = refl
 sweep_option (Some e) None same = absurd (let l : false ≡ true = same in cc)
-sweep_option o (Some e) same = sweep_said o e (sym same) (stays e) refl
+sweep_option o (Some e) same = sweep_said o e (sym same) _ refl
 
 -- those of which both CLS have passed go: theirs was said
 pub swept_said : (es after : List Entry) → AreSeparate after → (x y : ℕ) → is_some (entry_at x y after) ≡ is_some (entry_at x y es) → is_said (entry_at x y es) (entry_at x y (filter stays after)) ≡ has_said (entry_at x y after)
-swept_said es after a x y same = ap (λ (o : Option Entry). is_said (entry_at x y es) o) (sweep_found after a x y) ∙ sweep_option (entry_at x y es) (entry_at x y after) same
+swept_said es after a x y same = ap (λ (o : Option Entry). is_said (entry_at x y es) o) (sweep_found after a x y) ∙ sweep_option _ _ same
 
 -- ---- many CLS
 
@@ -204,10 +204,10 @@ passes_at test None = false
 passes_at test (Some e) = test e
 
 pub closing_there : (z : Entry) (n : ℕ → ℕ → ℕ) (x y : ℕ) → is_at x y z ≡ true → with_closing (cls_of z) n x y ≡ suc (n x y)
-closing_there z n x y a = let t : (x == z.own && y == z.foreign) ≡ true = turned_at x y z.own z.foreign ∙ a in rw t refl
+closing_there z n x y a = let t : (x == z.own && y == z.foreign) ≡ true = turned_at x y z.own _ ∙ a in rw t refl
 
 pub closing_elsewhere : (z : Entry) (n : ℕ → ℕ → ℕ) (x y : ℕ) → is_at x y z ≡ false → with_closing (cls_of z) n x y ≡ n x y
-closing_elsewhere z n x y a = let t : (x == z.own && y == z.foreign) ≡ false = turned_at x y z.own z.foreign ∙ a in rw t refl
+closing_elsewhere z n x y a = let t : (x == z.own && y == z.foreign) ≡ false = turned_at x y z.own _ ∙ a in rw t refl
 
 closings_step : (test : Entry → Bool) (z : Entry) (zs : List Entry) → (x y : ℕ) → (is_at x y z ≡ true → entry_at x y zs ≡ None)
     → ((n : ℕ → ℕ → ℕ) → closings_in (map cls_of (filter test zs)) n x y ≡ counted (passes_at test (entry_at x y zs)) (n x y)) → (n : ℕ → ℕ → ℕ)
@@ -222,4 +222,4 @@ closings_step test z zs x y none rest n false false t a = rw (t, a) (rest n)
 -- one of each end that passes
 pub many_closings : (test : Entry → Bool) (es : List Entry) → AreSeparate es → (n : ℕ → ℕ → ℕ) (x y : ℕ) → closings_in (map cls_of (filter test es)) n x y ≡ counted (passes_at test (entry_at x y es)) (n x y)
 many_closings test [] a n x y = refl
-many_closings test (z ∷ zs) a n x y = closings_step test z zs x y (λ t. none_at x y z zs t a.0) (λ m. many_closings test zs a.1 m x y) n (test z) (is_at x y z) refl refl
+many_closings test (z ∷ zs) a n x y = closings_step test z zs x y (λ t. none_at x y z zs t a.0) (λ m. many_closings test zs a.1 m x y) n _ _ refl refl

@@ -34,7 +34,7 @@ module _ (number : ℕ → ℕ → ℕ → ℕ) (link : ℕ) (gone : ℕ → ℕ
       → Told number link gone es queue (map (shut_one busy) es) (queue ++ map cls_of (filter (must_close busy) es)) r.asked [] (sent_words (told_on link l ++ closes (name_of number gone) busy es) s)
   answered_told busy l s =
       subst (λ (ss : List Word). Told number link gone es queue (map (shut_one busy) es) (queue ++ map cls_of (filter (must_close busy) es)) r.asked [] ss) (sym (told_same l (closes (name_of number gone) busy es) s (l == link)))
-      (settled_told number link gone busy es es queue r s (λ x y. (refl, refl)) apart linked [] (ap (closed_words number link gone busy) (sym (none_must (name_of number gone) busy (filter (receives_on link) es) r h))))
+      (settled_told number link gone busy es es queue r s (λ x y. (refl, refl)) apart linked [] (ap (closed_words number link gone busy) (sym (none_must _ busy _ r h))))
 
   -- ---- the end on the link, or none, closes where one is changed
 
@@ -42,27 +42,27 @@ module _ (number : ℕ → ℕ → ℕ → ℕ) (link : ℕ) (gone : ℕ → ℕ
       (on : (x : Entry) → receives_on link (change x) ≡ receives_on link x) where
     closed_one : must_close busy (change e) ≡ true → receives_on link e ≡ true → words.Cls (named (name_of number gone) e) ∷ [] ≡ closed_words number link gone busy (filter (must_close busy) (filter (receives_on link) (changed_first test change es)))
     closed_one m o =
-        let one : filter (receives_on link) (changed_first test change es) ≡ change e ∷ [] = (own_receiver (name_of number gone) link test change e es r found o (on e ∙ o) h).1 in
+        let one : filter (receives_on link) (changed_first test change es) ≡ change e ∷ [] = (own_receiver _ link test change e es r found o (on e ∙ o) h).1 in
         let kept : filter (must_close busy) (change e ∷ []) ≡ change e ∷ [] = (rw m refl) in
         let same : named (name_of number gone) (change e) ≡ named (name_of number gone) e = ap (λ (n : ℕ). name_of number gone n (change e).foreign) same_own ∙ ap (λ (n : ℕ). name_of number gone e.own n) same_foreign in
         ap (λ (n : ℕ). words.Cls n ∷ []) (sym same) ∙ ap (closed_words number link gone busy) (sym (ap (filter (must_close busy)) one ∙ kept))
 
     closed_not : must_close busy (change e) ≡ false → receives_on link e ≡ true → [] ≡ closed_words number link gone busy (filter (must_close busy) (filter (receives_on link) (changed_first test change es)))
     closed_not m o =
-        let one : filter (receives_on link) (changed_first test change es) ≡ change e ∷ [] = (own_receiver (name_of number gone) link test change e es r found o (on e ∙ o) h).1 in
+        let one : filter (receives_on link) (changed_first test change es) ≡ change e ∷ [] = (own_receiver _ link test change e es r found o (on e ∙ o) h).1 in
         let kept : filter (must_close busy) (change e ∷ []) ≡ [] = (rw m refl) in
         ap (closed_words number link gone busy) (sym (ap (filter (must_close busy)) one ∙ kept))
 
     closed_off : receives_on link e ≡ false → [] ≡ closed_words number link gone busy (filter (must_close busy) (filter (receives_on link) (changed_first test change es)))
     closed_off o =
         let same : filter (receives_on link) (changed_first test change es) ≡ filter (receives_on link) es = away test (receives_on link) change e es o (on e ∙ o) found in
-        ap (closed_words number link gone busy) (sym (ap (filter (must_close busy)) same ∙ none_must (name_of number gone) busy (filter (receives_on link) es) r h))
+        ap (closed_words number link gone busy) (sym (ap (filter (must_close busy)) same ∙ none_must _ busy _ r h))
 
   -- ---- a user closes
 
   module _ (busy : List ℕ) (socket : ℕ) (e : Entry) (found : find (is_mine_on socket) es ≡ Some e) (fresh : was_closed e ≡ false) (s : Sender) where
     due_now : is_due (close_due e.closing) ≡ true
-    due_now = ap (λ (v : Closing). is_due (close_due v)) (not_called e.closing (or_false _ e.partner_closed fresh).0)
+    due_now = ap (λ (v : Closing). is_due (close_due v)) (not_called _ (or_false _ _ fresh).0)
 
     must_now : is_receiving e ≡ true → must_close busy (called_off e) ≡ true
     must_now i = let d : is_due (close_due e.closing) ≡ true = due_now in rw (d, i) refl
@@ -77,16 +77,16 @@ module _ (number : ℕ → ℕ → ℕ → ℕ) (link : ℕ) (gone : ℕ → ℕ
         (sent_words (closes (name_of number gone) busy (changed_first (is_mine_on socket) called_off es)) s)
     user_settled rs heard =
         settled_told number link gone busy es (changed_first (is_mine_on socket) called_off es) queue r s
-        (changed_alike (is_mine_on socket) called_off (record { own = λ x. refl; foreign = λ x. refl }) es (λ x f. sym (due_cls x.closing)))
-        (apart_changed (name_of number gone) (is_mine_on socket) called_off es (λ x. refl) apart)
-        (linked_changed (name_of number gone) link r called_off (record { own = λ x. refl; foreign = λ x. refl; link = λ x. refl }) (is_mine_on socket) es linked) rs heard
+        (changed_alike _ called_off (record { own = λ x. refl; foreign = λ x. refl }) es (λ x f. sym (due_cls _)))
+        (apart_changed (name_of number gone) _ called_off es (λ x. refl) apart)
+        (linked_changed (name_of number gone) link r called_off (record { own = λ x. refl; foreign = λ x. refl; link = λ x. refl }) _ es linked) rs heard
 
     closes_by : (v : Bool) → receives_on link e ≡ v → ClosesTold (if v then receivers.Close (named (name_of number gone) e) ∷ [] else [])
-    closes_by true o = user_settled (words.Cls (named (name_of number gone) e) ∷ []) (closed_one busy (is_mine_on socket) called_off e found refl refl (λ x. refl) (must_now (received_is link e o)) o)
+    closes_by true o = user_settled _ (closed_one busy (is_mine_on socket) called_off e found refl refl (λ x. refl) (must_now (received_is link e o)) o)
     closes_by false o = user_settled [] (closed_off busy (is_mine_on socket) called_off e found refl refl (λ x. refl) o)
 
     pub closes_told : ClosesTold (on_link link e (receivers.Close (named (name_of number gone) e) ∷ []))
-    closes_told = closes_by (receives_on link e) refl
+    closes_told = closes_by _ refl
 
   -- ---- a CLS of the peer
 
@@ -103,12 +103,12 @@ module _ (number : ℕ → ℕ → ℕ → ℕ) (link : ℕ) (gone : ℕ → ℕ
           (sent_words (closes (name_of number gone) busy (changed_first (is_at own foreign) closed_by_partner es)) s)
       peer_settled rs heard =
           swept_told number link gone busy es (changed_first (is_at own foreign) closed_by_partner es) queue r s
-          (changed_alike (is_at own foreign) closed_by_partner (record { own = λ x. refl; foreign = λ x. refl }) es (λ x f. sym (due_cls x.closing)))
-          (apart_changed (name_of number gone) (is_at own foreign) closed_by_partner es (λ x. refl) apart)
-          (linked_changed (name_of number gone) link r closed_by_partner (record { own = λ x. refl; foreign = λ x. refl; link = λ x. refl }) (is_at own foreign) es linked) rs heard
+          (changed_alike _ closed_by_partner (record { own = λ x. refl; foreign = λ x. refl }) es (λ x f. sym (due_cls _)))
+          (apart_changed (name_of number gone) _ closed_by_partner es (λ x. refl) apart)
+          (linked_changed (name_of number gone) link r closed_by_partner (record { own = λ x. refl; foreign = λ x. refl; link = λ x. refl }) _ es linked) rs heard
 
       must_heard : is_receiving e ≡ true → (v : Closing) → e.closing ≡ v → must_close busy (closed_by_partner e) ≡ is_due (close_due v)
-      must_heard i v same = rw (i, same) (and_true (is_due (close_due v))) where
+      must_heard i v same = rw (i, same) (and_true _) where
         and_true : (b : Bool) → (b && true) ≡ b
         and_true true = refl
         and_true false = refl
@@ -122,13 +122,13 @@ module _ (number : ℕ → ℕ → ℕ → ℕ) (link : ℕ) (gone : ℕ → ℕ
       same_number = own_name (name_of number gone) link own foreign e es found
 
       first_on : receives_on link e ≡ true → (v : Closing) → e.closing ≡ v → (c : ℕ) → named (name_of number gone) e ≡ c → FirstTold (receivers.Hear (words.Cls c) ∷ received_close v c)
-      first_on o closing.Queued same c n = peer_settled [] (closed_not busy (is_at own foreign) closed_by_partner e found refl refl (λ x. refl) (must_heard (received_is link e o) closing.Queued same) o)
-      first_on o closing.Sent same c n = peer_settled [] (closed_not busy (is_at own foreign) closed_by_partner e found refl refl (λ x. refl) (must_heard (received_is link e o) closing.Sent same) o)
+      first_on o closing.Queued same c n = peer_settled [] (closed_not busy (is_at own foreign) closed_by_partner e found refl refl (λ x. refl) (must_heard (received_is link e o) _ same) o)
+      first_on o closing.Sent same c n = peer_settled [] (closed_not busy (is_at own foreign) closed_by_partner e found refl refl (λ x. refl) (must_heard (received_is link e o) _ same) o)
       first_on o v same c n =
-          peer_settled (words.Cls c ∷ []) (ap (λ (k : ℕ). words.Cls k ∷ []) (sym n) ∙ closed_one busy (is_at own foreign) closed_by_partner e found refl refl (λ x. refl) (must_heard (received_is link e o) v same) o)
+          peer_settled _ (ap (λ (k : ℕ). words.Cls k ∷ []) (sym n) ∙ closed_one busy (is_at own foreign) closed_by_partner e found refl refl (λ x. refl) (must_heard (received_is link e o) v same) o)
 
       first_by : (c : ℕ) → named (name_of number gone) e ≡ c → (v : Bool) → receives_on link e ≡ v → FirstTold (receivers.Hear (words.Cls c) ∷ (if v then received_close e.closing c else []))
-      first_by c n true o = first_on o e.closing refl c n
+      first_by c n true o = first_on o _ refl c n
       first_by c n false o = peer_settled [] (closed_off busy (is_at own foreign) closed_by_partner e found refl refl (λ x. refl) o)
 
       heard_same : (ms : List senders.Move) → (o : Option ℕ) → (c : ℕ) → ((t : Sender) → sent_words ms t ≡ sent_words ms s) → sent_words (of_end c o (senders.Hear (words.Cls c) ∷ []) ++ ms) s ≡ sent_words ms s
@@ -156,7 +156,7 @@ module _ (number : ℕ → ℕ → ℕ → ℕ) (link : ℕ) (gone : ℕ → ℕ
       first_told : (v : Bool) → is_receiving e ≡ v
           → ClsTold After (if v && true then receivers.Hear (words.Cls (name_of number gone own foreign)) ∷ closes_on link (name_of number gone own foreign) e else [])
           ((if v then [] else of_end (named (name_of number gone) e) s.end (senders.Hear (words.Cls (named (name_of number gone) e)) ∷ [])) ++ closes (name_of number gone) busy (changed_first (is_at own foreign) closed_by_partner es))
-      first_told true i = with_words (receivers.Hear (words.Cls (name_of number gone own foreign)) ∷ closes_on link (name_of number gone own foreign) e) (closes (name_of number gone) busy (changed_first (is_at own foreign) closed_by_partner es)) refl (first_by (name_of number gone own foreign) same_number (receives_on link e) refl)
+      first_told true i = with_words (receivers.Hear (words.Cls (name_of number gone own foreign)) ∷ closes_on link (name_of number gone own foreign) e) (closes (name_of number gone) busy (changed_first (is_at own foreign) closed_by_partner es)) refl (first_by _ same_number _ refl)
       first_told false i =
           with_words [] (of_end (named (name_of number gone) e) s.end (senders.Hear (words.Cls (named (name_of number gone) e)) ∷ []) ++ closes (name_of number gone) busy (changed_first (is_at own foreign) closed_by_partner es))
           (heard_same (closes (name_of number gone) busy (changed_first (is_at own foreign) closed_by_partner es)) s.end (named (name_of number gone) e) (λ t. closes_same (changed_first (is_at own foreign) closed_by_partner es) t s))
@@ -165,15 +165,15 @@ module _ (number : ℕ → ℕ → ℕ → ℕ) (link : ℕ) (gone : ℕ → ℕ
       once_told : (v : Bool) → e.partner_closed ≡ v
           → ClsTold (if v then desk else After) (if is_receiving e && not v then receivers.Hear (words.Cls (name_of number gone own foreign)) ∷ closes_on link (name_of number gone own foreign) e else [])
           (if v then [] else (if is_receiving e then [] else of_end (named (name_of number gone) e) s.end (senders.Hear (words.Cls (named (name_of number gone) e)) ∷ [])) ++ closes (name_of number gone) busy (changed_first (is_at own foreign) closed_by_partner es))
-      once_told true p = second (is_receiving e) where
+      once_told true p = second _ where
         second : (v : Bool) → ClsTold desk (if v && false then receivers.Hear (words.Cls (name_of number gone own foreign)) ∷ closes_on link (name_of number gone own foreign) e else []) []
         second true = silent number link gone es queue es r.asked (kept_same es) [] [] refl refl
         second false = silent number link gone es queue es r.asked (kept_same es) [] [] refl refl
-      once_told false p = first_told (is_receiving e) refl
+      once_told false p = first_told _ refl
 
     cls_by : (o : Option Entry) → entry_at own foreign es ≡ o → ClsTold (cls_taken_by peer busy own foreign o desk) (cls_received link (name_of number gone own foreign) o) (cls_sent (name_of number gone) busy own foreign es s o)
     cls_by None f = wrong_told number link gone r.asked es queue _ _ [] [] refl refl
-    cls_by (Some e) f = once_told e f e.partner_closed refl
+    cls_by (Some e) f = once_told e f _ refl
 
     pub cls_told : ClsTold (cls_taken peer busy own foreign desk) (cls_received link (name_of number gone own foreign) (entry_at own foreign es)) (cls_sent (name_of number gone) busy own foreign es s (entry_at own foreign es))
-    cls_told = cls_by (entry_at own foreign es) refl
+    cls_told = cls_by _ refl

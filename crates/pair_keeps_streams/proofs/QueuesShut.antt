@@ -17,13 +17,13 @@ none_some o e n s = let l : None ≡ Some e = sym n ∙ s in absurd (cc)
 counts_rest : (gone n : ℕ → ℕ → ℕ) (z : Entry) (zs : List Entry) → entry_at z.own z.foreign zs ≡ None → Counts gone n (z ∷ zs) → Counts gone n zs
 counts_rest gone n z zs none k x y e f = by (is_at x y z) refl where
   by : (b : Bool) → is_at x y z ≡ b → n x y ≡ counted (has_cls e.closing) (gone x y)
-  by true a = absurd (none_some (entry_at x y zs) e (none_at x y z zs a none) f)
+  by true a = absurd (none_some _ e (none_at x y z zs a none) f)
   by false a = k x y e (rw a f)
 
 counts_closed : (gone n : ℕ → ℕ → ℕ) (z : Entry) (zs : List Entry) → entry_at z.own z.foreign zs ≡ None → Counts gone n (z ∷ zs) → Counts gone (with_closing (cls_of z) n) zs
 counts_closed gone n z zs none k x y e f = by (is_at x y z) refl where
   by : (b : Bool) → is_at x y z ≡ b → with_closing (cls_of z) n x y ≡ counted (has_cls e.closing) (gone x y)
-  by true a = absurd (none_some (entry_at x y zs) e (none_at x y z zs a none) f)
+  by true a = absurd (none_some _ e (none_at x y z zs a none) f)
   by false a = closing_elsewhere z n x y a ∙ k x y e (rw a f)
 
 own_at : (z : Entry) → is_at z.own z.foreign z ≡ true
@@ -37,7 +37,7 @@ counts_first gone n z zs k unsaid =
 
 -- an end that has to close hasn't said its CLS
 must_unsaid : (busy : List ℕ) (e : Entry) → must_close busy e ≡ true → has_cls e.closing ≡ false
-must_unsaid busy e m = due_open e.closing (both (is_due e.closing) (is_drained busy e) m).0
+must_unsaid busy e m = due_open _ (both (is_due e.closing) (is_drained busy e) m).0
 
 and_same : (a b c : Bool) → (a ≡ true → b ≡ c) → (a && b) ≡ (a && c)
 and_same true b c same = same refl
@@ -55,7 +55,7 @@ module _ (number : ℕ → ℕ → ℕ → ℕ) (link : ℕ) (gone : ℕ → ℕ
         → receiver_word number link r.asked n (cls_of z) ≡ (if receives_on link z then Cls (named (name_of number gone) z) ∷ [] else [])
     word_is n z same linked =
         ap (λ (k : ℕ). if is_receiving z && r.asked (number z.own z.foreign k) then Cls (number z.own z.foreign k) ∷ [] else []) same
-        ∙ ap (λ (v : Bool). if v then Cls (named (name_of number gone) z) ∷ [] else []) (and_same (is_receiving z) (r.asked (named (name_of number gone) z)) (is_link link z.link) linked)
+        ∙ ap (λ (v : Bool). if v then Cls (named (name_of number gone) z) ∷ [] else []) (and_same _ _ _ linked)
 
     received_step : (z : Entry) (zs : List Entry) (n : ℕ → ℕ → ℕ)
         → (must_close busy z ≡ true → receiver_word number link r.asked n (cls_of z) ≡ (if receives_on link z then Cls (named (name_of number gone) z) ∷ [] else []))
@@ -78,7 +78,7 @@ module _ (number : ℕ → ℕ → ℕ → ℕ) (link : ℕ) (gone : ℕ → ℕ
     received_closings (z ∷ zs) a l n k =
         received_step z zs n (λ m. word_is n z (counts_first gone n z zs k (must_unsaid busy z m)) l.0)
         (received_closings zs a.1 l.1 (with_closing (cls_of z) n) (counts_closed gone n z zs a.0 k)) (received_closings zs a.1 l.1 n (counts_rest gone n z zs a.0 k))
-        (must_close busy z) (receives_on link z) refl refl
+        _ _ refl refl
 
   sent_step : (z : Entry) (zs : List Entry) (n : ℕ → ℕ → ℕ) (s : Sender) → (must_close busy z ≡ true → n z.own z.foreign ≡ gone z.own z.foreign)
       → ((t : Sender) → map plain (sent_words (closes (name_of number gone) busy zs) t) ≡ sender_words number link (with_closing (cls_of z) n) (map cls_of (filter (must_close busy) zs)))
@@ -97,7 +97,7 @@ module _ (number : ℕ → ℕ → ℕ → ℕ) (link : ℕ) (gone : ℕ → ℕ
   sent_closings [] a n k s = refl
   sent_closings (z ∷ zs) a n k s =
       sent_step z zs n s (λ m. counts_first gone n z zs k (must_unsaid busy z m)) (λ t. sent_closings zs a.1 (with_closing (cls_of z) n) (counts_closed gone n z zs a.0 k) t)
-      (λ t. sent_closings zs a.1 n (counts_rest gone n z zs a.0 k) t) (must_close busy z) (is_receiving z) refl refl
+      (λ t. sent_closings zs a.1 n (counts_rest gone n z zs a.0 k) t) _ _ refl refl
 
 -- ---- the counts
 
@@ -112,7 +112,7 @@ shut_step busy x y z zs rest false a = rw a rest
 
 shut_found : (busy : List ℕ) (es : List Entry) (x y : ℕ) → entry_at x y (map (shut_one busy) es) ≡ shut_option busy (entry_at x y es)
 shut_found busy [] x y = refl
-shut_found busy (z ∷ zs) x y = shut_step busy x y z zs (shut_found busy zs x y) (is_at x y z) refl
+shut_found busy (z ∷ zs) x y = shut_step busy x y z zs (shut_found busy zs x y) _ refl
 
 said_there : (o p : Option Entry) → is_some p ≡ is_some o → is_said o p ≡ has_said p
 said_there None p same = refl
@@ -130,7 +130,7 @@ one_shut busy said f g same false m = ap (λ (v : Bool). counted v g) same
 shut_value : (busy : List ℕ) (o p : Option Entry) (g : ℕ) → IsAlike o p → counted (has_said (shut_option busy p)) g ≡ counted (passes_at (must_close busy) p) (counted (has_said o) g)
 shut_value busy None None g a = refl
 shut_value busy (Some e) None g a = absurd (let l : false ≡ true = a.0 in cc)
-shut_value busy o (Some f) g a = one_shut busy (has_said o) f g a.1 (must_close busy f) refl
+shut_value busy o (Some f) g a = one_shut busy _ f g a.1 _ refl
 
 -- ---- ends that change and then close
 
@@ -140,15 +140,15 @@ module _ (number : ℕ → ℕ → ℕ → ℕ) (link : ℕ) (gone : ℕ → ℕ
   start x y e f = ap (λ (v : Bool). counted v (gone x y)) (sym (alike x y).1 ∙ ap has_said f)
 
   apart_shut : AreSeparate (map (shut_one busy) middle)
-  apart_shut = separate (name_of number gone) (map (shut_one busy) middle) (subst AreApart (sym (numbers_mapped (name_of number gone) (shut_one busy) middle (λ x. refl))) apart)
+  apart_shut = separate _ _ (subst AreApart (sym (numbers_mapped (name_of number gone) _ middle (λ x. refl))) apart)
 
   there_shut : (x y : ℕ) → is_some (entry_at x y (map (shut_one busy) middle)) ≡ is_some (entry_at x y before)
-  there_shut x y = ap is_some (shut_found busy middle x y) ∙ shut_some busy (entry_at x y middle) ∙ (alike x y).0
+  there_shut x y = ap is_some (shut_found busy middle x y) ∙ shut_some busy _ ∙ (alike x y).0
 
   counts_shut : (x y : ℕ) → counted (has_said (entry_at x y (map (shut_one busy) middle))) (gone x y) ≡ closings_in (map cls_of (filter (must_close busy) middle)) (said_of gone before) x y
   counts_shut x y =
-      ap (λ (o : Option Entry). counted (has_said o) (gone x y)) (shut_found busy middle x y) ∙ shut_value busy (entry_at x y before) (entry_at x y middle) (gone x y) (alike x y)
-      ∙ sym (many_closings (must_close busy) middle (separate (name_of number gone) middle apart) (said_of gone before) x y)
+      ap (λ (o : Option Entry). counted (has_said o) (gone x y)) (shut_found busy middle x y) ∙ shut_value busy _ _ _ (alike x y)
+      ∙ sym (many_closings _ middle (separate _ middle apart) _ x y)
 
   module _ (rs : List Word) (heard : map plain rs ≡ closed_words number link gone busy (filter (must_close busy) (filter (receives_on link) middle))) where
     told_by : (after : List Entry) → ((x y : ℕ) → is_said (entry_at x y before) (entry_at x y after) ≡ has_said (entry_at x y (map (shut_one busy) middle)))
@@ -157,16 +157,16 @@ module _ (number : ℕ → ℕ → ℕ → ℕ) (link : ℕ) (gone : ℕ → ℕ
       new = map cls_of (filter (must_close busy) middle);
       adds = refl;
       counts = λ x y. said_after gone before after x y ∙ ap (λ (v : Bool). counted v (gone x y)) (same x y) ∙ counts_shut x y;
-      received = heard ∙ sym (received_closings number link gone busy r middle (separate (name_of number gone) middle apart) linked (said_of gone before) start);
-      sent = sent_closings number link gone busy middle (separate (name_of number gone) middle apart) (said_of gone before) start s;
+      received = heard ∙ sym (received_closings number link gone busy r middle (separate _ middle apart) linked _ start);
+      sent = sent_closings number link gone busy middle (separate _ middle apart) _ start s;
     }
 
     -- the ends stay, or those of which both CLS have passed go
     pub settled_told : Told number link gone before queue (map (shut_one busy) middle) (queue ++ map cls_of (filter (must_close busy) middle)) r.asked rs (sent_words (closes (name_of number gone) busy middle) s)
-    settled_told = told_by (map (shut_one busy) middle) (λ x y. said_there (entry_at x y before) (entry_at x y (map (shut_one busy) middle)) (there_shut x y))
+    settled_told = told_by _ (λ x y. said_there (entry_at x y before) (entry_at x y (map (shut_one busy) middle)) (there_shut x y))
 
     pub swept_told : Told number link gone before queue (filter stays (map (shut_one busy) middle)) (queue ++ map cls_of (filter (must_close busy) middle)) r.asked rs (sent_words (closes (name_of number gone) busy middle) s)
-    swept_told = told_by (filter stays (map (shut_one busy) middle)) (λ x y. swept_said before (map (shut_one busy) middle) apart_shut x y (there_shut x y))
+    swept_told = told_by _ (λ x y. swept_said before (map (shut_one busy) middle) apart_shut x y (there_shut x y))
 
 -- ---- links
 
@@ -193,4 +193,4 @@ module _ (name : ℕ → ℕ → ℕ) (link : ℕ) (r : Receiver) (change : Entr
 
   pub linked_changed : (test : Entry → Bool) (es : List Entry) → AreLinked name link es r → AreLinked name link (changed_first test change es) r
   linked_changed test [] l = tt
-  linked_changed test (z ∷ zs) l = linked_step test z zs (linked_changed test zs l.1) l (test z) refl
+  linked_changed test (z ∷ zs) l = linked_step test z zs (linked_changed test zs l.1) l _ refl

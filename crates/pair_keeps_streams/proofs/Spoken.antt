@@ -74,7 +74,7 @@ module _ (number : ℕ → ℕ → ℕ → ℕ) (link : ℕ) where
       → receiver_words number link asked n cs ≡ receiver_words number link more m cs
   receiver_same asked more [] n m e a = refl
   receiver_same asked more (c ∷ cs) n m e a =
-      ap (λ (l : List Word). l ++ receiver_words number link asked (with_closing c n) cs) (receiver_one asked more n m e c (asked_less asked more cs (with_closing c n) a))
+      ap (λ (l : List Word). l ++ receiver_words number link asked (with_closing c n) cs) (receiver_one asked more n m e c (asked_less asked more cs _ a))
       ∙ ap (λ (l : List Word). receiver_word number link more m c ++ l) (receiver_same asked more cs (with_closing c n) (with_closing c m) (with_same c n m e) a)
 
   sender_one : (n m : ℕ → ℕ → ℕ) → ((own foreign : ℕ) → n own foreign ≡ m own foreign) → (c : Command) → sender_word number link n c ≡ sender_word number link m c

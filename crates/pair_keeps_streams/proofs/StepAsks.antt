@@ -1,5 +1,5 @@
 -- Calls by which the other host hears nothing and takes nothing.
-use Rattle.pair_keeps_streams.proofs.Common.{◌≡◌, ℕ, ◌==◌, ◌&&◌, not, Bool, true, false, if◌then◌else◌, List, [], ◌∷◌, ◌++◌, Option, Some, None, is_some, refl, ap, sym, subst, ◌∙◌, append-nil, Host, header_of, Command, DataHeader, Sender, Stream, Box, Empty, Waiting, Taken, with_end, called_off, entry_at, free_link, must_close, is_receiving, receives_on, sends_on, PairState, freed, Entry, Listener, received_gone, received_open, sent_open, HasSaid, Call, Takes, Says, Answered, OpensReceiver, OpensSender, Grants, AsksBack, Gives, Closes, IsTelling, IsAllowed, KeepBox, is_out, ends_by, gone_by, received_at, sent_at, asked_received, asked_sent, asks_for, closed_received, closes, data_received, of_end, received_out, sent_out, named, name_of}
+use Rattle.pair_keeps_streams.proofs.Common.{◌≡◌, ℕ, ◌==◌, ◌&&◌, not, Bool, true, false, if◌then◌else◌, List, [], ◌∷◌, ◌++◌, Option, Some, None, is_some, refl, ap, sym, subst, ◌∙◌, append-nil, Host, Command, DataHeader, Sender, Stream, Box, Empty, Waiting, Taken, with_end, called_off, entry_at, must_close, is_receiving, receives_on, sends_on, PairState, freed, Entry, Listener, received_gone, received_open, sent_open, HasSaid, Call, Takes, Says, Answered, OpensReceiver, OpensSender, Grants, AsksBack, Gives, Closes, IsTelling, IsAllowed, KeepBox, is_out, ends_by, gone_by, received_at, sent_at, asked_received, asked_sent, asks_for, closed_received, closes, data_received, of_end, received_out, sent_out, named, name_of}
 use Rattle.ncp_control.specs.declared.command.Command.TheVariants as command
 use Rattle.stream_law.specs.Receivers as receivers
 use Rattle.stream_law.specs.Senders as senders
@@ -74,9 +74,9 @@ asked_calm name link s (Some e) = by (sends_on link e) s.end where
   by : (v : Bool) (o : Option ℕ) → AreQuietSent (if v then of_end (named name e) o (sent_open (is_some e.partner) (named name e)) else []) × KeepBox true (if v then of_end (named name e) o (sent_open (is_some e.partner) (named name e)) else []) s
   by false o = (tt, tt)
   by true None = (tt, tt)
-  by true (Some own) = at (own == named name e) where
+  by true (Some own) = at _ where
     at : (v : Bool) → AreQuietSent (if v then sent_open (is_some e.partner) (named name e) else []) × KeepBox true (if v then sent_open (is_some e.partner) (named name e) else []) s
-    at true = (open_quiet_sent (is_some e.partner) (named name e), opens_keep true (is_some e.partner) (named name e) s)
+    at true = (open_quiet_sent _ _, opens_keep true _ _ s)
     at false = (tt, tt)
 
 out_calm : (name : ℕ → ℕ → ℕ) (link : ℕ) (c : Command) (es : List Entry) (s : Sender) → AreQuietSent (sent_out name link c es s) × KeepBox true (sent_out name link c es s) s
@@ -125,16 +125,16 @@ module _ (number other : ℕ → ℕ → ℕ → ℕ) (tells : IsTelling number)
   calm k allowed paired silent quiet quiet_s ready out keep room =
       stepped k allowed paired post b
       (alone number other tells others facts link off x y gone pending post b q j peer listening k allowed paired silent x.box y.box
-      (quiet_received (received_at (name_of number gone) link k q listening) x quiet)
-      (quiet_sent out (sent_at (name_of number gone) link k q listening y.sender) y quiet_s keep room) ready
-      post b.post (same_box post (later number other tells others facts link off x y gone pending post b q j peer listening k allowed paired post) refl)
-      (own_box k post (ends_by peer k q listening) (gone_by q.entries (ends_by peer k q listening) gone) (pending ++ (said number other tells others facts link off x y gone pending post b q j peer listening k allowed paired).new) y.box (j.box_y.whole refl)))
+      (quiet_received _ x quiet)
+      (quiet_sent out _ y quiet_s keep room) ready
+      post b.post (same_box post _ refl)
+      (own_box k post _ _ _ y.box (j.box_y.whole refl)))
 
   keeps : (k : Call) → IsAllowed link k q y.sender → KeepBox (is_out link k q) (sent_at (name_of number gone) link k q listening y.sender) y.sender
   keeps k allowed = keep_box number other tells others link x y gone pending post b q j peer listening k allowed
 
   asks_calm : (k : Call) → IsAsking k → AreQuiet (received_at (name_of number gone) link k q listening) × AreQuietSent (sent_at (name_of number gone) link k q listening y.sender) × IsNoHearing k
-  asks_calm (OpensReceiver own foreign) i = (asks_quiet link (name_of number gone own foreign) (free_link q.entries), tt, tt)
+  asks_calm (OpensReceiver own foreign) i = (asks_quiet link _ _, tt, tt)
   asks_calm (OpensSender own foreign z) i = (tt, (tt, tt), tt)
   asks_calm (Grants socket m n e) i = (if_quiet (receives_on link e) (receivers.Grant (named (name_of number gone) e) m n ∷ []) (tt, tt), tt, tt)
   asks_calm (AsksBack socket m n e) i = (if_quiet (receives_on link e) (receivers.AskBack (named (name_of number gone) e) m n ∷ []) (tt, tt), tt, tt)
@@ -154,23 +154,23 @@ module _ (number other : ℕ → ℕ → ℕ → ℕ) (tells : IsTelling number)
   -- a user asks
   pub asks : (k : Call) → IsAsking k → IsAllowed link k q y.sender → IsPairedCall k → (is_out link k q ≡ false → post ≡ Free) → Stepped number other tells others link x y (staying gone q.entries pending post) peer k q listening post b
   asks k i allowed paired room =
-      calm k allowed paired (asks_calm k i).2 (asks_calm k i).0 (asks_calm k i).1 (λ s. none_kept (sent_at (name_of number gone) link k q listening y.sender) y (asks_none k i)) (is_out link k q) (keeps k allowed) (room_here k room)
+      calm k allowed paired (asks_calm k i).2 (asks_calm k i).0 (asks_calm k i).1 (λ s. none_kept (sent_at (name_of number gone) link k q listening y.sender) y (asks_none k i)) _ (keeps k allowed) (room_here k room)
 
   -- what was sent on another link is answered
   pub elsewhere : (l : ℕ) → (l == link) ≡ false → (is_out link (Answered l) q ≡ false → post ≡ Free) → Stepped number other tells others link x y (staying gone q.entries pending post) peer (Answered l) q listening post b
   elsewhere l e room =
-      calm (Answered l) tt tt tt tt (rw e (closes_quiet (name_of number gone) (freed l q).busy q.entries)) (λ s. none_kept (sent_at (name_of number gone) link (Answered l) q listening y.sender) y (rw e (closes_none (name_of number gone) (freed l q).busy q.entries))) (is_out link (Answered l) q) (keeps (Answered l) tt) (room_here (Answered l) room)
+      calm _ tt tt tt tt (rw e (closes_quiet (name_of number gone) (freed l q).busy q.entries)) (λ s. none_kept (sent_at (name_of number gone) link (Answered l) q listening y.sender) y (rw e (closes_none (name_of number gone) (freed l q).busy q.entries))) _ (keeps (Answered l) tt) (room_here (Answered l) room)
 
   -- and on this one
   pub answered : (l : ℕ) → (l == link) ≡ true → post ≡ Fetched → Stepped number other tells others link x y (staying gone q.entries pending post) peer (Answered l) q listening Free b
   answered l e fetched =
-      stepped (Answered l) tt tt Free b
+      stepped _ tt tt Free b
       (alone number other tells others facts link off x y gone pending post b q j peer listening (Answered l) tt tt tt x.box Empty
       (quiet_received [] x tt)
       told
       (λ s. none_kept (sent_at (name_of number gone) link (Answered l) q listening y.sender) y (rw e (closes_none (name_of number gone) (freed l q).busy q.entries)))
-      Free b.post (same_box Free (later number other tells others facts link off x y gone pending post b q j peer listening (Answered l) tt tt Free) refl)
-      (own_box (Answered l) Free (ends_by peer (Answered l) q listening) (gone_by q.entries (ends_by peer (Answered l) q listening) gone) (pending ++ (said number other tells others facts link off x y gone pending post b q j peer listening (Answered l) tt tt).new) Empty tt)) where
+      Free b.post (same_box Free _ refl)
+      (own_box (Answered l) Free _ _ _ Empty tt)) where
         taken : (p : Post) (box : Box) → IsPosted p box → p ≡ Fetched → box ≡ Taken
         taken Fetched Taken i f = refl
         taken Fetched Empty i f = absurd (i)
@@ -182,17 +182,17 @@ module _ (number other : ℕ → ℕ → ℕ → ℕ) (tells : IsTelling number)
         keep = subst (λ (v : Bool). KeepBox (is_out link (Answered l) q) ((if v then senders.Told ∷ [] else []) ++ closes (name_of number gone) (freed l q).busy q.entries) y.sender) e (keeps (Answered l) tt)
 
         told : Sending (sent_at (name_of number gone) link (Answered l) q listening y.sender) y y.to_sender Empty
-        told = rw e (told_sent (is_out link (Answered l) q) (closes (name_of number gone) (freed l q).busy q.entries) y (closes_quiet (name_of number gone) (freed l q).busy q.entries) keep.1 (taken post y.box (j.box_y.whole refl) fetched))
+        told = rw e (told_sent _ _ y (closes_quiet _ _ q.entries) keep.1 (taken post y.box (j.box_y.whole refl) fetched))
 
   -- data come on another link
   pub passes : (l : ℕ) (text : List Bool) → (l == link) ≡ false → Stepped number other tells others link x y (staying gone q.entries pending post) peer (Takes l text) q listening post b
-  passes l text e = calm (Takes l text) tt tt tt (passes_quiet link l text (header_of text) e) tt (λ s. tt) true tt (λ f. absurd (cc))
+  passes l text e = calm _ tt tt tt (passes_quiet link l text _ e) tt (λ s. tt) true tt (λ f. absurd (cc))
 
   -- a command goes out
   said_out : (stamp : ℕ) (c : Command) → HasSaid c q.entries → (b.stays ≡ true → IsRequest c → IsUnasked (name_of number gone) q.entries y.receiver) → Stepped number other tells others link x y (staying gone q.entries pending post) peer (Says stamp c) q listening post b
   said_out stamp c has unasked =
-      let calmly : AreQuietSent (sent_out (name_of number gone) link c q.entries y.sender) × KeepBox true (sent_out (name_of number gone) link c q.entries y.sender) y.sender = out_calm (name_of number gone) link c q.entries y.sender in
-      calm (Says stamp c) has tt tt (out_quiet (name_of number gone) link c q.entries) calmly.0
+      let calmly : AreQuietSent (sent_out (name_of number gone) link c q.entries y.sender) × KeepBox true (sent_out (name_of number gone) link c q.entries y.sender) y.sender = out_calm _ link c _ _ in
+      calm _ has tt tt (out_quiet _ link c _) calmly.0
       (λ s. out_kept number tells link gone q.entries x.receiver y (j.mine refl).holds j.inv_y c (unasked s)) true calmly.1 (λ f. absurd (cc))
 
   -- nothing more waits where the queue is as it was
@@ -202,9 +202,9 @@ module _ (number other : ℕ → ℕ → ℕ → ℕ) (tells : IsTelling number)
   nothing_new k mine b' same s =
       subst (λ (cs : List Command). Joint number other tells others link (receives (received_at (name_of number gone) link k q listening) x) (sends (sent_at (name_of number gone) link k q listening y.sender) y)
       (staying (gone_by q.entries (ends_by peer k q listening) gone) (ends_by peer k q listening) cs mine) b')
-      (ap (λ (cs : List Command). pending ++ cs) (no_more q.queue s.new (sym same ∙ s.queue)) ∙ append-nil pending) s.joint
+      (ap (λ (cs : List Command). pending ++ cs) (no_more _ s.new (sym same ∙ s.queue)) ∙ append-nil pending) s.joint
 
   pub says : (stamp : ℕ) (c : Command) → HasSaid c q.entries → (b.stays ≡ true → IsRequest c → IsUnasked (name_of number gone) q.entries y.receiver)
       → Joint number other tells others link (receives (received_at (name_of number gone) link (Says stamp c) q listening) x) (sends (sent_at (name_of number gone) link (Says stamp c) q listening y.sender) y)
       (staying (gone_by q.entries (ends_by peer (Says stamp c) q listening) gone) (ends_by peer (Says stamp c) q listening) pending post) b
-  says stamp c has unasked = nothing_new (Says stamp c) post b refl (said_out stamp c has unasked)
+  says stamp c has unasked = nothing_new _ post b refl (said_out stamp c has unasked)

@@ -50,18 +50,18 @@ module _ (number other : ℕ → ℕ → ℕ → ℕ) (tells : IsTelling number)
     -- nothing is lost by it
     ready : (d : Command) → b.pending ≡ d ∷ more → IsFirst d q.entries → (told : ℕ) → b.stays ≡ true → AreKept (sent_at (name_of number gone) link (Hears stamp told d) q listening y.sender) y
     ready (command.Rts receive send l) i f told s = rts_kept number other tells others facts same link off x y gone pending post b q j peer listening stamp room more receive send l i f (j.exact_y refl s)
-    ready (command.All l m n) i f told s = none_kept (sent_at (name_of number gone) link (Hears stamp told (command.All l m n)) q listening y.sender) y (if_none (l == link) (senders.Hear (All told m n) ∷ []) tt)
-    ready (command.Gvb l m n) i f told s = none_kept (sent_at (name_of number gone) link (Hears stamp told (command.Gvb l m n)) q listening y.sender) y (if_none (l == link) (senders.Hear (Gvb told m n) ∷ []) tt)
+    ready (command.All l m n) i f told s = none_kept _ y (if_none (l == link) (senders.Hear (All told m n) ∷ []) tt)
+    ready (command.Gvb l m n) i f told s = none_kept _ y (if_none (l == link) (senders.Hear (Gvb told m n) ∷ []) tt)
     ready (command.Cls foreign own) i f told s =
-        none_kept (sent_at (name_of number gone) link (Hears stamp told (command.Cls foreign own)) q listening y.sender) y (cls_none (name_of number gone) q.busy own foreign q.entries y.sender (entry_at own foreign q.entries))
+        none_kept _ y (cls_none (name_of number gone) q.busy own foreign q.entries y.sender (entry_at own foreign q.entries))
     ready d i f told s = tt
 
     pub hears : (c : Command) → b.pending ≡ c ∷ more → IsCommand c → IsPaired c → IsFirst c q.entries → IsHeard c q.entries
         → (told : ℕ) × Stepped number other tells others link x y (staying gone q.entries pending post) peer (Hears stamp told c) q listening post (record b { pending = more })
     hears c e command paired first good = (
       f.told,
-      stepped number other tells others facts link off x y gone pending post b q j peer listening (Hears stamp f.told c) allowed paired post (record b { pending = more })
-          (any number other tells others facts link off x y gone pending post b q j peer listening (Hears stamp f.told c) allowed paired f.rest_x f.rest_y x.box y.box f.rx f.sy (λ s. ready c e first f.told s) more line told post b.post
+      stepped number other tells others facts link off x y gone pending post b q j peer listening _ allowed paired post _
+          (any number other tells others facts link off x y gone pending post b q j peer listening (Hears stamp f.told c) allowed paired _ _ x.box y.box f.rx f.sy (λ s. ready c e first f.told s) more line told post b.post
           (record { whole = j.box_x.whole; left = λ s t. j.box_x.left s refl })
           (record { whole = λ s. j.box_y.whole refl; left = λ s t text l. absurd (cc) })),
     ) where
@@ -76,11 +76,11 @@ module _ (number other : ℕ → ℕ → ℕ → ℕ) (tells : IsTelling number)
 
       line : Line other link (heard_by (later number other tells others facts link off x y gone pending post b q j peer listening (Hears stamp f.told c) allowed paired post)) more y.receiver.asked f.rest_y f.rest_x
       line = record {
-        received = f.received ∙ receiver_same other link y.receiver.asked y.receiver.asked more (with_closing c (heard_from gone q.entries)) (heard_by (later number other tells others facts link off x y gone pending post b q j peer listening (Hears stamp f.told c) allowed paired post)) now (λ own foreign g l. refl);
-        sent = f.sent ∙ sender_same other link more (with_closing c (heard_from gone q.entries)) (heard_by (later number other tells others facts link off x y gone pending post b q j peer listening (Hears stamp f.told c) allowed paired post)) now;
+        received = f.received ∙ receiver_same other link y.receiver.asked y.receiver.asked more _ _ now (λ own foreign g l. refl);
+        sent = f.sent ∙ sender_same other link more _ _ now;
       }
 
       told : b.stays ≡ true → (own foreign : ℕ) → said_by b own foreign ≡ closings_in more (heard_by (later number other tells others facts link off x y gone pending post b q j peer listening (Hears stamp f.told c) allowed paired post)) own foreign
       told s own foreign =
           j.told_a refl s own foreign ∙ ap (λ (cs : List Command). closings_in cs (heard_from gone q.entries) own foreign) e
-          ∙ closings_same more (with_closing c (heard_from gone q.entries)) (heard_by (later number other tells others facts link off x y gone pending post b q j peer listening (Hears stamp f.told c) allowed paired post)) now own foreign
+          ∙ closings_same more _ _ now own foreign

@@ -1,5 +1,5 @@
 -- A command of the other host is heard.
-use Rattle.pair_keeps_streams.proofs.Common.{◌≡◌, ℕ, ◌==◌, ◌&&◌, not, Bool, true, false, if◌then◌else◌, List, [], ◌∷◌, ◌++◌, map, Option, Some, None, refl, ap, sym, subst, ◌∙◌, eq-eqb, list_any, Host, is_receive_socket, Command, Word, Rts, Str, All, Gvb, Ret, Cls, Sender, Stream, Empty, Exact, link_free, changed_at, is_busy, closed_by_partner, entry_at, free_link, is_receiving, sends_on, listener_on, PairState, Entry, Listener, Hears, IsTelling, KeepBox, received_at, sent_at, closes, cls_received, rts_sent, named, name_of, own_name, own_parity, unlike, plain, with_closing, has_heard, heard_from, receiver_words, sender_words}
+use Rattle.pair_keeps_streams.proofs.Common.{◌≡◌, ℕ, ◌==◌, ◌&&◌, not, Bool, true, false, if◌then◌else◌, List, [], ◌∷◌, ◌++◌, map, Option, Some, None, refl, ap, sym, subst, ◌∙◌, eq-eqb, list_any, Host, is_receive_socket, Command, Word, Rts, Str, All, Gvb, Ret, Cls, Sender, Stream, Empty, Exact, link_free, changed_at, is_busy, closed_by_partner, entry_at, is_receiving, sends_on, listener_on, PairState, Entry, Listener, Hears, IsTelling, KeepBox, received_at, sent_at, closes, cls_received, rts_sent, named, name_of, own_name, own_parity, unlike, plain, with_closing, has_heard, heard_from, receiver_words, sender_words}
 use Rattle.ncp_control.specs.declared.command.Command.TheVariants as command
 use Rattle.stream_law.specs.Receivers as receivers
 use Rattle.stream_law.specs.Senders as senders
@@ -41,11 +41,11 @@ module _ (number other : ℕ → ℕ → ℕ → ℕ) (tells : IsTelling number)
   -- the name of a connection of which no CLS was heard
   named_same : (own foreign : ℕ) → ((e : Entry) → entry_at own foreign q.entries ≡ Some e → e.partner_closed ≡ false) → other foreign own (heard foreign own) ≡ name own foreign
   named_same own foreign f =
-      same foreign own (heard foreign own) ∙ ap (λ (g : ℕ). number own foreign g) (none_heard (entry_at own foreign q.entries) (gone own foreign) f)
+      same foreign own _ ∙ ap (λ (g : ℕ). number own foreign g) (none_heard _ _ f)
 
   -- a CLS that comes is that of the sender's end
   cls_end : (c : ℕ) (rest : List Word) → y.to_sender ≡ Cls c ∷ rest → y.sender.end ≡ Some c
-  cls_end c rest e = (unless_some y.sender.shut y.sender.end c (subst (λ (w : List Word). Down y.receiver y.sender w) e j.inv_y.down).0).0
+  cls_end c rest e = (unless_some _ _ c (subst (λ (w : List Word). Down y.receiver y.sender w) e j.inv_y.down).0).0
 
   module _ (room : is_busy q.busy link ≡ false → post ≡ Free) (more : List Command) where
     empty : is_busy q.busy link ≡ false → y.box ≡ Empty
@@ -62,18 +62,18 @@ module _ (number other : ℕ → ℕ → ℕ → ℕ) (tells : IsTelling number)
     rts_split : (receive send l : ℕ) → b.pending ≡ command.Rts receive send l ∷ more → IsFirst (command.Rts receive send l) q.entries → (l == link) ≡ true
         → Split y.to_sender (Rts (name send receive)) (receiver_words other link y.receiver.asked heard more)
     rts_split receive send l e first on =
-        split y.to_sender (Rts (name send receive)) (receiver_words other link y.receiver.asked heard more)
+        split _ _ _
         (subst (λ (v : Bool). map plain y.to_sender ≡ (if v then Rts (name send receive) ∷ [] else []) ++ receiver_words other link y.receiver.asked heard more) on (rts_line receive send l e first).0)
 
     rts_there : (receive send l : ℕ) (e : b.pending ≡ command.Rts receive send l ∷ more) (first : IsFirst (command.Rts receive send l) q.entries) → (on : (l == link) ≡ true) → y.to_sender ≡ Rts (name send receive) ∷ (rts_split receive send l e first on).rest
     rts_there receive send l e first on =
         let s : Split y.to_sender (Rts (name send receive)) (receiver_words other link y.receiver.asked heard more) = rts_split receive send l e first on in
-        s.is ∙ ap (λ (w : Word). w ∷ s.rest) (plain_rts s.first (name send receive) s.same)
+        s.is ∙ ap (λ (w : Word). w ∷ s.rest) (plain_rts _ _ s.same)
 
     pub rts_free : (receive send l : ℕ) → b.pending ≡ command.Rts receive send l ∷ more → IsFirst (command.Rts receive send l) q.entries → l ≡ link → list_any (sends_on link) q.entries ≡ false → y.sender.end ≡ None
     rts_free receive send l e first is none =
         let on : (l == link) ≡ true = eq-eqb l link is in
-        link_free y (name send receive) (rts_split receive send l e first on).rest j.inv_y (rts_there receive send l e first on)
+        link_free y _ _ j.inv_y (rts_there receive send l e first on)
 
     pub rts_found : (receive send l : ℕ) → b.pending ≡ command.Rts receive send l ∷ more → IsFirst (command.Rts receive send l) q.entries → list_any (sends_on l) q.entries ≡ false
         → KeepBox (is_busy q.busy link) (sent_at name link (Hears stamp 0 (command.Rts receive send l)) q listening y.sender) y.sender → Found (command.Rts receive send l) more
@@ -87,8 +87,8 @@ module _ (number other : ℕ → ℕ → ℕ → ℕ) (tells : IsTelling number)
         rest_x = x.to_receiver;
         rest_y = (rts_split receive send l e first on).rest;
         rx = quiet_received [] x tt;
-        sy = one_sent (is_busy q.busy link) (Rts (name send receive)) (rts_split receive send l e first on).rest (sent_at name link (Hears stamp 0 (command.Rts receive send l)) q listening y.sender) y (rts_there receive send l e first on)
-            (subst (λ (ms : List senders.Move). HearOneSent (Rts (name send receive)) ms) (moves true on) (rts_hears (name send receive) (listener_on send listening) (entry_at send receive q.entries) (λ i f. (first i f).0))) keep empty;
+        sy = one_sent _ _ _ _ y (rts_there receive send l e first on)
+            (subst (λ (ms : List senders.Move). HearOneSent (Rts (name send receive)) ms) (moves true on) (rts_hears _ _ _ (λ i f. (first i f).0))) keep empty;
         received = (rts_split receive send l e first on).behind;
         sent = (rts_line receive send l e first).1;
       }
@@ -97,8 +97,8 @@ module _ (number other : ℕ → ℕ → ℕ → ℕ) (tells : IsTelling number)
         rest_x = x.to_receiver;
         rest_y = y.to_sender;
         rx = quiet_received [] x tt;
-        sy = quiet_sent (is_busy q.busy link) (sent_at name link (Hears stamp 0 (command.Rts receive send l)) q listening y.sender) y
-            (subst (λ (ms : List senders.Move). AreQuietSent ms) (moves false away) (rts_quiet (name send receive) (listener_on send listening) (entry_at send receive q.entries))) keep empty;
+        sy = quiet_sent _ _ y
+            (subst (λ (ms : List senders.Move). AreQuietSent ms) (moves false away) (rts_quiet (name send receive) (listener_on send listening) _)) keep empty;
         received = subst (λ (v : Bool). map plain y.to_sender ≡ (if v then Rts (name send receive) ∷ [] else []) ++ receiver_words other link y.receiver.asked heard more) away (rts_line receive send l e first).0;
         sent = (rts_line receive send l e first).1;
       }
@@ -109,7 +109,7 @@ module _ (number other : ℕ → ℕ → ℕ → ℕ) (tells : IsTelling number)
       by : (v : Bool) → AreKept (if v then [] else rts_sent (l == link) (name send receive) (listener_on send listening) (entry_at send receive q.entries)) y
       by true = tt
       by false =
-          heard_kept (l == link) (name send receive) (listener_on send listening) (entry_at send receive q.entries) y
+          heard_kept _ _ _ _ y
           (λ on. claims_asked y (name send receive) (name send receive) (rts_split receive send l e first on).rest (rts_there receive send l e first on) j.inv_y exact)
 
     -- ---- and of a sender
@@ -119,9 +119,9 @@ module _ (number other : ℕ → ℕ → ℕ → ℕ) (tells : IsTelling number)
       told = 0;
       rest_x = s.rest;
       rest_y = y.to_sender;
-      rx = one_received (Str (name receive send) z) s.rest (received_at name link (Hears stamp 0 (command.Str send receive z)) q listening) x
-          (s.is ∙ ap (λ (w : Word). w ∷ s.rest) (plain_str s.first (name receive send) z s.same))
-          (str_hears link (name receive send) z (listener_on receive listening) (free_link q.entries) (entry_at receive send q.entries) (λ i f. (first i f).0));
+      rx = one_received _ s.rest _ x
+          (s.is ∙ ap (λ (w : Word). w ∷ s.rest) (plain_str _ _ z s.same))
+          (str_hears link _ z _ _ _ (λ i f. (first i f).0));
       sy = quiet_sent true [] y tt tt (λ f. absurd (cc));
       received = line.received;
       sent = s.behind;
@@ -130,7 +130,7 @@ module _ (number other : ℕ → ℕ → ℕ → ℕ) (tells : IsTelling number)
       line = subst (λ (cs : List Command). Line other link heard cs y.receiver.asked y.to_sender x.to_receiver) e (j.to_a refl)
 
       s : Split x.to_receiver (Str (name receive send) z) (sender_words other link heard more)
-      s = split x.to_receiver (Str (name receive send) z) (sender_words other link heard more)
+      s = split _ _ _
           (line.sent ∙ ap (λ (k : ℕ). Str k z ∷ sender_words other link heard more) (named_same receive send (λ i f. (first i f).1)))
 
     -- ---- allocation
@@ -148,14 +148,14 @@ module _ (number other : ℕ → ℕ → ℕ → ℕ) (tells : IsTelling number)
 
       by : (v : Bool) → (l == link) ≡ v → Found (command.All l m n) more
       by true on =
-          let s : Split y.to_sender (All 0 m n) (receiver_words other link y.receiver.asked heard more) = split y.to_sender (All 0 m n) (receiver_words other link y.receiver.asked heard more) (words true on) in
-          let w : (k : ℕ) × (s.first ≡ All k m n) = plain_all s.first m n s.same in
+          let s : Split y.to_sender (All 0 m n) (receiver_words other link y.receiver.asked heard more) = split _ _ _ (words true on) in
+          let w : (k : ℕ) × (s.first ≡ All k m n) = plain_all _ m n s.same in
           record {
             told = w.0;
             rest_x = x.to_receiver;
             rest_y = s.rest;
             rx = quiet_received [] x tt;
-            sy = subst (λ (v : Bool). Sending (if v then senders.Hear (All w.0 m n) ∷ [] else []) y s.rest y.box) (sym on) (one_sent true (All w.0 m n) s.rest (senders.Hear (All w.0 m n) ∷ []) y (s.is ∙ ap (λ (v : Word). v ∷ s.rest) w.1) (refl, tt) (tt, tt) (λ f. absurd (cc)));
+            sy = subst (λ (v : Bool). Sending (if v then senders.Hear (All w.0 m n) ∷ [] else []) y s.rest y.box) (sym on) (one_sent true _ s.rest _ y (s.is ∙ ap (λ (v : Word). v ∷ s.rest) w.1) (refl, tt) (tt, tt) (λ f. absurd (cc)));
             received = s.behind;
             sent = line.sent;
           }
@@ -179,14 +179,14 @@ module _ (number other : ℕ → ℕ → ℕ → ℕ) (tells : IsTelling number)
 
       by : (v : Bool) → (l == link) ≡ v → Found (command.Gvb l m n) more
       by true on =
-          let s : Split y.to_sender (Gvb 0 m n) (receiver_words other link y.receiver.asked heard more) = split y.to_sender (Gvb 0 m n) (receiver_words other link y.receiver.asked heard more) (words true on) in
-          let w : (k : ℕ) × (s.first ≡ Gvb k m n) = plain_gvb s.first m n s.same in
+          let s : Split y.to_sender (Gvb 0 m n) (receiver_words other link y.receiver.asked heard more) = split _ _ _ (words true on) in
+          let w : (k : ℕ) × (s.first ≡ Gvb k m n) = plain_gvb _ m n s.same in
           record {
             told = w.0;
             rest_x = x.to_receiver;
             rest_y = s.rest;
             rx = quiet_received [] x tt;
-            sy = subst (λ (v : Bool). Sending (if v then senders.Hear (Gvb w.0 m n) ∷ [] else []) y s.rest y.box) (sym on) (one_sent true (Gvb w.0 m n) s.rest (senders.Hear (Gvb w.0 m n) ∷ []) y (s.is ∙ ap (λ (v : Word). v ∷ s.rest) w.1) (refl, tt) (tt, tt) (λ f. absurd (cc)));
+            sy = subst (λ (v : Bool). Sending (if v then senders.Hear (Gvb w.0 m n) ∷ [] else []) y s.rest y.box) (sym on) (one_sent true _ s.rest _ y (s.is ∙ ap (λ (v : Word). v ∷ s.rest) w.1) (refl, tt) (tt, tt) (λ f. absurd (cc)));
             received = s.behind;
             sent = line.sent;
           }
@@ -210,13 +210,13 @@ module _ (number other : ℕ → ℕ → ℕ → ℕ) (tells : IsTelling number)
 
       by : (v : Bool) → (l == link) ≡ v → Found (command.Ret l m n) more
       by true on =
-          let s : Split x.to_receiver (Ret 0 m n) (sender_words other link heard more) = split x.to_receiver (Ret 0 m n) (sender_words other link heard more) (words true on) in
-          let w : (k : ℕ) × (s.first ≡ Ret k m n) = plain_ret s.first m n s.same in
+          let s : Split x.to_receiver (Ret 0 m n) (sender_words other link heard more) = split _ _ _ (words true on) in
+          let w : (k : ℕ) × (s.first ≡ Ret k m n) = plain_ret _ m n s.same in
           record {
             told = w.0;
             rest_x = s.rest;
             rest_y = y.to_sender;
-            rx = subst (λ (v : Bool). Receiving (if v then receivers.Hear (Ret w.0 m n) ∷ [] else []) x s.rest x.box) (sym on) (one_received (Ret w.0 m n) s.rest (receivers.Hear (Ret w.0 m n) ∷ []) x (s.is ∙ ap (λ (v : Word). v ∷ s.rest) w.1) (refl, tt));
+            rx = subst (λ (v : Bool). Receiving (if v then receivers.Hear (Ret w.0 m n) ∷ [] else []) x s.rest x.box) (sym on) (one_received _ s.rest _ x (s.is ∙ ap (λ (v : Word). v ∷ s.rest) w.1) (refl, tt));
             sy = quiet_sent true [] y tt tt (λ f. absurd (cc));
             received = line.received;
             sent = s.behind;
@@ -242,18 +242,18 @@ module _ (number other : ℕ → ℕ → ℕ → ℕ) (tells : IsTelling number)
       cls_name = named_same own foreign (λ i f. entry_unheard i (sym f ∙ there))
 
       words_y : map plain y.to_sender ≡ (if is_receive_socket foreign && y.receiver.asked (name own foreign) then Cls (name own foreign) ∷ [] else []) ++ receiver_words other link y.receiver.asked (with_closing (command.Cls foreign own) heard) more
-      words_y = (line_of (command.Cls foreign own) e).received
+      words_y = (line_of _ e).received
           ∙ ap (λ (k : ℕ). (if is_receive_socket foreign && y.receiver.asked k then Cls k ∷ [] else []) ++ receiver_words other link y.receiver.asked (with_closing (command.Cls foreign own) heard) more) cls_name
 
       words_x : map plain x.to_receiver ≡ (if is_receive_socket foreign then [] else Cls (name own foreign) ∷ []) ++ sender_words other link (with_closing (command.Cls foreign own) heard) more
-      words_x = (line_of (command.Cls foreign own) e).sent
+      words_x = (line_of _ e).sent
           ∙ ap (λ (k : ℕ). (if is_receive_socket foreign then [] else Cls k ∷ []) ++ sender_words other link (with_closing (command.Cls foreign own) heard) more) cls_name
 
       closing_quiet : AreQuietSent (closes name q.busy (changed_at own foreign closed_by_partner q.entries))
       closing_quiet = closes_quiet name q.busy (changed_at own foreign closed_by_partner q.entries)
 
       z_name : named name z ≡ name own foreign
-      z_name = own_name name link own foreign z q.entries there
+      z_name = own_name name link own foreign z _ there
 
       -- what is made of the entry that is there
       sends_by : (ms : List senders.Move) → cls_sent name q.busy own foreign q.entries y.sender (Some z) ≡ ms → sent_at name link (Hears stamp 0 (command.Cls foreign own)) q listening y.sender ≡ ms
@@ -265,26 +265,26 @@ module _ (number other : ℕ → ℕ → ℕ → ℕ) (tells : IsTelling number)
         told = 0;
         rest_x = s.rest;
         rest_y = y.to_sender;
-        rx = one_received (Cls (name own foreign)) s.rest (received_at name link (Hears stamp 0 (command.Cls foreign own)) q listening) x
-            (s.is ∙ ap (λ (w : Word). w ∷ s.rest) (plain_cls s.first (name own foreign) s.same))
+        rx = one_received _ s.rest _ x
+            (s.is ∙ ap (λ (w : Word). w ∷ s.rest) (plain_cls _ _ s.same))
             (subst (λ (o : Option Entry). HearOne (Cls (name own foreign)) (cls_received link (name own foreign) o)) (sym there) (cls_hears link (name own foreign) z unheard receiving));
-        sy = quiet_sent (is_busy q.busy link) (sent_at name link (Hears stamp 0 (command.Cls foreign own)) q listening y.sender) y
-            (subst (λ (ms : List senders.Move). AreQuietSent ms) (sym (sends_by (closes name q.busy (changed_at own foreign closed_by_partner q.entries)) (sent_own name q.busy own foreign q.entries y.sender z unheard receiving))) closing_quiet) keep empty;
+        sy = quiet_sent _ _ y
+            (subst (λ (ms : List senders.Move). AreQuietSent ms) (sym (sends_by _ (sent_own name q.busy own foreign q.entries y.sender z unheard receiving))) closing_quiet) keep empty;
         received = subst (λ (v : Bool). map plain y.to_sender ≡ (if v && y.receiver.asked (name own foreign) then Cls (name own foreign) ∷ [] else []) ++ receiver_words other link y.receiver.asked (with_closing (command.Cls foreign own) heard) more) its words_y;
         sent = s.behind;
       } where
         receiving : is_receiving z ≡ true
-        receiving = own_parity name link own foreign z q.entries there ∙ mine
+        receiving = own_parity name link own foreign z _ there ∙ mine
 
         s : Split x.to_receiver (Cls (name own foreign)) (sender_words other link (with_closing (command.Cls foreign own) heard) more)
-        s = split x.to_receiver (Cls (name own foreign)) (sender_words other link (with_closing (command.Cls foreign own) heard) more)
+        s = split _ _ _
             (subst (λ (v : Bool). map plain x.to_receiver ≡ (if v then [] else Cls (name own foreign) ∷ []) ++ sender_words other link (with_closing (command.Cls foreign own) heard) more) its words_x)
 
       -- the other receives, and this one sends
       cls_to_sender : is_receive_socket own ≡ false → is_receive_socket foreign ≡ true → Found (command.Cls foreign own) more
       cls_to_sender mine its = by (y.receiver.asked (name own foreign)) refl where
         sending : is_receiving z ≡ false
-        sending = own_parity name link own foreign z q.entries there ∙ mine
+        sending = own_parity name link own foreign z _ there ∙ mine
 
         rx_none : Receiving (received_at name link (Hears stamp 0 (command.Cls foreign own)) q listening) x x.to_receiver x.box
         rx_none = subst (λ (ms : List receivers.Move). Receiving ms x x.to_receiver x.box)
@@ -301,17 +301,17 @@ module _ (number other : ℕ → ℕ → ℕ → ℕ) (tells : IsTelling number)
         by : (v : Bool) → y.receiver.asked (name own foreign) ≡ v → Found (command.Cls foreign own) more
         by true asked =
             let s : Split y.to_sender (Cls (name own foreign)) (receiver_words other link y.receiver.asked (with_closing (command.Cls foreign own) heard) more)
-            = split y.to_sender (Cls (name own foreign)) (receiver_words other link y.receiver.asked (with_closing (command.Cls foreign own) heard) more) (words_by true asked) in
-            let front : y.to_sender ≡ Cls (name own foreign) ∷ s.rest = s.is ∙ ap (λ (w : Word). w ∷ s.rest) (plain_cls s.first (name own foreign) s.same) in
-            let end : y.sender.end ≡ Some (named name z) = cls_end (name own foreign) s.rest front ∙ ap (λ (n : ℕ). Some n) (sym z_name) in
+            = split _ _ _ (words_by true asked) in
+            let front : y.to_sender ≡ Cls (name own foreign) ∷ s.rest = s.is ∙ ap (λ (w : Word). w ∷ s.rest) (plain_cls _ _ s.same) in
+            let end : y.sender.end ≡ Some (named name z) = cls_end _ s.rest front ∙ ap (λ (n : ℕ). Some n) (sym z_name) in
             record {
               told = 0;
               rest_x = x.to_receiver;
               rest_y = s.rest;
               rx = rx_none;
-              sy = one_sent (is_busy q.busy link) (Cls (name own foreign)) s.rest (sent_at name link (Hears stamp 0 (command.Cls foreign own)) q listening y.sender) y front
+              sy = one_sent _ _ s.rest _ y front
                   (subst (λ (ms : List senders.Move). HearOneSent (Cls (name own foreign)) ms)
-                  (sym (sends_by (senders.Hear (Cls (named name z)) ∷ closes name q.busy (changed_at own foreign closed_by_partner q.entries)) (sent_here name q.busy own foreign q.entries y.sender z unheard sending end)))
+                  (sym (sends_by _ (sent_here name q.busy own foreign q.entries y.sender z unheard sending end)))
                   (ap (λ (n : ℕ). Cls n) z_name, closing_quiet)) keep empty;
               received = s.behind;
               sent = sent_none;
@@ -321,9 +321,9 @@ module _ (number other : ℕ → ℕ → ℕ → ℕ) (tells : IsTelling number)
           rest_x = x.to_receiver;
           rest_y = y.to_sender;
           rx = rx_none;
-          sy = quiet_sent (is_busy q.busy link) (sent_at name link (Hears stamp 0 (command.Cls foreign own)) q listening y.sender) y
+          sy = quiet_sent _ _ y
               (subst (λ (ms : List senders.Move). AreQuietSent ms)
-              (sym (sends_by (closes name q.busy (changed_at own foreign closed_by_partner q.entries))
+              (sym (sends_by _
               (sent_away name q.busy own foreign q.entries y.sender z unheard sending (λ end. unlike (y.receiver.asked (name own foreign)) (j.inv_y.ends.heard (name own foreign) (end ∙ ap (λ (n : ℕ). Some n) z_name)) off))))
               closing_quiet) keep empty;
           received = words_by false off;

@@ -32,7 +32,7 @@ all_behind h bits = let four : length (header_bits h) ≡ 40 = refl in ap (λ (n
 
 text_posted : (c size count : ℕ) (bits : List Bool) → IsHeader (record { size = size; count = count }) → length bits ≡ size * count → IsPosted (Lies (data_text size count bits)) (Waiting c size bits)
 text_posted c size count bits r e =
-    (record { size = size; count = count }, header_again (record { size = size; count = count }) bits r (omega (arith, e)), refl, text_read (record { size = size; count = count }) bits r e, all_behind (record { size = size; count = count }) bits)
+    (record { size = size; count = count }, header_again _ bits r (omega (arith, e)), refl, text_read _ bits r e, all_behind (record { size = size; count = count }) bits)
 
 -- ---- moves
 
@@ -54,7 +54,7 @@ module _ (number other : ℕ → ℕ → ℕ → ℕ) (tells : IsTelling number)
 
   pub takes : (l : ℕ) (text : List Bool) → (l == link) ≡ true → b.post ≡ Lies text → Stepped number other tells others link x y (staying gone q.entries pending post) peer (Takes l text) q listening post (record b { post = Fetched })
   takes l text e lies =
-      stepped number other tells others facts link off x y gone pending post b q j peer listening (Takes l text) tt tt post (record b { post = Fetched })
+      stepped number other tells others facts link off x y gone pending post b q j peer listening _ tt tt post _
       (alone number other tells others facts link off x y gone pending post b q j peer listening (Takes l text) tt tt tt Taken y.box
       (subst (λ (ms : List receivers.Move). Receiving ms x x.to_receiver Taken) (sym move.4) (take_received move.2 move.0 move.1 x move.3))
       (record { may = tt; heard = refl; box = refl })
@@ -77,7 +77,7 @@ module _ (number other : ℕ → ℕ → ℕ → ℕ) (tells : IsTelling number)
       (record { whole = j.box_x.whole; left = λ s t. j.box_x.left s refl })
       (record { whole = λ s. text_posted (named (name_of number gone) e) size count (take (size * count) e.bits) header (length-take-le (size * count) e.bits may.waits); left = λ s t u f. absurd (cc) })) where
         may : MaySend q e size count
-        may = (what_goes q (Bytes e size count) next).1
+        may = (what_goes q _ next).1
 
         keep : KeepBox (is_out link (Sends stamp e size count) q) (senders.Send (named (name_of number gone) e) size (take (size * count) e.bits) ∷ []) y.sender
         keep = subst (λ (v : Bool). KeepBox (is_out link (Sends stamp e size count) q) (if v then senders.Send (named (name_of number gone) e) size (take (size * count) e.bits) ∷ [] else []) y.sender) on
@@ -90,11 +90,11 @@ module _ (number other : ℕ → ℕ → ℕ → ℕ) (tells : IsTelling number)
       → Joint number other tells others link (receives (received_at (name_of number gone) link (Sends stamp e size count) q listening) x) (sends (sent_at (name_of number gone) link (Sends stamp e size count) q listening y.sender) y)
       (staying (gone_by q.entries (ends_by peer (Sends stamp e size count) q listening) gone) (ends_by peer (Sends stamp e size count) q listening) pending (Lies (data_text size count (take (size * count) e.bits)))) b
   bytes stamp e size count next header on room =
-      nothing_new number other tells others facts link off x y gone pending post b q j peer listening (Sends stamp e size count) (Lies (data_text size count (take (size * count) e.bits))) b refl (bytes_out stamp e size count next header on room)
+      nothing_new number other tells others facts link off x y gone pending post b q j peer listening _ _ b refl (bytes_out stamp e size count next header on room)
 
   pub no_bytes : (stamp : ℕ) (e : Entry) (size count : ℕ) → next_of q ≡ Some (Bytes e size count) → sends_on link e ≡ false
       → Joint number other tells others link (receives (received_at (name_of number gone) link (Sends stamp e size count) q listening) x) (sends (sent_at (name_of number gone) link (Sends stamp e size count) q listening y.sender) y)
       (staying (gone_by q.entries (ends_by peer (Sends stamp e size count) q listening) gone) (ends_by peer (Sends stamp e size count) q listening) pending post) b
   no_bytes stamp e size count next away =
-      nothing_new number other tells others facts link off x y gone pending post b q j peer listening (Sends stamp e size count) post b refl
+      nothing_new number other tells others facts link off x y gone pending post b q j peer listening _ post b refl
       (calm number other tells others facts link off x y gone pending post b q j peer listening (Sends stamp e size count) next tt tt tt (rw away tt) (λ s. rw away tt) true (rw away tt) (λ f. absurd (cc)))

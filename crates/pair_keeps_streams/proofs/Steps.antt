@@ -44,17 +44,17 @@ module _ (number other : ℕ → ℕ → ℕ → ℕ) (tells : IsTelling number)
 
   -- what was sent is answered, on this link or on another
   pub step_answered : (l : ℕ) → (l == link) ≡ true → a.post ≡ Fetched → Stepped number other tells others link x y a peer (Answered l) q listening Free b
-  step_answered l e fetched = back (Answered l) Free b (answered number other tells others (facts number tells) link off x y a.gone a.pending a.post b q joint_here peer listening l e fetched)
+  step_answered l e fetched = back _ Free b (answered number other tells others (facts number tells) link off x y a.gone a.pending a.post b q joint_here peer listening l e fetched)
 
   pub step_elsewhere : (l : ℕ) → (l == link) ≡ false → (is_out link (Answered l) q ≡ false → a.post ≡ Free) → Stepped number other tells others link x y a peer (Answered l) q listening a.post b
-  step_elsewhere l e room = back (Answered l) a.post b (elsewhere number other tells others (facts number tells) link off x y a.gone a.pending a.post b q joint_here peer listening l e room)
+  step_elsewhere l e room = back _ a.post b (elsewhere number other tells others (facts number tells) link off x y a.gone a.pending a.post b q joint_here peer listening l e room)
 
   -- data are taken, on this link or on another
   pub step_takes : (l : ℕ) (text : List Bool) → (l == link) ≡ true → b.post ≡ Lies text → Stepped number other tells others link x y a peer (Takes l text) q listening a.post (record b { post = Fetched })
-  step_takes l text e lies = back (Takes l text) a.post (record b { post = Fetched }) (takes number other tells others (facts number tells) link off x y a.gone a.pending a.post b q joint_here peer listening l text e lies)
+  step_takes l text e lies = back _ a.post _ (takes number other tells others (facts number tells) link off x y a.gone a.pending a.post b q joint_here peer listening l text e lies)
 
   pub step_passes : (l : ℕ) (text : List Bool) → (l == link) ≡ false → Stepped number other tells others link x y a peer (Takes l text) q listening a.post b
-  step_passes l text e = back (Takes l text) a.post b (passes number other tells others (facts number tells) link off x y a.gone a.pending a.post b q joint_here peer listening l text e)
+  step_passes l text e = back _ a.post b (passes number other tells others (facts number tells) link off x y a.gone a.pending a.post b q joint_here peer listening l text e)
 
   -- a command of the other is heard
   pub step_hears : (stamp : ℕ) (c : Command) (more : List Command) → b.pending ≡ c ∷ more → IsCommand c → IsPaired c → IsFirst c a.entries → IsHeard c a.entries → (is_busy q.busy link ≡ false → a.post ≡ Free)
@@ -63,7 +63,7 @@ module _ (number other : ℕ → ℕ → ℕ → ℕ) (tells : IsTelling number)
       let s : (said : ℕ) × Stepped number other tells others link x y (staying a.gone q.entries a.pending a.post) peer (Hears stamp said c) q listening a.post (record b { pending = more })
       = hears number other tells others (facts number tells) same link off x y a.gone a.pending a.post b q joint_here peer listening stamp more room c e command paired
       (subst (λ (es : List Entry). IsFirst c es) (sym here) first) (subst (λ (es : List Entry). IsHeard c es) (sym here) good) in
-      (s.0, back (Hears stamp s.0 c) a.post (record b { pending = more }) s.1)
+      (s.0, back _ a.post _ s.1)
 
   -- a command goes out, or bytes do. Nothing is queued
   abbrev pub Quietly : Call → Post → Type 0
@@ -86,7 +86,7 @@ module _ (number other : ℕ → ℕ → ℕ → ℕ) (tells : IsTelling number)
   pub step_bytes : (stamp : ℕ) (e : Entry) (size count : ℕ) → next_of q ≡ Some (Bytes e size count) → IsHeader (record { size = size; count = count }) → sends_on link e ≡ true → (is_out link (Sends stamp e size count) q ≡ false → a.post ≡ Free)
       → Quietly (Sends stamp e size count) (Lies (data_text size count (take (size * count) e.bits)))
   step_bytes stamp e size count next header on room =
-      quietly (Sends stamp e size count) (Lies (data_text size count (take (size * count) e.bits)))
+      quietly (Sends stamp e size count) _
       (bytes number other tells others (facts number tells) link off x y a.gone a.pending a.post b q joint_here peer listening stamp e size count next header on room)
 
   pub step_no_bytes : (stamp : ℕ) (e : Entry) (size count : ℕ) → next_of q ≡ Some (Bytes e size count) → sends_on link e ≡ false → Quietly (Sends stamp e size count) a.post

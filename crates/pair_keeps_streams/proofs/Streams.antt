@@ -32,13 +32,13 @@ queued_is (Some w) ws = refl
 pub receives_said : (ms : List receivers.Move) (x : Stream) → (receives ms x).to_sender ≡ x.to_sender ++ received_words ms
 receives_said [] x = sym (append-nil x.to_sender)
 receives_said (m ∷ ms) x =
-    receives_said ms (happens (Receives m) x) ∙ ap (λ (l : List Word). l ++ received_words ms) (queued_is (receivers.says m) x.to_sender)
+    receives_said ms (happens (Receives m) x) ∙ ap (λ (l : List Word). l ++ received_words ms) (queued_is _ _)
     ∙ append_assoc x.to_sender (one (receivers.says m)) (received_words ms)
 
 pub sends_said : (ms : List senders.Move) (y : Stream) → (sends ms y).to_receiver ≡ y.to_receiver ++ sent_words ms y.sender
 sends_said [] y = sym (append-nil y.to_receiver)
 sends_said (m ∷ ms) y =
-    sends_said ms (happens (Sends m) y) ∙ ap (λ (l : List Word). l ++ sent_words ms (senders.moved m y.sender)) (queued_is (senders.says m y.sender) y.to_receiver)
+    sends_said ms (happens (Sends m) y) ∙ ap (λ (l : List Word). l ++ sent_words ms (senders.moved m y.sender)) (queued_is _ _)
     ∙ append_assoc y.to_receiver (one (senders.says m y.sender)) (sent_words ms (senders.moved m y.sender))
 
 -- ---- all of them may happen
@@ -111,26 +111,26 @@ more_sent m ms y rest box a r = record { may = (a, r.may); heard = r.heard; box 
 
 pub quiet_received : (ms : List receivers.Move) (x : Stream) → AreQuiet ms → Receiving ms x x.to_receiver x.box
 quiet_received [] x q = record { may = tt; heard = refl; box = refl }
-quiet_received (receivers.Ask c ∷ ms) x q = more (receivers.Ask c) ms x x.to_receiver x.box tt (quiet_received ms (happens (Receives (receivers.Ask c)) x) q.1)
-quiet_received (receivers.Open c ∷ ms) x q = more (receivers.Open c) ms x x.to_receiver x.box tt (quiet_received ms (happens (Receives (receivers.Open c)) x) q.1)
-quiet_received (receivers.Grant c m n ∷ ms) x q = more (receivers.Grant c m n) ms x x.to_receiver x.box tt (quiet_received ms (happens (Receives (receivers.Grant c m n)) x) q.1)
-quiet_received (receivers.AskBack c m n ∷ ms) x q = more (receivers.AskBack c m n) ms x x.to_receiver x.box tt (quiet_received ms (happens (Receives (receivers.AskBack c m n)) x) q.1)
-quiet_received (receivers.Close c ∷ ms) x q = more (receivers.Close c) ms x x.to_receiver x.box tt (quiet_received ms (happens (Receives (receivers.Close c)) x) q.1)
-quiet_received (receivers.Free c ∷ ms) x q = more (receivers.Free c) ms x x.to_receiver x.box tt (quiet_received ms (happens (Receives (receivers.Free c)) x) q.1)
+quiet_received (receivers.Ask c ∷ ms) x q = more _ ms x _ x.box tt (quiet_received ms (happens (Receives (receivers.Ask c)) x) q.1)
+quiet_received (receivers.Open c ∷ ms) x q = more _ ms x _ x.box tt (quiet_received ms (happens (Receives (receivers.Open c)) x) q.1)
+quiet_received (receivers.Grant c m n ∷ ms) x q = more _ ms x _ x.box tt (quiet_received ms (happens (Receives (receivers.Grant c m n)) x) q.1)
+quiet_received (receivers.AskBack c m n ∷ ms) x q = more _ ms x _ x.box tt (quiet_received ms (happens (Receives (receivers.AskBack c m n)) x) q.1)
+quiet_received (receivers.Close c ∷ ms) x q = more _ ms x _ x.box tt (quiet_received ms (happens (Receives (receivers.Close c)) x) q.1)
+quiet_received (receivers.Free c ∷ ms) x q = more _ ms x _ x.box tt (quiet_received ms (happens (Receives (receivers.Free c)) x) q.1)
 quiet_received (receivers.Hear w ∷ ms) x q = absurd (q.0)
 quiet_received (receivers.Take z bits ∷ ms) x q = absurd (q.0)
 
 pub one_received : (w : Word) (rest : List Word) (ms : List receivers.Move) (x : Stream) → x.to_receiver ≡ w ∷ rest → HearOne w ms → Receiving ms x rest x.box
 one_received w rest [] x e q = absurd (q)
 one_received w rest (receivers.Hear v ∷ ms) x e q =
-    let r : Receiving ms (happens (Receives (receivers.Hear v)) x) (behind x.to_receiver) x.box = quiet_received ms (happens (Receives (receivers.Hear v)) x) q.1 in
+    let r : Receiving ms (happens (Receives (receivers.Hear v)) x) (behind x.to_receiver) x.box = quiet_received ms _ q.1 in
     record { may = ((rest, e ∙ ap (λ (u : Word). u ∷ rest) (sym q.0)), r.may); heard = r.heard ∙ ap behind e; box = r.box }
-one_received w rest (receivers.Ask c ∷ ms) x e q = more (receivers.Ask c) ms x rest x.box tt (one_received w rest ms (happens (Receives (receivers.Ask c)) x) e q.1)
-one_received w rest (receivers.Open c ∷ ms) x e q = more (receivers.Open c) ms x rest x.box tt (one_received w rest ms (happens (Receives (receivers.Open c)) x) e q.1)
-one_received w rest (receivers.Grant c m n ∷ ms) x e q = more (receivers.Grant c m n) ms x rest x.box tt (one_received w rest ms (happens (Receives (receivers.Grant c m n)) x) e q.1)
-one_received w rest (receivers.AskBack c m n ∷ ms) x e q = more (receivers.AskBack c m n) ms x rest x.box tt (one_received w rest ms (happens (Receives (receivers.AskBack c m n)) x) e q.1)
-one_received w rest (receivers.Close c ∷ ms) x e q = more (receivers.Close c) ms x rest x.box tt (one_received w rest ms (happens (Receives (receivers.Close c)) x) e q.1)
-one_received w rest (receivers.Free c ∷ ms) x e q = more (receivers.Free c) ms x rest x.box tt (one_received w rest ms (happens (Receives (receivers.Free c)) x) e q.1)
+one_received w rest (receivers.Ask c ∷ ms) x e q = more _ ms x rest x.box tt (one_received w rest ms (happens (Receives (receivers.Ask c)) x) e q.1)
+one_received w rest (receivers.Open c ∷ ms) x e q = more _ ms x rest x.box tt (one_received w rest ms (happens (Receives (receivers.Open c)) x) e q.1)
+one_received w rest (receivers.Grant c m n ∷ ms) x e q = more _ ms x rest x.box tt (one_received w rest ms (happens (Receives (receivers.Grant c m n)) x) e q.1)
+one_received w rest (receivers.AskBack c m n ∷ ms) x e q = more _ ms x rest x.box tt (one_received w rest ms (happens (Receives (receivers.AskBack c m n)) x) e q.1)
+one_received w rest (receivers.Close c ∷ ms) x e q = more _ ms x rest x.box tt (one_received w rest ms (happens (Receives (receivers.Close c)) x) e q.1)
+one_received w rest (receivers.Free c ∷ ms) x e q = more _ ms x rest x.box tt (one_received w rest ms (happens (Receives (receivers.Free c)) x) e q.1)
 one_received w rest (receivers.Take z bits ∷ ms) x e q = absurd (q.0)
 
 -- a message is taken
@@ -141,10 +141,10 @@ take_received c z bits x e = record { may = ((c, e), tt); heard = refl; box = re
 
 pub quiet_sent : (out : Bool) (ms : List senders.Move) (y : Stream) → AreQuietSent ms → KeepBox out ms y.sender → (out ≡ false → y.box ≡ Empty) → Sending ms y y.to_sender y.box
 quiet_sent out [] y q k f = record { may = tt; heard = refl; box = refl }
-quiet_sent out (senders.Ask c z ∷ ms) y q k f = more_sent (senders.Ask c z) ms y y.to_sender y.box tt (quiet_sent out ms (happens (Sends (senders.Ask c z)) y) q.1 k.1 f)
-quiet_sent out (senders.Open c ∷ ms) y q k f = more_sent (senders.Open c) ms y y.to_sender y.box tt (quiet_sent out ms (happens (Sends (senders.Open c)) y) q.1 k.1 f)
+quiet_sent out (senders.Ask c z ∷ ms) y q k f = more_sent _ ms y _ y.box tt (quiet_sent out ms (happens (Sends (senders.Ask c z)) y) q.1 k.1 f)
+quiet_sent out (senders.Open c ∷ ms) y q k f = more_sent _ ms y _ y.box tt (quiet_sent out ms (happens (Sends (senders.Open c)) y) q.1 k.1 f)
 quiet_sent out (senders.Close c ∷ ms) y q k f =
-    more_sent (senders.Close c) ms y y.to_sender y.box (λ e o. f (k.0 e o)) (quiet_sent out ms (happens (Sends (senders.Close c)) y) q.1 k.1 f)
+    more_sent _ ms y _ y.box (λ e o. f (k.0 e o)) (quiet_sent out ms (happens (Sends (senders.Close c)) y) q.1 k.1 f)
 quiet_sent out (senders.Hear w ∷ ms) y q k f = absurd (q.0)
 quiet_sent out (senders.Send c z bits ∷ ms) y q k f = absurd (q.0)
 quiet_sent out (senders.Told ∷ ms) y q k f = absurd (q.0)
@@ -152,12 +152,12 @@ quiet_sent out (senders.Told ∷ ms) y q k f = absurd (q.0)
 pub one_sent : (out : Bool) (w : Word) (rest : List Word) (ms : List senders.Move) (y : Stream) → y.to_sender ≡ w ∷ rest → HearOneSent w ms → KeepBox out ms y.sender → (out ≡ false → y.box ≡ Empty) → Sending ms y rest y.box
 one_sent out w rest [] y e q k f = absurd (q)
 one_sent out w rest (senders.Hear v ∷ ms) y e q k f =
-    let r : Sending ms (happens (Sends (senders.Hear v)) y) (behind y.to_sender) y.box = quiet_sent out ms (happens (Sends (senders.Hear v)) y) q.1 k.1 f in
+    let r : Sending ms (happens (Sends (senders.Hear v)) y) (behind y.to_sender) y.box = quiet_sent out ms _ q.1 k.1 f in
     record { may = ((rest, e ∙ ap (λ (u : Word). u ∷ rest) (sym q.0)), r.may); heard = r.heard ∙ ap behind e; box = r.box }
-one_sent out w rest (senders.Ask c z ∷ ms) y e q k f = more_sent (senders.Ask c z) ms y rest y.box tt (one_sent out w rest ms (happens (Sends (senders.Ask c z)) y) e q.1 k.1 f)
-one_sent out w rest (senders.Open c ∷ ms) y e q k f = more_sent (senders.Open c) ms y rest y.box tt (one_sent out w rest ms (happens (Sends (senders.Open c)) y) e q.1 k.1 f)
+one_sent out w rest (senders.Ask c z ∷ ms) y e q k f = more_sent _ ms y rest y.box tt (one_sent out w rest ms (happens (Sends (senders.Ask c z)) y) e q.1 k.1 f)
+one_sent out w rest (senders.Open c ∷ ms) y e q k f = more_sent _ ms y rest y.box tt (one_sent out w rest ms (happens (Sends (senders.Open c)) y) e q.1 k.1 f)
 one_sent out w rest (senders.Close c ∷ ms) y e q k f =
-    more_sent (senders.Close c) ms y rest y.box (λ g o. f (k.0 g o)) (one_sent out w rest ms (happens (Sends (senders.Close c)) y) e q.1 k.1 f)
+    more_sent _ ms y rest y.box (λ g o. f (k.0 g o)) (one_sent out w rest ms (happens (Sends (senders.Close c)) y) e q.1 k.1 f)
 one_sent out w rest (senders.Send c z bits ∷ ms) y e q k f = absurd (q.0)
 one_sent out w rest (senders.Told ∷ ms) y e q k f = absurd (q.0)
 
@@ -166,4 +166,4 @@ pub send_sent : (c z : ℕ) (bits : List Bool) (y : Stream) → y.box ≡ Empty 
 send_sent c z bits y e = record { may = (e, tt); heard = refl; box = refl }
 
 pub told_sent : (out : Bool) (ms : List senders.Move) (y : Stream) → AreQuietSent ms → KeepBox out ms y.sender → y.box ≡ Taken → Sending (senders.Told ∷ ms) y y.to_sender Empty
-told_sent out ms y q k e = more_sent senders.Told ms y y.to_sender Empty e (quiet_sent out ms (happens (Sends senders.Told) y) q k (λ o. refl))
+told_sent out ms y q k e = more_sent _ ms y _ Empty e (quiet_sent out ms _ q k (λ o. refl))
