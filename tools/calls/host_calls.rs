@@ -151,7 +151,7 @@ fn inbound(alloc: Global, mut words: Words<'_>) -> Option<Inbound> {
 }
 
 /// A notice.
-fn tell(alloc: Global, answer: &mut String, notice: &Notice) -> Option<()> {
+pub fn tell(alloc: Global, answer: &mut String, notice: &Notice) -> Option<()> {
     match notice {
         Notice::Ready { peer } => write!(answer, "ready {peer}").ok(),
         Notice::ContactFailed { peer } => write!(answer, "contactfailed {peer}").ok(),

@@ -19,12 +19,14 @@ mod host_calls;
 mod imp_calls;
 mod line_calls;
 mod piece_calls;
+mod program_calls;
 mod reader_calls;
 mod route_calls;
 mod service_calls;
 mod subnet_calls;
 mod table_calls;
 mod words;
+mod world_calls;
 mod writer_calls;
 
 use crate::words::Words;
@@ -102,6 +104,8 @@ fn played(alloc: Global, opening: &str, rows: &[&str], said: &mut String) -> Opt
         "readers" => play(alloc, &mut reader_calls::Readers, rows, said),
         "subnet" => play(alloc, &mut subnet_calls::opened(alloc, words)?, rows, said),
         "hosts" => play(alloc, &mut host_calls::opened(alloc, words)?, rows, said),
+        "world" => world_calls::played(alloc, words, rows, said),
+        "program" => play(alloc, &mut program_calls::opened(alloc, words)?, rows, said),
         name => {
             let mut answer = String::new(alloc);
             let mut machine = service_calls::started(alloc, name, words, &mut answer)?;
@@ -112,7 +116,7 @@ fn played(alloc: Global, opening: &str, rows: &[&str], said: &mut String) -> Opt
 }
 
 /// Makes the calls of rows.
-fn play<L: Layer>(alloc: Global, layer: &mut L, rows: &[&str], said: &mut String) -> Option<()> {
+pub fn play<L: Layer>(alloc: Global, layer: &mut L, rows: &[&str], said: &mut String) -> Option<()> {
     let mut at = 0;
     while at < rows.len() {
         let row = *rows.get(at)?;
@@ -157,7 +161,7 @@ fn repeat<L: Layer>(alloc: Global, layer: &mut L, count: u32, rows: &[&str], sai
 }
 
 /// Prints the parts of an answer.
-fn tell(answer: &str, said: &mut String) -> Option<()> {
+pub fn tell(answer: &str, said: &mut String) -> Option<()> {
     for part in answer.lines() {
         writeln!(said, "= {part}").ok()?;
     }

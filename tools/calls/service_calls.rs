@@ -166,9 +166,19 @@ fn spell_said(alloc: Global, answer: &mut String, said: Said) -> Option<()> {
 fn spell_outcome(answer: &mut String, outcome: Option<Outcome>) -> Option<()> {
     match outcome {
         None => Some(()),
-        Some(Outcome::Done { receive, send }) => writeln!(answer, "done {} {}", receive.number(), send.number()).ok(),
         Some(Outcome::Failed(Failure::Local(fault))) => writeln!(answer, "failed {}: {fault}", Failure::Local(fault)).ok(),
-        Some(Outcome::Failed(failure)) => writeln!(answer, "failed {failure}").ok(),
+        Some(outcome) => {
+            spell_end(answer, &outcome)?;
+            answer.push_str("\n").ok()
+        }
+    }
+}
+
+/// How an initial connection ended.
+pub fn spell_end(answer: &mut String, outcome: &Outcome) -> Option<()> {
+    match outcome {
+        Outcome::Done { receive, send } => write!(answer, "done {} {}", receive.number(), send.number()).ok(),
+        Outcome::Failed(failure) => write!(answer, "failed {failure}").ok(),
     }
 }
 

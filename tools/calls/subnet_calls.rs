@@ -55,31 +55,55 @@ fn spell_hosts(subnet: &Subnet, answer: &mut String) -> Option<()> {
     Some(())
 }
 
-/// The subnet that a block's first row asks for.
-pub fn opened(alloc: Global, mut words: Words<'_>) -> Option<Subnet> {
-    let mut sites: Vec<Option<u8>> = Vec::new(alloc);
-    let mut hosts = Vec::new(alloc);
+/// The network that a block's first row asks for, and whether it is followed by hosts that are strangers.
+#[derive(Drop)]
+pub struct Network {
+    pub hosts: Vec<HostAddr>,
+    pub sites: Vec<Option<u8>>,
+    /// None of plain boxes.
+    pub lines: Option<Vec<Ends>>,
+    pub has_strangers: bool,
+}
+
+/// Reads a network.
+pub fn network(alloc: Global, words: &mut Words<'_>) -> Option<Network> {
+    let mut found = Network { hosts: Vec::new(alloc), sites: Vec::new(alloc), lines: None, has_strangers: false };
     while let Some(word) = words.word() {
-        if word == "/" {
+        if word == "foreign" {
+            found.has_strangers = true;
             break;
         }
-        let (imp, count) = word.split_once(':')?;
-        let number = imp.parse::<usize>().ok()?;
-        let count = count.parse::<u8>().ok()?;
-        while sites.len() < number {
-            sites.push(None).ok()?;
-        }
-        sites.push(Some(count)).ok()?;
-        for host in 0..count {
-            hosts.push(HostAddr::new(host, imp.parse::<u8>().ok()?)?).ok()?;
+        if word == "/" {
+            found.lines = Some(Vec::new(alloc));
+        } else if let Some(lines) = &mut found.lines {
+            let (a, b) = word.split_once('-')?;
+            lines.push(Ends { a: a.parse::<u8>().ok()?, b: b.parse::<u8>().ok()? }).ok()?;
+        } else {
+            add_site(&mut found.sites, &mut found.hosts, word)?;
         }
     }
-    let mut lines = Vec::new(alloc);
-    while let Some(word) = words.word() {
-        let (a, b) = word.split_once('-')?;
-        lines.push(Ends { a: a.parse::<u8>().ok()?, b: b.parse::<u8>().ok()? }).ok()?;
+    Some(found)
+}
+
+/// Adds an IMP and its hosts.
+fn add_site(sites: &mut Vec<Option<u8>>, hosts: &mut Vec<HostAddr>, word: &str) -> Option<()> {
+    let (imp, count) = word.split_once(':')?;
+    let number = imp.parse::<usize>().ok()?;
+    let count = count.parse::<u8>().ok()?;
+    while sites.len() < number {
+        sites.push(None).ok()?;
     }
-    Subnet::new(alloc, hosts, sites, &lines).ok()
+    sites.push(Some(count)).ok()?;
+    for host in 0..count {
+        hosts.push(HostAddr::new(host, imp.parse::<u8>().ok()?)?).ok()?;
+    }
+    Some(())
+}
+
+/// The subnet that a block's first row asks for.
+pub fn opened(alloc: Global, mut words: Words<'_>) -> Option<Subnet> {
+    let Network { hosts, sites, lines, .. } = network(alloc, &mut words)?;
+    Subnet::new(alloc, hosts, sites, &lines?).ok()
 }
 
 /// What became of a row, with what a host took; `None` where it can't be read.

@@ -19,7 +19,10 @@ from workshop.builds.unproved import NotKept, build, keep, kept_for_sources
 from workshop.parts import ROOT, text_of
 
 # what it uses: these, and the crates below them
-USES = "bit_messages hex icp imp_channel imp_node interface leader1822 link_table ncp_control packetiser routing sockets subnet terminal"
+USES = (
+    "bit_messages book_log command_line hex icp imp_channel imp_node interface leader1822 link_table ncp_control "
+    "net_sim packetiser replay routing sockets subnet terminal world_script"
+)
 # an IMP without hosts and lines has nothing to announce
 EXAMPLE = b"imp 1 0 0\nroute\n= ok\n"
 CORES = os.cpu_count() or 1

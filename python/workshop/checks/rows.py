@@ -5,20 +5,26 @@ cases/calls/NAME.rows is its own output: tools/calls, built without proofs, make
 to be the file. Where it is not, both are shown with file and line. A call that nothing is said of is refused.
 
 ./check rows --write NAME.. writes what came into the files, for an author who then reads whether it is right. Models in
-Python answer the same rows in the checks `imp`, `subnet`, `hosts`, `services` and `readers`.
+Python answer the same rows: those of worlds and of replays here, with random calls on worlds, and the others in the
+checks `imp`, `subnet`, `hosts`, `services` and `readers`.
 """
 
 from __future__ import annotations
 
+import tempfile
 from collections import Counter
 
-from workshop.builds.drivers import difference, made_driver, printed
+from workshop.builds.drivers import difference, made_driver, printed, run_cases, write_case
+from workshop.checks.readings import read_stored, told
+from workshop.checks.world_chance import rows_of
+from workshop.checks.world_rows import open_program, open_world
 from workshop.parts import text_of
 from workshop.rows import BadRow, blocks_of, files
 from workshop.words import Words
 
+RUNS = 60  # of random calls on worlds
 READ_BY = {
-    "imp": "imp", "tables": "imp", "subnet": "subnet", "hosts": "hosts", "readers": "readers",
+    "imp": "imp", "tables": "imp", "subnet": "subnet", "hosts": "hosts", "readers": "readers", "world": "rows", "program": "rows",
     **dict.fromkeys(("server", "user", "echo", "terminal"), "services"),
     **dict.fromkeys(("allocation", "bits", "boxes", "writers"), "readers"),
     **dict.fromkeys(("destinations", "line", "pieces", "routes", "sources"), "imp"),
@@ -54,6 +60,20 @@ def write_file(program: str, path: str) -> None:
     print(f"check rows: wrote what came of {path}: read it")
 
 
+def compare_worlds() -> int:
+    """Has the models answer the rows of worlds and of replays, and compares random calls on worlds. The status."""
+    is_stored = read_stored("rows", open_program, "program") & read_stored("rows", open_world, "world")
+    seen, count = Counter[str](), 0
+    with tempfile.TemporaryDirectory() as folder:
+        for run in range(RUNS):
+            rows, came = rows_of(run)
+            write_case(folder, f"{run:03}", rows)
+            seen.update(came)
+            count += sum(1 for row in rows if not row.startswith("= "))
+        said = run_cases(folder)
+    return told("rows", said, f"{count} calls on worlds in {RUNS} random runs agree", seen, is_stored)
+
+
 def main() -> int:
     words = Words(__doc__).names("name", "a file of cases/calls; all, if none is named")
     asked, found = words.flag("write", "write what came into these files").asked(), files()
@@ -77,4 +97,6 @@ def main() -> int:
         print(f"  {layer}: {count} rows, {f'answered by the model of `check {reader}` too' if reader else 'of no model'}")
     came = f"{len(wrong)} files wrong" if wrong else "each as stored"
     print(f"check rows: {seen.total()} rows of {len(chosen)} files, {came}")
+    if {"worlds", "programs"} & {*chosen}:
+        return compare_worlds() or min(len(wrong), 1)
     return 1 if wrong else 0
