@@ -10,12 +10,12 @@ import glob
 import hashlib
 import os
 import shutil
-import subprocess
 import sys
 from collections.abc import Iterable, Iterator, Mapping, Sequence
 from concurrent.futures import ThreadPoolExecutor
 
 from workshop.builds.unproved import NotKept, build, keep, kept_for_sources
+from workshop.limited import NotEnded, run_within
 from workshop.parts import ROOT, text_of
 
 # what it uses: these, and the crates below them
@@ -26,7 +26,7 @@ USES = (
 # an IMP without hosts and lines has nothing to announce
 EXAMPLE = b"imp 1 0 0\nroute\n= ok\n"
 CORES = os.cpu_count() or 1
-SECONDS = 300  # for the rows of a file
+SECONDS = 300  # of the processor, for the rows of a file
 
 
 def crates_below(lines: Mapping[str, Sequence[str]], name: str) -> list[str]:
@@ -88,9 +88,9 @@ def write_case(folder: str, name: str, rows: Iterable[str]) -> None:
 def printed(program: str, rows: str) -> str:
     """What the program prints for rows. Where it ends otherwise than it should, or not in time, that comes last."""
     try:
-        ran = subprocess.run([program], input=rows.encode(), capture_output=True, timeout=SECONDS)
-    except subprocess.TimeoutExpired:
-        return f"\n(it had not ended after {SECONDS} seconds)"
+        ran = run_within([program], rows.encode(), SECONDS)
+    except NotEnded as why:
+        return f"\n({why})"
     if ran.returncode == 0 and not ran.stderr:
         return ran.stdout.decode()
     return f"{ran.stdout.decode()}\n(status {ran.returncode}) {ran.stderr.decode(errors='replace')[-2000:]}"

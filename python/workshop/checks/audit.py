@@ -22,7 +22,6 @@ from __future__ import annotations
 import functools
 import multiprocessing
 import os
-import subprocess
 import sys
 from collections import Counter
 from collections.abc import Iterator
@@ -40,6 +39,7 @@ from dorydate.model.runs import End
 from dorydate.model.strangers import MixedWorld
 from dorydate.model.topology import Topology, network_of, spelled_input
 from dorydate.model.without.stored import Lesson
+from workshop import limited
 from workshop.checks import log_rows
 from workshop.checks.cases import Case, cases_below
 from workshop.checks import headline
@@ -49,6 +49,7 @@ from workshop.words import Words
 COUNT = 10_000
 LOGGED = 10  # of this many worlds one is logged by the program too
 CORES = os.cpu_count() or 1
+SECONDS = 600  # of the processor, for one run
 
 
 # ---- the program
@@ -65,7 +66,7 @@ def program() -> str:
 
 def run(octets: bytes, *options: str) -> End:
     """How the program ends: its status, its output and its words."""
-    ran = subprocess.run([program(), *options], input=octets, capture_output=True, timeout=600)
+    ran = limited.run_within([program(), *options], octets, SECONDS)
     return ran.returncode, ran.stdout.decode("latin-1"), ran.stderr.decode("latin-1")
 
 

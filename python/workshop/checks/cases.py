@@ -18,16 +18,16 @@ from __future__ import annotations
 import ast
 import os
 import re
-import subprocess
 from collections.abc import Iterator
 from concurrent.futures import ThreadPoolExecutor
 from dataclasses import dataclass
 
+from workshop.limited import NotEnded, run_within
 from workshop.parts import any_program
 from workshop.rows import FOLDER as CALLS
 from workshop.words import Words
 
-SECONDS = 120  # for one input
+SECONDS = 120  # of the processor, for one input
 PART = re.compile(r'("(?:[^"\\]|\\.)*")(?:\*(\d+))?(?: +|$)')
 BESIDE = (".args", ".stdout", ".stderr", ".status", ".rows")
 
@@ -85,9 +85,9 @@ class Case:
         """How what comes of the case differs from what is stored, or None. A form that `may_help` says more after a fault."""
         words = [os.fsencode(program), *(self.args or b"").splitlines()]
         try:
-            ran = subprocess.run(words, input=self.octets, capture_output=True, timeout=SECONDS)
-        except subprocess.TimeoutExpired:
-            return f"it had not ended after {SECONDS} seconds"
+            ran = run_within(words, self.octets, SECONDS)
+        except NotEnded as why:
+            return str(why)
         if ran.returncode != self.status:
             return f"status {ran.returncode}, wanted {self.status}"
         fault, end, help_ = ran.stderr.decode(errors="backslashreplace").partition("\n")

@@ -39,11 +39,13 @@ from dorydate.model.topology import Topology, spelled_input
 from dorydate.model.runs import End, expected
 from dorydate.model.chance.worlds import reached
 from dorydate.model.chance.worlds import some_script as some_script_of_world
+from workshop.limited import run_within
 from workshop.parts import ROOT, any_program
 from workshop.words import Words
 
 Run = tuple[list[str], bytes]  # options and an input
 PLAIN_AND_LOG: tuple[list[str], list[str]] = [], ["--log"]
+SECONDS = 60  # of the processor, for one input
 INPUTS = 3000
 WORLDS = 1500
 MIXED = 500
@@ -112,7 +114,7 @@ class Kept:
 
         def run(given: Run) -> End:
             options, octets = given
-            ran = subprocess.run([self.path, *options], input=octets, capture_output=True, timeout=60)
+            ran = run_within([self.path, *options], octets, SECONDS)
             return ran.returncode, ran.stdout.decode("latin-1"), ran.stderr.decode("latin-1")
 
         with ThreadPoolExecutor(os.cpu_count() or 1) as threads:

@@ -13,7 +13,6 @@ from __future__ import annotations
 import glob
 import os
 import shutil
-import subprocess
 import sys
 from collections import Counter
 from collections.abc import Callable, Iterator, Mapping, Sequence
@@ -21,6 +20,7 @@ from concurrent.futures import ThreadPoolExecutor
 from dataclasses import dataclass
 from functools import partial
 
+from workshop import limited
 from workshop.builds.drivers import CORES, EXAMPLE, USES, crates_below
 from workshop.builds.switched import blamed, link, write_sources
 from workshop.builds.unproved import NotKept, build, keep, kept_for_sources
@@ -32,7 +32,7 @@ from workshop.parts import ROOT, read_octets, text_of
 from workshop.rows import files
 from workshop.words import Words
 
-SECONDS = 30  # for an input with a bug
+SECONDS = 30  # of the processor, for an input with a bug
 MOST_OCTETS = 10_000_000  # of an input
 FIRST = f"{ROOT}/examples/first-message"
 Trials = Mapping[str, Callable[[int], bool]]  # by the names of inputs: whether a run with a bug ends otherwise
@@ -107,8 +107,8 @@ def ended(program: str, words: Sequence[bytes], octets: bytes, number: int) -> t
     env = {**os.environ, "PLANTED": str(number)}
     try:
         command = [os.fsencode(program), *words]
-        ran = subprocess.run(command, input=octets, capture_output=True, timeout=SECONDS, env=env)
-    except subprocess.TimeoutExpired:
+        ran = limited.run_within(command, octets, SECONDS, env)
+    except limited.NotEnded:
         return None
     return ran.returncode, ran.stdout, ran.stderr
 

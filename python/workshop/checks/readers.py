@@ -18,7 +18,6 @@ from __future__ import annotations
 
 import os
 import shutil
-import subprocess
 import tempfile
 from collections import Counter
 from collections.abc import Iterator
@@ -33,11 +32,13 @@ from workshop.checks.format_rows import open_formats
 from workshop.checks.net_rows import open_net
 from workshop.checks.reader_rows import OF_BITS, READERS, TEXTS, open_readers, said_of
 from workshop.checks.readings import read_stored
+from workshop.limited import run_within
 from workshop.parts import any_program
 from workshop.rows import spelled
 from workshop.tools import left_out
 
 Row = TypeVar("Row", bytes, Bits)
+SECONDS = 60  # of the processor, for one input
 CHANGES = b"\x00\x7f\xff"
 
 STRIPES = "A5C3" * 31 + "A5"  # 63 octets
@@ -276,7 +277,7 @@ def check_inputs(program: str) -> int:
     """How many inputs the program ends otherwise on than the second reading says."""
 
     def run(octets: bytes) -> End:
-        ran = subprocess.run([program, *OPTIONS], input=octets, capture_output=True, timeout=60)
+        ran = run_within([program, *OPTIONS], octets, SECONDS)
         return ran.returncode, ran.stdout.decode(), ran.stderr.decode()
 
     tried, wrong, seen = list(inputs()), 0, Counter[str]()

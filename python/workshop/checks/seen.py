@@ -16,17 +16,18 @@ import select
 import socket
 import subprocess
 import tempfile
-import time
 from itertools import accumulate
 
 from dorydate.model.topology import Topology, spelled_input
 from workshop.checks.limits import JOINED, PAIR
+from workshop.limited import NotEnded, run_within
 from workshop.parts import any_program
 from workshop.words import Words
 
 MOST = 4_294_967_295
 UNSEEN = 64  # rounds of a calm, before each further one is written at once
-WITHIN = 2.0  # seconds, on a busy machine
+WITHIN = 2  # seconds of the processor, for a calm that rests
+WAITS = 60.0  # seconds by the clock at most, on a busy machine, until what was printed is seen
 CHAIN = Topology("subnet", False, [(imp, 4) for imp in range(1, 14)], [(imp, imp + 1) for imp in range(1, 13)])
 CONTACTS = [f"contact 0/1 {host}/{imp}" for imp in range(2, 14) for host in range(4)]
 SILENT = Topology("subnet", True, [(1, 1), (2, 1)], [(1, 2)])
@@ -100,7 +101,7 @@ def faults_of_waiting(program: str, *options: str) -> list[str]:
         source.seek(0)
         with subprocess.Popen([program, *options], stdin=source, stdout=subprocess.PIPE) as process:
             assert process.stdout
-            ready, _, _ = select.select([process.stdout], [], [], WITHIN)
+            ready, _, _ = select.select([process.stdout], [], [], WAITS)
             first = os.read(process.stdout.fileno(), 1 << 16) if ready else b""
             ended = process.poll() is not None
             process.kill()
@@ -115,13 +116,12 @@ def faults_of_resting(program: str) -> list[str]:
     for name, (network, lines) in RESTING.items():
         short = printed(program, spelled_input(network, [*lines, "calm 1000"]))
         try:
-            begun = time.monotonic()
-            ran = subprocess.run([program], input=spelled_input(network, [*lines, f"calm {MOST}"]), stdout=subprocess.PIPE, check=True, timeout=30)
-        except subprocess.TimeoutExpired:
-            wrong.append(f"{name}: the calm did not end")
+            ran = run_within([program], spelled_input(network, [*lines, f"calm {MOST}"]), WITHIN)
+        except NotEnded as why:
+            wrong.append(f"{name}: {why}")
             continue
-        if ran.stdout != short or time.monotonic() - begun > WITHIN:
-            wrong.append(f"{name}: {len(ran.stdout)} octets in {time.monotonic() - begun:.1f} s, and a short calm prints {len(short)}")
+        if (ran.returncode, ran.stdout) != (0, short):
+            wrong.append(f"{name}: {len(ran.stdout)} octets, and a short calm prints {len(short)}")
     return wrong
 
 
