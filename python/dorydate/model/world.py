@@ -40,6 +40,7 @@ class World(Printing):
         self.programs: dict[HostName, list[Running]] = {host: [] for host in carrier.hosts()}
         self.terminals: dict[HostName, Terminal] = {}  # of a host: the terminal whose user machine was done last
         self.book = Book()
+        self.at_notice = 0  # how many of its notices what runs on hosts has heard
         self.printed: list[str] = []
 
     def step(self, kind: str, *parts: Any) -> None:
@@ -184,6 +185,7 @@ class World(Printing):
             self.book.notices.append((host, notice, len(self.carrier.log)))
             self.book.hear(host, notice.split(" "))
         for notice in notices:
+            self.at_notice += 1
             kind, *words = notice.split(" ")
             self.printed.append(" ".join([kind, spell_host(host), *words[: PRINTED.get(kind)]]))
             for program in list(self.programs[host]):
@@ -202,7 +204,7 @@ class World(Printing):
 
     def report(self, host: HostName, program: Running, report: Report) -> None:
         """Prints a report. A machine that is done is followed by its service."""
-        self.book.reports.append((host, report, len(self.book.notices)))
+        self.book.reports.append((host, report, self.at_notice))
         self.printed.append(" ".join([report[0], spell_host(host), *report[1:]]))
         if report[0].startswith("done ") and isinstance(program, Machine):
             follower = program_after(program)

@@ -156,7 +156,8 @@ def with_changes(lines: Sequence[str], changes: Sequence[str]) -> list[str]:
     for change in changes:
         place, is_text, text = change.partition(" ")
         at = int(place) - 1
-        now[at : at + (not place.startswith("+"))] = [text] * bool(is_text)
+        if at < len(now):
+            now[at : at + (not place.startswith("+"))] = [text] * bool(is_text)
     return now
 
 
