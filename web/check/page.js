@@ -9,7 +9,8 @@
 
 import { existsSync, readdirSync, readFileSync } from "node:fs";
 
-import { noteOf, unpacked } from "../run/embedded.js";
+import { noteOf } from "../run/embedded.js";
+import { unpacked } from "../run/packed.js";
 import { chromium, firefox } from "./browser.js";
 
 /** @typedef {import("./browser.js").Browser} Browser */

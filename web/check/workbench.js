@@ -11,7 +11,9 @@
 
 import { mkdtempSync, readFileSync, rmSync, writeFileSync } from "node:fs";
 import { tmpdir } from "node:os";
+import { gunzipSync } from "node:zlib";
 
+import { octetsOf } from "../run/base85.js";
 import { chromium, firefox, load, webkit } from "./browser.js";
 import * as trials from "./trials.js";
 
@@ -150,7 +152,7 @@ const GIVEN = /** @type {{[name: string]: () => string}} */ ({
  *
  * @typedef {object} Planted
  * @property {string} what
- * @property {string} from what it changes in the page, as the sources spell it
+ * @property {string} from what it changes in the page
  * @property {string} to
  * @property {keyof typeof trials | "spoken"} by the trial that has to find it, or what is spoken
  * @property {[number, number]} [size]
@@ -452,12 +454,18 @@ async function spoken(browser) {
 }
 
 /**
- * A page whose policy allows changed scripts and styles, so that faults can be planted.
+ * A page with its code in it as it is written, and with a policy that allows other scripts and styles, so that faults can
+ * be planted.
  *
  * @param {string} page
  */
 function opened(page) {
-    return page.replace(/'sha256-[^']*'/g, "'unsafe-inline'");
+    const [block, packed] = /<script [^>]* id="code">([^<]*)<\/script>/.exec(page) ?? ["", ""];
+    const code = gunzipSync(octetsOf(packed)).toString();
+    return page
+        .replace(block, "")
+        .replace(/(<script type="module">)[^]*?(?=<\/script>)/, (_, start) => start + code)
+        .replace(/'sha256-[^']*'/g, "'unsafe-inline'");
 }
 
 /**
@@ -627,26 +635,17 @@ const PARTS = /** @type {{[name: string]: (browser: Browser) => Promise<Found>}}
  */
 async function faults(browser, page) {
     const room = mkdtempSync(`${tmpdir()}/workbench-`);
-    const missed = await planted(browser, readFileSync(page, "utf8"), `${room}/planted.html`);
+    const missed = await planted(browser, opened(readFileSync(page, "utf8")), `${room}/planted.html`);
     rmSync(room, { recursive: true, force: true });
     const found = `${PLANTED.length - missed.length} planted faults found`;
     return { wrong: missed.map((it) => `a planted fault was not found: ${it}`), tried: found };
 }
 
 /**
- * Where something of the sources is in the page, which has no spaces at signs.
- *
- * @param {string} text
- */
-function spelled(text) {
-    return new RegExp(text.replace(/[.*+?^${}()|[\]\\]/g, "\\$&").replace(/ /g, " ?"));
-}
-
-/**
  * Plants each fault in the page, and answers those that are not found.
  *
  * @param {Browser} browser
- * @param {string} page
+ * @param {string} page that is opened
  * @param {string} file where a page with a fault is put
  */
 async function planted(browser, page, file) {
@@ -654,10 +653,10 @@ async function planted(browser, page, file) {
     const missed = [];
     for (const { what, from, to, by, size, only, words } of PLANTED) {
         if (only && only !== browser.name) continue;
-        if (!spelled(from).test(page)) missed.push(`${what}: there is no place to plant it`);
+        if (!page.includes(from)) missed.push(`${what}: there is no place to plant it`);
         if (by === "paper" && !(await browser.look({ paper: true }))) continue;
         if (by === "spoken" && !(await browser.tree()).length) continue;
-        writeFileSync(file, opened(page.replace(spelled(from), () => to)));
+        writeFileSync(file, page.replace(from, () => to));
         await browser.resize(...(size ?? WIDE));
         await browser.open(`file://${file}`);
         if (by === "entered") { // a visit is the first one where the tab keeps nothing of another

@@ -3,7 +3,7 @@
  * the page opens without a request.
  */
 
-import { octetsOf } from "./base85.js";
+import { block, unpacked, unpackedText } from "./packed.js";
 import { makeRunner } from "./runner.js";
 
 /** @typedef {import("./runner.js").Runner} Runner */
@@ -17,38 +17,6 @@ import { makeRunner } from "./runner.js";
  * @property {string} sources the hash of the sources that it was built of, as tools/kept-program computes it
  * @property {string} toolchain the version of the toolchain
  */
-
-/**
- * The text of a data block of the page.
- *
- * @param {string} id
- * @returns {string}
- */
-export function block(id) {
-    const element = document.getElementById(id);
-    if (!element) throw new Error(`the page has no block ${id}`);
-    return element.textContent ?? "";
-}
-
-/**
- * Opens what gzip packed and base85 spelled.
- *
- * @param {string} text
- * @returns {Promise<ArrayBuffer>}
- */
-export async function unpacked(text) {
-    const packed = new Blob([octetsOf(text)]);
-    return new Response(packed.stream().pipeThrough(new DecompressionStream("gzip"))).arrayBuffer();
-}
-
-/**
- * The text that gzip packed and base85 spelled.
- *
- * @param {string} text
- */
-export async function unpackedText(text) {
-    return new TextDecoder().decode(await unpacked(text));
-}
 
 /**
  * The examples of the page.

@@ -1,7 +1,8 @@
 /** Starts the workbench with the program and the examples in the page. */
 
 import { TABLE } from "../../python/dorydate/sentences/table.mjs";
-import { block, embedded, examplesInPage, unpackedText } from "../run/embedded.js";
+import { embedded, examplesInPage } from "../run/embedded.js";
+import { block, unpackedText } from "../run/packed.js";
 import { Workbench } from "./app.js";
 import { readChronology } from "./chronology.js";
 import { arranged, opened } from "./lessons.js";

@@ -1,16 +1,16 @@
 """Packs a page, its scripts, the examples and the program into one file: python3 python pack FOLDER MODULE FILE
 
-FOLDER has `page.html`, `page.css` and `main.js`, the module of JavaScript that the page begins with (web/page, or another one). In
-`page.html` four comments say where what is packed goes: `<!-- policy -->`, `<!-- style -->`, `<!-- data -->` and `<!-- script -->`. The
-data are blocks that no browser runs: `program` (MODULE, by gzip and base85), `worker` (web/run/worker.js), `examples` (JSON by gzip and
-base85: a name, a title and the text of each input in examples/), `sentences` (the table of sentences), `chronology`
-(docs/chronology.md, both by gzip and base85) and `opened`, a list that is empty, into which ./explain --page puts
-inputs like these, with which the page opens.
+FOLDER has `page.html`, `page.css` and `main.js`, the module of JavaScript that the page begins with (web/page, or another
+one). In `page.html` four comments say where what is packed goes: `<!-- policy -->`, `<!-- style -->`, `<!-- data -->` and
+`<!-- script -->`. The data are blocks that no browser runs: `program` (MODULE), `code` (main.js and all that it imports),
+`examples` (JSON: a name, a title and the text of each input in examples/) and `chronology` (docs/chronology.md), all by
+gzip and base85; `worker` (web/run/worker.js), and `opened`, a list that is empty, into which ./explain --page puts inputs
+like these, with which the page opens. The script (web/run/start.js) unpacks `code` and runs it.
 
-Modules are joined to one script, each in a function of its own, so names of two never meet. They may import names, or all names as one
-(`import * as it`), from other files, and export declarations and lists of names; anything else is refused. The policy of the page forbids
-every request, and runs only this style and this script, by their hashes. Comments, indents and spaces at signs are left
-out. The same files give the same octets.
+Modules are joined to one script, each in a function of its own, so names of two never meet. They may import names, or all
+names as one (`import * as it`), from other files, and export declarations and lists of names; anything else is refused.
+The policy of the page forbids every request, and runs only this style and these two scripts, by their hashes. Comments of
+whole lines are left out. The same files give the same octets.
 """
 
 from __future__ import annotations
@@ -31,23 +31,14 @@ IMPORT = re.compile(r"^import\s+(?:\{([^}]*)\}|\*\s+as\s+(\w+))\s+from\s+\"(\.{1
 EXPORT = re.compile(r"^export\s+((?:async\s+)?function\s*\*?\s*(\w+)|class\s+(\w+)|const\s+(\w+))", re.MULTILINE)
 EXPORT_LIST = re.compile(r"^export\s+\{([^}]*)\};[ ]*$", re.MULTILINE)
 COMMENT = re.compile(r"/\*\*.*?\*/", re.DOTALL)  # where types are
-TEXT_OR_COMMENT = re.compile(r"""("(?:[^"\\\n]|\\.)*"|'(?:[^'\\\n]|\\.)*'|`[^`\n]*`)|/\*\*.*?\*/""", re.DOTALL)
 DOCUMENTATION = re.compile(r"^[ ]*/\*\*(?:[^*]|\*(?!/))*\*/[ ]*\n", re.MULTILINE)
-REMARK = re.compile(r"^([^\"'`/\n]*)// .*$", re.MULTILINE)  # after code without a text or a regular expression
 IMPORTED = re.compile(r'^@import "([^"]*)";$', re.MULTILINE)
 OF_STYLE = re.compile(r"/\*(?:[^*]|\*(?!/))*\*/")
-BLANK = re.compile(r"^\s+", re.MULTILINE)  # indents, and lines with nothing
 SPACES = re.compile(r"\s*([{};])\s*|(?<=:)\s+")  # of a style, but for those that part words
-MAY_COUNT = re.compile(r"['`/]")  # in a line with one of these a space may be in a text or in a regular expression
-SPACED = re.compile(r'("(?:[^"\\]|\\.)*")|[ ]*([{}()\[\];,=<>?:&|!*])[ ]*')
 LEFT_OVER = re.compile(r"^(?:import|export)\b.*$|\bimport\(", re.MULTILINE)
 ALIAS = re.compile(r"(\w+)(?:\s+as\s+(\w+))?")
 ENDINGS = re.compile(r"\.\w+$")
-AVOIDED, INSTEAD = "<`", ",."  # digits of base85 that would end a block, or a text in a script, and those in their place
-
-
-TABLE, UNPACKS = f"{ROOT}/python/dorydate/sentences/table.mjs", f"{ROOT}/web/run/embedded.js"
-TOO_OLD = "This page wants a browser of 2023 or later."
+AVOIDED, INSTEAD = "<`", ",."  # digits of base85 that would end a block or a text in a script, and those in their place
 
 
 class Refused(Exception):
@@ -76,20 +67,6 @@ def names(text: str) -> list[tuple[str, str]]:
     return [(it[1], it[2] or it[1]) for it in found if it]
 
 
-def bare(text: str, path: str) -> str:
-    """A module without its comments, indents and empty lines; comments after texts stay."""
-    text = TEXT_OR_COMMENT.sub(lambda it: it[1] or "", DOCUMENTATION.sub("", text))
-    if any(line.count("`") % 2 or line.endswith("\\") for line in text.splitlines()):
-        raise Refused(f"{os.path.relpath(path, ROOT)} has a text over several lines, which isn't packed")
-    return BLANK.sub("", REMARK.sub(lambda it: it[1].rstrip(" "), text))
-
-
-def tight(text: str) -> str:
-    """A script without the spaces at signs, line by line. A line in which they may count stays as it is."""
-    lines = text.splitlines(keepends=True)
-    return "".join(line if MAY_COUNT.search(line) else SPACED.sub(r"\1\2", line) for line in lines)
-
-
 def style_of(path: str) -> str:
     """A style, with those that it imports in their places."""
     folder = os.path.dirname(path)
@@ -106,11 +83,10 @@ def add(packed: Packed, path: str) -> int:
     if path in packed.places:
         return packed.places[path]
     if path in packed.open:
-        raise Refused(f"{os.path.relpath(path, ROOT)} imports itself, by way of {', '.join(os.path.relpath(it, ROOT) for it in packed.open)}")
-    if path == TABLE:
-        return add_table(packed)
+        way = ", ".join(os.path.relpath(it, ROOT) for it in packed.open)
+        raise Refused(f"{os.path.relpath(path, ROOT)} imports itself, by way of {way}")
     packed.open.append(path)
-    text = bare(read(path), path)
+    text = DOCUMENTATION.sub("", read(path))
 
     def imported(found: re.Match[str]) -> str:
         place = add(packed, os.path.normpath(os.path.join(os.path.dirname(path), found[3])))
@@ -133,24 +109,8 @@ def add(packed: Packed, path: str) -> int:
     packed.open.remove(path)
     place = packed.places[path] = len(packed.places)
     answer = ", ".join(name if name == there else f"{there}: {name}" for name, there in given)
-    packed.texts.append(tight(f"const module{place} = (() => {{\n{text}return {{ {answer} }};\n}})();\n"))
+    packed.texts.append(f"const module{place} = (() => {{\n{text}return {{ {answer} }};\n}})();\n")
     return place
-
-
-def add_table(packed: Packed) -> int:
-    """Adds the table of sentences, which is a block of its own. A browser that can't unpack it says so."""
-    unpacks = f"module{add(packed, UNPACKS)}"
-    place = packed.places[TABLE] = len(packed.places)
-    late = f'document.getElementById("sentence").textContent = {json.dumps(TOO_OLD)};'
-    text = f'{unpacks}.unpackedText({unpacks}.block("sentences"))'
-    table = f"JSON.parse(await {text}.catch((why) => {{ {late} throw why; }}))"
-    packed.texts.append(tight(f"const module{place} = {{ TABLE: {table} }};\n"))
-    return place
-
-
-def table_in(text: str) -> str:
-    """The table as JSON."""
-    return text.split("TABLE = ", 1)[1].rstrip().removesuffix(";")
 
 
 def joined(entry: str) -> str:
@@ -163,7 +123,8 @@ def joined(entry: str) -> str:
 def title_of(name: str, text: str) -> str:
     """The title of an example: the words of its file's name, as its comments write them within their sentences."""
     comments = " ".join(it for it in text.splitlines() if it.startswith("#"))
-    capitals = {"imp": "IMP", "rfnm": "RFNM"} | {it.lower(): it for it in re.findall(r"(?<=[a-z,;] )[A-Z][a-z]+\b|\b[A-Z]{2,}\b", comments)}
+    found = re.findall(r"(?<=[a-z,;] )[A-Z][a-z]+\b|\b[A-Z]{2,}\b", comments)
+    capitals = {"imp": "IMP", "rfnm": "RFNM"} | {it.lower(): it for it in found}
     words = [capitals.get(it, it) for it in name.split("-")]
     title = " ".join(words)
     return title[:1].upper() + title[1:]
@@ -172,7 +133,8 @@ def title_of(name: str, text: str) -> str:
 def examples_in(folder: str) -> list[dict[str, str]]:
     """The inputs of a folder, by their names."""
     inputs = [it for it in sorted(os.listdir(folder)) if os.path.isfile(f"{folder}/{it}") and not ENDINGS.search(it)]
-    return [{"name": it, "title": title_of(it, read(f"{folder}/{it}")), "text": read(f"{folder}/{it}")} for it in inputs]
+    texts = {it: read(f"{folder}/{it}") for it in inputs}
+    return [{"name": it, "title": title_of(it, text), "text": text} for it, text in texts.items()]
 
 
 def block(name: str, kind: str, text: str) -> str:
@@ -192,12 +154,17 @@ def read_octets(text: str) -> bytes:
     return gzip.decompress(base64.b85decode(text.translate(str.maketrans(INSTEAD, AVOIDED))))
 
 
+def block_in(page: str, name: str) -> bytes:
+    """The octets of a block that a page holds packed."""
+    found = re.findall(rf'<script type="application/octet-stream" id="{name}">([^<]*)</script>', page)
+    if len(found) != 1:
+        raise Refused(f"the page holds no {name}")
+    return read_octets(str(found[0]))
+
+
 def module_in(page: str) -> bytes:
     """The module that a page holds."""
-    found = re.findall(r'<script type="application/octet-stream" id="program">([^<]*)</script>', page)
-    if len(found) != 1:
-        raise Refused("the page holds no module")
-    return read_octets(str(found[0]))
+    return block_in(page, "program")
 
 
 def hash_of(text: str) -> str:
@@ -205,23 +172,43 @@ def hash_of(text: str) -> str:
     return f"'sha256-{base64.b64encode(hashlib.sha256(text.encode()).digest()).decode()}'"
 
 
+def policy_of(style: str, scripts: list[str]) -> str:
+    """The policy of a page, which forbids every request, and runs only what it names by its hash."""
+    run = " ".join(hash_of(it) for it in scripts)
+    rules = [
+        "default-src 'none'",
+        f"script-src {run} 'wasm-unsafe-eval'",
+        f"style-src {hash_of(style)}",
+        "worker-src blob:",
+        "base-uri 'none'",
+        "form-action 'none'",
+    ]
+    return f'<meta http-equiv="Content-Security-Policy" content="{"; ".join(rules)}">'
+
+
+def data_of(module: bytes, code: str) -> str:
+    """The data blocks of a page."""
+    packed = {
+        "program": module,
+        "code": code.encode(),
+        "examples": json.dumps(examples_in(f"{ROOT}/examples"), ensure_ascii=False).encode(),
+        "chronology": read(f"{ROOT}/docs/chronology.md").encode(),
+    }
+    blocks = [block(name, "application/octet-stream", spell_octets(octets)) for name, octets in packed.items()]
+    worker = block("worker", "text/plain", joined(f"{ROOT}/web/run/worker.js"))
+    return "".join([*blocks, worker, block("opened", "application/json", "[]")])
+
+
 def page(folder: str, module: bytes) -> str:
     """The page, whole."""
-    style, script = f"\n{bare_style(style_of(f'{folder}/page.css'))}", f"\n{joined(f'{folder}/main.js')}"
-    if "</style" in style or "</script" in script:
-        raise Refused("the style or the script would end too early")
-    policy = f"default-src 'none'; script-src {hash_of(script)} 'wasm-unsafe-eval'; style-src {hash_of(style)}; worker-src blob:; base-uri 'none'; form-action 'none'"
-    examples = json.dumps(examples_in(f"{ROOT}/examples"), ensure_ascii=False)
-    data = block("program", "application/octet-stream", spell_octets(module))
-    data += block("worker", "text/plain", joined(f"{ROOT}/web/run/worker.js"))
-    data += block("opened", "application/json", "[]")
-    data += block("examples", "application/octet-stream", spell_octets(examples.encode()))
-    data += block("sentences", "application/octet-stream", spell_octets(table_in(read(TABLE)).encode()))
-    data += block("chronology", "application/octet-stream", spell_octets(read(f"{ROOT}/docs/chronology.md").encode()))
+    style, code = f"\n{bare_style(style_of(f'{folder}/page.css'))}", joined(f"{folder}/main.js")
+    script = f"\n{joined(f'{ROOT}/web/run/start.js')}"
+    if "</style" in style or "</script" in script + code:
+        raise Refused("the style or a script would end too early")
     parts = {
-        "policy": f'<meta http-equiv="Content-Security-Policy" content="{policy}">',
+        "policy": policy_of(style, [script, code]),
         "style": f"<style>{style}</style>",
-        "data": data,
+        "data": data_of(module, code),
         "script": f'<script type="module">{script}</script>',
     }
     text = read(f"{folder}/page.html")
