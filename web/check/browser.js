@@ -7,7 +7,7 @@
  */
 
 import { spawn } from "node:child_process";
-import { existsSync, mkdirSync, mkdtempSync, readFileSync, rmSync, writeFileSync } from "node:fs";
+import { existsSync, mkdirSync, mkdtempSync, readFileSync, readdirSync, rmSync, writeFileSync } from "node:fs";
 import { request } from "node:http";
 import { connect } from "node:net";
 import { cpus, loadavg, tmpdir } from "node:os";
@@ -40,8 +40,10 @@ import { cpus, loadavg, tmpdir } from "node:os";
  * @property {() => Promise<void>} close
  */
 
-const PATIENCE = 120_000; // milliseconds that one step may take, on a machine that has nothing else to do
-const MOST_LOAD = 5; // so that no step is waited for longer than ten minutes
+const MOST_WORK = 300; // seconds of the processor that a browser may take for one step
+const LONGEST = 3_600; // seconds by the clock after which it has stopped working, whatever else the machine does
+const TICKS = 100; // of a second of the processor, as Linux counts
+const MOST_LOAD = 5;
 const END = 20_000; // milliseconds that a browser has to end by itself
 
 /**
@@ -56,21 +58,76 @@ export function load() {
 const pause = (milliseconds) => new Promise((resolve) => setTimeout(() => resolve(), milliseconds));
 
 /**
- * What comes of a promise, or an error that says what was awaited, once it has taken too long.
+ * The ticks of the processor that a program, and all that it has started, has taken so far.
+ *
+ * @param {number} root
+ */
+function ticksOf(root) {
+    /** @type {Map<number, {parent: number, ticks: number}>} */
+    const found = new Map();
+    for (const name of readdirSync("/proc").filter((it) => /^\d+$/.test(it))) {
+        try {
+            const fields = readFileSync(`/proc/${name}/stat`, "latin1").split(") ").at(-1)?.split(" ") ?? [];
+            const [parent, user, system] = [1, 11, 12].map((it) => Number(fields[it]));
+            found.set(Number(name), { parent, ticks: user + system });
+        } catch {
+            // it has ended meanwhile
+        }
+    }
+    const isOfRoot = (/** @type {number} */ id) => {
+        for (let at = id; at; at = found.get(at)?.parent ?? 0) if (at === root) return true;
+        return false;
+    };
+    return [...found].reduce((sum, [id, it]) => sum + (isOfRoot(id) ? it.ticks : 0), 0);
+}
+
+/**
+ * Whether a browser has had enough for one step, from now on: not by the clock, which no load of the machine slows.
+ *
+ * @param {number} browser the number of its process
+ */
+function patience(browser) {
+    const [began, before] = [Date.now(), ticksOf(browser)];
+    return () => ticksOf(browser) - before > MOST_WORK * TICKS || Date.now() - began > 1000 * LONGEST;
+}
+
+/**
+ * What comes of a promise, or an error that says what was awaited, once a browser has had enough for it.
  *
  * @template Answer
  * @param {Promise<Answer>} promise
  * @param {string} what
- * @param {number} [most] milliseconds
+ * @param {number} browser the number of its process
  * @returns {Promise<Answer>}
  */
-function within(promise, what, most = PATIENCE * load()) {
-    /** @type {ReturnType<typeof setTimeout>} */
+function within(promise, what, browser) {
+    const [began, isLate] = [Date.now(), patience(browser)];
+    /** @type {ReturnType<typeof setInterval>} */
     let timer;
     const late = new Promise((_, reject) => {
-        timer = setTimeout(() => reject(new Error(`${what}: no answer in ${Math.round(most / 1000)} s`)), most);
+        timer = setInterval(() => {
+            const seconds = Math.round((Date.now() - began) / 1000);
+            if (isLate()) reject(new Error(`${what}: no answer in ${seconds} s and ${MOST_WORK} of the processor`));
+        }, 2000);
     });
-    return /** @type {Promise<Answer>} */ (Promise.race([promise, late])).finally(() => clearTimeout(timer));
+    return /** @type {Promise<Answer>} */ (Promise.race([promise, late])).finally(() => clearInterval(timer));
+}
+
+/**
+ * Asks until something is there.
+ *
+ * @template Answer
+ * @param {() => Answer | Promise<Answer>} look
+ * @param {string} what
+ * @param {number} browser the number of its process
+ * @returns {Promise<NonNullable<Answer>>}
+ */
+async function until(look, what, browser) {
+    for (const isLate = patience(browser); !isLate(); await pause(500)) {
+        const found = await look();
+        if (found) return found;
+    }
+    throw new Error(`never: ${what}`);
 }
 
 /**
@@ -81,15 +138,18 @@ function within(promise, what, most = PATIENCE * load()) {
  */
 async function stopped(child, ended) {
     child.kill("SIGTERM");
-    await within(ended, "ending", END).catch(() => (child.kill("SIGKILL"), ended));
+    const timer = setTimeout(() => child.kill("SIGKILL"), END);
+    await ended;
+    clearTimeout(timer);
 }
 
 /**
  * Numbered questions and their answers.
  *
+ * @param {number} browser the number of its process
  * @param {(number: number, method: string, given: object) => void} send
  */
-function questions(send) {
+function questions(browser, send) {
     /** @type {Map<number, {resolve: (answer: any) => void, reject: (why: Error) => void}>} */
     const open = new Map();
     let last = 0;
@@ -101,7 +161,7 @@ function questions(send) {
             const number = ++last;
             send(number, method, given);
             const answered = new Promise((resolve, reject) => open.set(number, { resolve, reject }));
-            return within(answered, method).finally(() => open.delete(number));
+            return within(answered, method, browser).finally(() => open.delete(number));
         },
         /**
          * Nobody answers any more: what is asked fails with this reason.
@@ -143,6 +203,7 @@ export async function chromium(program) {
     const requests = [];
     let session = "";
     const { ask, answer, end } = questions(
+        child.pid,
         (id, method, params) => to.write(
             JSON.stringify({ id, method, params, ...(session && { sessionId: session }) }) + "\0",
         ),
@@ -170,7 +231,7 @@ export async function chromium(program) {
         async open(url) {
             const loaded = new Promise((resolve) => awaited.set("Page.loadEventFired", () => resolve(undefined)));
             await ask("Page.navigate", { url });
-            await within(loaded, `opening ${url}`);
+            await within(loaded, `opening ${url}`, child.pid);
         },
         async evaluate(body) {
             const ran = await ask(
@@ -237,16 +298,6 @@ async function treeOf(ask) {
     }));
 }
 
-/** The port that a Firefox of a profile listens on: it writes it into a file there. */
-async function portOf(/** @type {string} */ profile) {
-    for (let waited = 0; waited < PATIENCE * load(); waited += 100) {
-        const file = `${profile}/MarionetteActivePort`;
-        if (existsSync(file)) return Number(readFileSync(file, "utf8"));
-        await pause(100);
-    }
-    throw new Error("Firefox does not listen");
-}
-
 /**
  * @param {string} program
  * @returns {Promise<Browser>}
@@ -266,8 +317,10 @@ export async function firefox(program) {
         { stdio: ["ignore", "ignore", "ignore"] },
     );
     const ended = new Promise((resolve) => child.on("exit", resolve));
-    const socket = connect(await portOf(profile), "127.0.0.1");
-    const { ask, answer, end } = questions((number, method, given) => {
+    const file = `${profile}/MarionetteActivePort`; // which it listens on
+    const port = () => (existsSync(file) ? Number(readFileSync(file, "utf8")) : 0);
+    const socket = connect(await until(port, "Firefox listens", child.pid), "127.0.0.1");
+    const { ask, answer, end } = questions(child.pid, (number, method, given) => {
         const message = JSON.stringify([0, number, method, given]);
         socket.write(`${new TextEncoder().encode(message).length}:${message}`);
     });
@@ -286,9 +339,9 @@ export async function firefox(program) {
             }
         });
     });
-    await within(greeted, "Firefox's greeting");
+    await within(greeted, "Firefox's greeting", child.pid);
     await ask("WebDriver:NewSession", {});
-    await ask("WebDriver:SetTimeouts", { script: Math.round(PATIENCE * load()) });
+    await ask("WebDriver:SetTimeouts", { script: 1000 * LONGEST, pageLoad: 1000 * LONGEST });
     return {
         name: "Firefox",
         async open(url) {
@@ -333,11 +386,12 @@ export async function firefox(program) {
 async function screen() {
     const words = ["-displayfd", "3", "-screen", "0", "2000x1600x24", "-nolisten", "tcp"];
     const child = spawn("Xvfb", words, { stdio: ["ignore", "ignore", "ignore", "pipe"] });
-    const number = await within(new Promise((resolve, reject) => {
+    const named = new Promise((resolve, reject) => {
         child.on("error", reject);
         const listen = (/** @type {Uint8Array} */ octets) => resolve(new TextDecoder().decode(octets).trim());
         child.stdio[3].on("data", listen);
-    }), "the name of a screen");
+    });
+    const number = await within(named, "the name of a screen", child.pid);
     return { name: `:${number}`, end: () => child.kill("SIGTERM") };
 }
 
@@ -381,10 +435,11 @@ async function driver(program) {
     const child = spawn(program, [`--port=${port}`], { env, stdio: ["ignore", "ignore", "ignore"] });
     const ended = new Promise((resolve) => child.on("exit", resolve));
     return {
+        id: child.pid,
         /** @type {(method: string, path: string, given?: object) => Promise<any>} */
         async ask(method, path, given) {
             const asked = answered(port, method, path, given ? JSON.stringify(given) : "");
-            const { status, text } = await within(asked, `${method} ${path}`, MOST_LOAD * PATIENCE);
+            const { status, text } = await within(asked, `${method} ${path}`, child.pid);
             const { value } = JSON.parse(text);
             if (status !== 200) throw new Error(`${value.error}: ${value.message}`);
             return value;
@@ -404,14 +459,10 @@ async function driver(program) {
  * @returns {Promise<Browser>}
  */
 export async function webkit(program) {
-    const { ask, end } = await driver(program);
-    for (let waited = 0; !(await ask("GET", "/status").then((it) => it.ready, () => false)); waited += 100) {
-        if (waited > PATIENCE * load()) throw new Error("WebKit does not listen");
-        await pause(100);
-    }
+    const { ask, id, end } = await driver(program);
+    await until(() => ask("GET", "/status").then((it) => it.ready, () => false), "WebKit listens", id);
     const session = `/session/${(await ask("POST", "/session", { capabilities: {} })).sessionId}`;
-    const most = MOST_LOAD * PATIENCE; // without a card, WebKit is slow in drawing
-    await ask("POST", `${session}/timeouts`, { script: most, pageLoad: most });
+    await ask("POST", `${session}/timeouts`, { script: 1000 * LONGEST, pageLoad: 1000 * LONGEST });
     return {
         name: "WebKit",
         async open(url) {

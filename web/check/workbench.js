@@ -461,7 +461,7 @@ async function spoken(browser) {
  */
 function opened(page) {
     const [block, packed] = /<script [^>]* id="code">([^<]*)<\/script>/.exec(page) ?? ["", ""];
-    const code = gunzipSync(octetsOf(packed)).toString();
+    const code = new TextDecoder().decode(gunzipSync(octetsOf(packed)));
     return page
         .replace(block, "")
         .replace(/(<script type="module">)[^]*?(?=<\/script>)/, (_, start) => start + code)

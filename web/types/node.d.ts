@@ -5,6 +5,7 @@ interface Emitter {
 }
 
 interface Child extends Emitter {
+    pid: number;
     stdin: Emitter & { end(octets: Uint8Array): void };
     stdout: Emitter;
     stderr: Emitter;
