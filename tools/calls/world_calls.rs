@@ -20,7 +20,7 @@ use net_sim::{Audit, BitLog, Book, Event, Finding, MixedWorld, Report, Reported,
 use replay::Printer;
 use std::alloc::Global;
 use subnet::Subnet;
-use world_script::{MixedWorldEvent, read_mixed_script};
+use world_script::{WorldEvent, read_world_script};
 
 /// What stands between two events, or between two changes of a log.
 const JOINT: &str = " ; ";
@@ -191,9 +191,9 @@ fn called<W: Hosted>(alloc: Global, world: &mut W, mut words: Words<'_>, answer:
 
 /// The event of a line.
 fn event(alloc: Global, line: &str) -> Option<Event> {
-    match read_mixed_script(alloc, line.as_bytes()).ok()?.pop()? {
-        MixedWorldEvent::Happen(event) => Some(event),
-        MixedWorldEvent::Calm(_) => None,
+    match read_world_script(alloc, line.as_bytes(), true).ok()?.pop()? {
+        WorldEvent::Happen(event) => Some(event),
+        WorldEvent::Calm(_) => None,
     }
 }
 
