@@ -612,7 +612,7 @@ function lost(it, sentence) {
     const { note, network } = it;
     if (!note.frame) return outside(it);
     const start = filled(
-        sentence,
+        it.before.imp(note.to) ? sentence : INSIDE.gone,
         { frame: frameName(network, note.frame), line: note.line, from: it.imp(note.from), to: it.imp(note.to) },
     );
     if (!note.frame.packet) return start;

@@ -283,6 +283,9 @@ export function isQuiet({ words }) {
 /** The word of a moment in which uneventful ones of a round are joined (driven.js). */
 export const REST = "rest";
 
+/** The words of events by which a frame is gone from its line. */
+export const LOSSES = new Set(["drop", "garble"]);
+
 /**
  * Whether a printed line tells of a crossing.
  *

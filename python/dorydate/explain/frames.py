@@ -192,13 +192,13 @@ def garbled(view: View, line: int, way: str, place: int) -> Sentences | None:
 
 
 def lost(view: View, word: str, line: int, way: str, place: int) -> Sentences | None:
-    """What is said of a frame that is lost so."""
+    """What is said of a frame that is lost so. An IMP that is down refuses nothing."""
     frames = view.subnet.way(line, way)
     if place >= len(frames):
         return None
     content = frames[place].content
     near, far = view.line_ends(line, way)
-    start = filled(INSIDE[word], {"frame": frame_in_words(content), "line": line, "from": imp_in_words(near), "to": imp_in_words(far)})
+    start = filled(INSIDE[word if view.imp(far) else "gone"], {"frame": frame_in_words(content), "line": line, "from": imp_in_words(near), "to": imp_in_words(far)})
     if not isinstance(content, Carried):
         return lambda: [start]
     imp = view.imp(near)
