@@ -1,4 +1,4 @@
-"""Runs that may take so many seconds of the processor."""
+"""Runs that may take a number of seconds of the processor."""
 
 from __future__ import annotations
 

@@ -1,4 +1,4 @@
-"""Runs of programs that may take so many seconds of the processor.
+"""Runs of programs that may take a number of seconds of the processor.
 
 By the clock a run takes as long as the machine has other work: on a crowded one a minute may have a second of it.
 """

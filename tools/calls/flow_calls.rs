@@ -1,7 +1,7 @@
 //! Calls on what an IMP keeps of flows: at their source, and at their destination.
 //!
 //! A block begins with `sources` or `destinations`, and nothing is kept then. `know FLOW` tells whether a flow is idle, its outstanding number
-//! and its last one. `numbers FLOW COUNT` begins so many messages, each given up and handed to its host before the next, and prints their
+//! and its last one. `numbers FLOW COUNT` begins that many messages, each given up and handed to its host before the next, and prints their
 //! numbers, with those that follow each other as `FIRST-LAST`. `judge FLOW FIRST LAST` prints how many of these numbers in a row are new and how
 //! many are old. `next`, `oldest` and `is_new KEPT NUMBER` are the numbers' own rules.
 

@@ -211,7 +211,7 @@ fn counted(book: &Book<'_>) -> [usize; 4] {
     [book.crossings().len(), book.notices().len(), book.contacts().len(), book.reports().len()]
 }
 
-/// Prints what a book has after so many of each.
+/// Prints what a book has after that many of each.
 fn tell_news(alloc: Global, book: &Book<'_>, before: [usize; 4], answer: &mut String) -> Option<()> {
     let [crossings, notices, contacts, reports] = before;
     for crossing in book.crossings().get(crossings..)? {
