@@ -2,7 +2,7 @@
 
 Such a world remembers its moments. `masked` lets the same moments happen again without the strangers, in a world
 all of whose hosts run the program: in place of each crossing of a stranger the stranger stops or starts, and a socket
-that a stranger's message made stop listening is closed. It was written from docs/among.md, in another language and
+that a stranger's message made stop listening is closed. It was written from docs/headline.md, in another language and
 another form than the definitions.
 """
 

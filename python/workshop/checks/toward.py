@@ -1,6 +1,6 @@
 """What a host with a program keeps with each of its peers, strangers too, in a world with strangers.
 
-It was written from docs/among.md, in another language and another form than the definitions. Nothing is asked of a
+It was written from docs/headline.md, in another language and another form than the definitions. Nothing is asked of a
 peer: it looks at what crossed, at what the users of hosts with programs heard, and at their lives.
 """
 

@@ -34,7 +34,7 @@ Logs are read newest first, and all other lists oldest first. Words that definit
 """
 HEAD_AMONG = """# What must be believed among strangers
 
-`./check docs --write` makes this page from the sources. It has what is promised [among strangers](../among.md) of a book: the clauses of `mixed_worlds::book_among` but `value`, and every definition that they use and that [the promise's page](promise.md) doesn't have, each before those that it uses. These are {definitions} definitions of {files} files, in {lines} lines without comments; `./check docs` wants at most {most}. [The words of the language](promise.md#the-words-of-the-language) are on that page.
+`./check docs --write` makes this page from the sources. It has what is promised [among strangers](../headline.md#among-strangers) of a book: the clauses of `mixed_worlds::book_among` but `value`, and every definition that they use and that [the promise's page](promise.md) doesn't have, each before those that it uses. These are {definitions} definitions of {files} files, in {lines} lines without comments; `./check docs` wants at most {most}. [The words of the language](promise.md#the-words-of-the-language) are on that page.
 
 In a clause, `strange_in world.now` says of a host whether it is a stranger (`crates/net_sim/specs/MixedWorlds.antt`), and `hosts` are all hosts of the network, with strangers. Of a world `w` only what it keeps occurs: `w.kept.book`, in `w.kept.handed` the bits that were handed over to be sent in each of its lives, and in `w.kept.fates` the fate of each (`crates/net_sim/specs/Book.antt`).
 
