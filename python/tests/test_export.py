@@ -53,7 +53,14 @@ def happened(*printed: str, network: Network = BOXES) -> Replayed:
 
 class Octets(unittest.TestCase):
     def test_bodies(self) -> None:
-        rows = [("0 -", "8000"), ("3 A0", "B000"), ("8 4C", "4C80"), ("15 FFFE", "FFFF"), ("16 4C4F", "4C4F8000"), ("24 414243", "41424380")]
+        rows = [
+            ("0 -", "8000"),
+            ("3 A0", "B000"),
+            ("8 4C", "4C80"),
+            ("15 FFFE", "FFFF"),
+            ("16 4C4F", "4C4F8000"),
+            ("24 414243", "41424380"),
+        ]
         for text, octets in rows:
             self.assertEqual(body(Text.read(*text.split(" "))).hex().upper(), octets, text)
 
@@ -61,11 +68,20 @@ class Octets(unittest.TestCase):
         self.assertEqual(leader(9, Host(3, 63), 255).hex(), "09ffff00")
 
     def test_whose_interface(self) -> None:
-        rows = [("out 0/1 1/2 5 0 -", "0/1", True, "00420500 8000"), ("in 0/1 1/2 5 0 -", "1/2", False, "00010500 8000"), ("answer nottaken 0/1 1/2 5", "0/1", False, "09420500"), ("down 0/2", "0/2", True, "")]
+        rows = [
+            ("out 0/1 1/2 5 0 -", "0/1", True, "00420500 8000"),
+            ("in 0/1 1/2 5 0 -", "1/2", False, "00010500 8000"),
+            ("answer nottaken 0/1 1/2 5", "0/1", False, "09420500"),
+            ("down 0/2", "0/2", True, ""),
+        ]
         for line, host, is_from_host, octets in rows:
             packet = crossing_of(tuple(line.split(" ")))
             assert packet
-            self.assertEqual((str(packet.host), packet.is_from_host, packet.octets), (host, is_from_host, bytes.fromhex(octets)), line)
+            self.assertEqual(
+                (str(packet.host), packet.is_from_host, packet.octets),
+                (host, is_from_host, bytes.fromhex(octets)),
+                line,
+            )
         for line in ("ready 0/1 0/2", "refused NoSuch", "line 0/1 out of it"):
             self.assertIsNone(crossing_of(tuple(line.split(" "))))
 
@@ -75,12 +91,21 @@ class Replays(unittest.TestCase):
         """Each line that is printed is that of one event, also where events are refused as the marker is."""
         for name, script in examples().items():
             with self.subTest(name):
-                self.assertEqual([as_printed(str(line)) for _, line in replays()[name].lines()], output(found(), script, "--texts"))
+                self.assertEqual(
+                    [as_printed(str(line)) for _, line in replays()[name].lines()], output(found(), script, "--texts")
+                )
 
     def test_refusals_like_the_marker(self) -> None:
-        script = Script.read(Network.joined("A-B", raw=True).toml() + "%\nhostdown 1/2\ncalm 1\nhostdown 0/2\nhostdown 1/2\n")
-        self.assertEqual([[str(it) for it in event.lines] for event in replayed(script).events], [["refused NoSuch"], [], ["down 0/2"], ["refused NoSuch"]])
-        self.assertEqual([(it.second, it.number) for it in replayed(script).events], [(0, 13), (1, 14), (2, 15), (3, 16)])
+        script = Script.read(
+            Network.joined("A-B", raw=True).toml() + "%\nhostdown 1/2\ncalm 1\nhostdown 0/2\nhostdown 1/2\n"
+        )
+        self.assertEqual(
+            [[str(it) for it in event.lines] for event in replayed(script).events],
+            [["refused NoSuch"], [], ["down 0/2"], ["refused NoSuch"]],
+        )
+        self.assertEqual(
+            [(it.second, it.number) for it in replayed(script).events], [(0, 13), (1, 14), (2, 15), (3, 16)]
+        )
 
 
 def blocks_of(capture: bytes) -> Iterator[tuple[int, bytes]]:
@@ -104,7 +129,9 @@ class Wire(unittest.TestCase):
 
 class Captures(unittest.TestCase):
     def test_blocks(self) -> None:
-        kinds = [kind for kind, _ in blocks_of(pcapng.capture(happened("out 0/1 0/2 5 3 A0", "ready 0/1 0/2", "down 1/2")))]
+        kinds = [
+            kind for kind, _ in blocks_of(pcapng.capture(happened("out 0/1 0/2 5 3 A0", "ready 0/1 0/2", "down 1/2")))
+        ]
         self.assertEqual(kinds, [pcapng.SECTION, *[pcapng.INTERFACE] * 4, *[pcapng.PACKET] * 2])
 
     def test_a_packet(self) -> None:
@@ -115,11 +142,49 @@ class Captures(unittest.TestCase):
 
 
 # Texts of messages: every command, erroneous ones, some cut off, and data of several sizes; each with its link.
-COMMANDS = ["00", "01000000100000002102", "01000000110000002220", "02000000210000001008", "02000000200000001100", "030000001000000021", "0402FFFFFFFFFFFF", "04020001000000FF"]
-COMMANDS += ["05028001", "06020001000000FF", "0702", "081F", "09FF", "0A00", "0B0102000000200000001100", "0B05070200000000000000 00", "0B090E000000000000000000", "0B010000000000000000 0000", "0C", "0D"]
+COMMANDS = [
+    "00",
+    "01000000100000002102",
+    "01000000110000002220",
+    "02000000210000001008",
+    "02000000200000001100",
+    "030000001000000021",
+    "0402FFFFFFFFFFFF",
+    "04020001000000FF",
+]
+COMMANDS += [
+    "05028001",
+    "06020001000000FF",
+    "0702",
+    "081F",
+    "09FF",
+    "0A00",
+    "0B0102000000200000001100",
+    "0B05070200000000000000 00",
+    "0B090E000000000000000000",
+    "0B010000000000000000 0000",
+    "0C",
+    "0D",
+]
 COMMANDS += ["0E", "0102", "0C0D0F", "00000000", "0B05"]
-DATA = [(2, 8, "4C4F47494E"), (2, 8, "5C0A0D09"), (3, 5, "0842"), (4, 1, "80"), (5, 255, ""), (6, 36, "0123456780"), (2, 8, "41" * 70), (2, 8, "00FF")]
-WRONG = ["0 -", "39 000800000000"[:13], "40 0008000500", "48 00070001000C", "40 0008000000", f"{40 + 968} 0008007900{'00' * 121}"]
+DATA = [
+    (2, 8, "4C4F47494E"),
+    (2, 8, "5C0A0D09"),
+    (3, 5, "0842"),
+    (4, 1, "80"),
+    (5, 255, ""),
+    (6, 36, "0123456780"),
+    (2, 8, "41" * 70),
+    (2, 8, "00FF"),
+]
+WRONG = [
+    "0 -",
+    "39 000800000000"[:13],
+    "40 0008000500",
+    "48 00070001000C",
+    "40 0008000000",
+    f"{40 + 968} 0008007900{'00' * 121}",
+]
 
 
 def control(octets: str) -> str:
@@ -134,7 +199,13 @@ def message(link: int, size: int, octets: str) -> str:
 
 
 def texts() -> list[str]:
-    return [*map(control, COMMANDS), *(message(*it) for it in DATA), *(f"0 {it}" for it in WRONG), "7 40 0008000100", "7 47 000800010000"]
+    return [
+        *map(control, COMMANDS),
+        *(message(*it) for it in DATA),
+        *(f"0 {it}" for it in WRONG),
+        "7 40 0008000100",
+        "7 47 000800010000",
+    ]
 
 
 @unittest.skipUnless(shutil.which("tshark"), absence("tshark"))
@@ -149,34 +220,80 @@ class Dissected(unittest.TestCase):
                 Path(path).write_bytes(capture)
             subprocess.run(["mergecap", "-a", "-w", f"{folder}/whole", *paths], check=True)
             wanted = [it for field in fields for it in ("-e", field)]
-            ran = subprocess.run(["tshark", "-X", f"lua_script:{DISSECTOR}", "-r", f"{folder}/whole", "-T", "fields", "-E", "separator=|", "-E", "aggregator=;", *wanted], capture_output=True, text=True, check=False)
+            ran = subprocess.run(
+                [
+                    "tshark",
+                    "-X",
+                    f"lua_script:{DISSECTOR}",
+                    "-r",
+                    f"{folder}/whole",
+                    "-T",
+                    "fields",
+                    "-E",
+                    "separator=|",
+                    "-E",
+                    "aggregator=;",
+                    *wanted,
+                ],
+                capture_output=True,
+                text=True,
+                check=False,
+            )
         self.assertEqual(ran.returncode, 0, ran.stderr)
         self.assertNotIn("Lua", ran.stderr)
         return [it.split("|", len(fields) - 1) for it in ran.stdout.splitlines()]
 
     def test_examples(self) -> None:
         """Of each example: the lines of the log, the interface and the event of each."""
-        crossed = [(str(packet.host), happened.said, as_printed(str(line))) for what in replays().values() for happened, line in what.lines() if (packet := crossing_of(line.words))]
-        rows = self.dissected([*map(pcapng.capture, replays().values())], "frame.interface_name", "dorydate.line", "frame.comment")
+        crossed = [
+            (str(packet.host), happened.said, as_printed(str(line)))
+            for what in replays().values()
+            for happened, line in what.lines()
+            if (packet := crossing_of(line.words))
+        ]
+        rows = self.dissected(
+            [*map(pcapng.capture, replays().values())], "frame.interface_name", "dorydate.line", "frame.comment"
+        )
         self.assertEqual([(host, comments.split(";")[-1], line) for host, line, comments in rows], crossed)
         self.assertGreater(len(rows), 2_000)
 
     def test_texts_in_words(self) -> None:
         """What texts say is what the independent model's reader says."""
         what = happened(*(f"out 0/1 0/2 {it}" for it in texts()))
-        wanted = [text_in_words(int(link), bytes.fromhex(octets.replace("-", "")), int(bits)) for link, bits, octets in (it.split(" ") for it in texts())]
+        wanted = [
+            text_in_words(int(link), bytes.fromhex(octets.replace("-", "")), int(bits))
+            for link, bits, octets in (it.split(" ") for it in texts())
+        ]
         told = [row[0].split(": ", 1)[1] for row in self.dissected([pcapng.capture(what)], "_ws.col.Info")]
         self.assertEqual(told, wanted)
 
     def test_raw_texts_have_no_form(self) -> None:
         network = Network.joined("A-B", raw=True)
-        rows = self.dissected([pcapng.capture(happened("out 0/1 0/2 0 8 41", network=network))], "_ws.col.Info", "dorydate.command")
+        rows = self.dissected(
+            [pcapng.capture(happened("out 0/1 0/2 0 8 41", network=network))], "_ws.col.Info", "dorydate.command"
+        )
         self.assertEqual(rows, [["0/1 to 0/2 on link 0: 8 bits", ""]])
 
     def test_octets_that_are_no_leader(self) -> None:
-        made = pcapng.section("") + pcapng.interface(pcapng.USER0, "0/1", "") + b"".join(pcapng.packet(0, 0, bytes.fromhex(it), 1, []) for it in ("000105", "00010500", "000105000000", "0F010500", "04000000"))
+        made = (
+            pcapng.section("")
+            + pcapng.interface(pcapng.USER0, "0/1", "")
+            + b"".join(
+                pcapng.packet(0, 0, bytes.fromhex(it), 1, [])
+                for it in ("000105", "00010500", "000105000000", "0F010500", "04000000")
+            )
+        )
         rows = self.dissected([made], "dorydate.type", "dorydate.line", "_ws.expert.message")
-        self.assertEqual([row[2] for row in rows], ["a leader has four octets", "no bit 1 marks the end of the text", "no bit 1 marks the end of the text", "", ""])
+        self.assertEqual(
+            [row[2] for row in rows],
+            [
+                "a leader has four octets",
+                "no bit 1 marks the end of the text",
+                "no bit 1 marks the end of the text",
+                "",
+                "",
+            ],
+        )
         self.assertEqual([row[1] for row in rows], [""] * 5)
 
     def test_the_wire_of_a_live_network(self) -> None:
@@ -202,7 +319,13 @@ class Dissected(unittest.TestCase):
         self.assertEqual(rows, wanted)
 
 
-TRACED = ("first-message", "rerouted-over-a-triangle", "a-cut-line-and-the-way-round", "arpanet-of-december-1969", "lo-of-login")
+TRACED = (
+    "first-message",
+    "rerouted-over-a-triangle",
+    "a-cut-line-and-the-way-round",
+    "arpanet-of-december-1969",
+    "lo-of-login",
+)
 AMONG_STRANGERS = "data-past-the-grant"
 
 
@@ -256,9 +379,16 @@ class Timelines(unittest.TestCase):
             for imp in what.network.imps:
                 known = state.imp(imp.number)
                 assert known
-                distances = {int(to): distance for to, distance in last[f"imp {imp.number}: distances"].items() if distance < perfetto.FAR}
+                distances = {
+                    int(to): distance
+                    for to, distance in last[f"imp {imp.number}: distances"].items()
+                    if distance < perfetto.FAR
+                }
                 self.assertEqual(distances, known.distances)
-                self.assertEqual(last[f"imp {imp.number}: packets"], {"store": len(known.store), "channels": sum(map(len, known.sending))})
+                self.assertEqual(
+                    last[f"imp {imp.number}: packets"],
+                    {"store": len(known.store), "channels": sum(map(len, known.sending))},
+                )
             self.assertEqual(last["messages without answer"]["messages"], len(state.outstanding()))
 
     def test_what_programs_hold_beside_strangers(self) -> None:
@@ -273,8 +403,14 @@ class Timelines(unittest.TestCase):
     def test_allocations_of_ends(self) -> None:
         ends = [{"socket": 33, "allocation": {"messages": 2, "bits": 80}}]
         counters = perfetto.Counters()
-        told = [*counters.see_programs({"0/1": {"pairs": [{"ends": ends}]}, "0/2": None}, 5), *counters.see_programs({"0/1": {"pairs": [{"ends": ends}]}}, 6)]
-        self.assertEqual([(it["name"], it["ts"], it["args"]) for it in told], [("0/1 socket 33: allocation", 5, {"messages": 2, "bits": 80})])
+        told = [
+            *counters.see_programs({"0/1": {"pairs": [{"ends": ends}]}, "0/2": None}, 5),
+            *counters.see_programs({"0/1": {"pairs": [{"ends": ends}]}}, 6),
+        ]
+        self.assertEqual(
+            [(it["name"], it["ts"], it["args"]) for it in told],
+            [("0/1 socket 33: allocation", 5, {"messages": 2, "bits": 80})],
+        )
 
     def test_frames_have_the_fates_of_the_trace(self) -> None:
         what, events = self.events("rerouted-over-a-triangle")
@@ -289,12 +425,33 @@ class Slides(unittest.TestCase):
             for step in (0, 1, len(what.events)):
                 root = ElementTree.fromstring(written("svg", examples()[name], step))
                 said = [it.text for it in root.iter("{http://www.w3.org/2000/svg}text")]
-                self.assertIn(f"Event {step} of {len(what.events)}, {what.events[step - 1].said}" if step else "Before the first event", said)
+                self.assertIn(
+                    f"Event {step} of {len(what.events)}, {what.events[step - 1].said}"
+                    if step
+                    else "Before the first event",
+                    said,
+                )
 
     def test_rows(self) -> None:
-        lines = [Line(tuple(it.split(" ")), 0) for it in ("out 0/1 0/2 5 8 41", "in 0/1 0/2 5 8 41", "answer rfnm 0/1 0/2 5", "out 0/1 0/2 5 8 42", "down 0/2", "answer dead 0/1 0/2 5")]
+        lines = [
+            Line(tuple(it.split(" ")), 0)
+            for it in (
+                "out 0/1 0/2 5 8 41",
+                "in 0/1 0/2 5 8 41",
+                "answer rfnm 0/1 0/2 5",
+                "out 0/1 0/2 5 8 42",
+                "down 0/2",
+                "answer dead 0/1 0/2 5",
+            )
+        ]
         told = [(it.words, it.source, it.destination, it.share) for it in chart.rows_of(lines, True)]
-        wanted = [("8 bits, link 5", "0/1", "0/2", (0.0, 1.0)), ("rfnm, link 5", "0/2", "0/1", (0.0, 1.0)), ("8 bits, link 5", "0/1", "0/2", (0.0, 0.7)), ("down", "0/2", "", (0.0, 1.0)), ("dead, link 5", "0/2", "0/1", (0.5, 1.0))]
+        wanted = [
+            ("8 bits, link 5", "0/1", "0/2", (0.0, 1.0)),
+            ("rfnm, link 5", "0/2", "0/1", (0.0, 1.0)),
+            ("8 bits, link 5", "0/1", "0/2", (0.0, 0.7)),
+            ("down", "0/2", "", (0.0, 1.0)),
+            ("dead, link 5", "0/2", "0/1", (0.5, 1.0)),
+        ]
         self.assertEqual(told, wanted)
         self.assertEqual(chart.unanswered(lines[:4]), [Flow.read("0/1", "0/2", "5")])
         self.assertEqual(chart.unanswered(lines), [])
@@ -324,9 +481,24 @@ class Clocks(unittest.TestCase):
                     last[host] = clock
 
     def test_messages_bring_clocks(self) -> None:
-        what = happened("out 0/1 0/2 5 0 -", "out 1/1 0/2 5 0 -", "in 0/1 0/2 5 0 -", "answer rfnm 0/1 0/2 5", "refused NoSuch", "answer dead 1/1 0/2 5", "done user 0/2 3 4")
+        what = happened(
+            "out 0/1 0/2 5 0 -",
+            "out 1/1 0/2 5 0 -",
+            "in 0/1 0/2 5 0 -",
+            "answer rfnm 0/1 0/2 5",
+            "refused NoSuch",
+            "answer dead 1/1 0/2 5",
+            "done user 0/2 3 4",
+        )
         clocks = [(host, clock) for host, clock, _ in self.parsed(shiviz.log(what))]
-        wanted = [("0/1", {"0/1": 1}), ("1/1", {"1/1": 1}), ("0/2", {"0/1": 1, "0/2": 1}), ("0/1", {"0/1": 2, "0/2": 1}), ("1/1", {"1/1": 2}), ("0/2", {"0/1": 1, "0/2": 2})]
+        wanted = [
+            ("0/1", {"0/1": 1}),
+            ("1/1", {"1/1": 1}),
+            ("0/2", {"0/1": 1, "0/2": 1}),
+            ("0/1", {"0/1": 2, "0/2": 1}),
+            ("1/1", {"1/1": 2}),
+            ("0/2", {"0/1": 1, "0/2": 2}),
+        ]
         self.assertEqual(clocks, wanted)
 
 

@@ -46,12 +46,26 @@ class Joined(unittest.TestCase):
         self.assertEqual((ran.stdout, ran.stderr), ("1 42 7 40 2\n", ""))
 
     def test_a_module_is_joined_once_and_before_those_that_import_it(self) -> None:
-        script = self.joined({"main.js": 'import { a } from "./a.js";\nimport { b } from "./b.js";\n', "a.js": 'import { b } from "./b.js";\nexport const a = b;\n', "b.js": "export const b = 1;\n"})
+        script = self.joined(
+            {
+                "main.js": 'import { a } from "./a.js";\nimport { b } from "./b.js";\n',
+                "a.js": 'import { b } from "./b.js";\nexport const a = b;\n',
+                "b.js": "export const b = 1;\n",
+            }
+        )
         self.assertEqual(script.count("const b = 1;"), 1)
         self.assertLess(script.index("const b = 1;"), script.index("const a = b;"))
 
     def test_other_forms_are_refused(self) -> None:
-        for form in ("export default 1;", "export let a = 1;", 'export * from "./b.js";', 'import "./b.js";', 'import a from "./b.js";', 'const a = import("./b.js");', 'import { a } from "b";'):
+        for form in (
+            "export default 1;",
+            "export let a = 1;",
+            'export * from "./b.js";',
+            'import "./b.js";',
+            'import a from "./b.js";',
+            'const a = import("./b.js");',
+            'import { a } from "b";',
+        ):
             with self.assertRaises(Refused, msg=form):
                 self.joined({"main.js": f"{form}\n", "b.js": ""})
 
@@ -65,7 +79,12 @@ class Joined(unittest.TestCase):
 
     def test_a_module_that_imports_itself_is_refused(self) -> None:
         with self.assertRaises(Refused):
-            self.joined({"main.js": 'import { b } from "./b.js";\n', "b.js": 'import { a } from "./main.js";\nexport const b = 1;\n'})
+            self.joined(
+                {
+                    "main.js": 'import { b } from "./b.js";\n',
+                    "b.js": 'import { a } from "./main.js";\nexport const b = 1;\n',
+                }
+            )
 
 
 class Octets(unittest.TestCase):
@@ -86,7 +105,9 @@ class Octets(unittest.TestCase):
 
 class Page(unittest.TestCase):
     def test_a_style_has_no_comments_and_only_the_spaces_that_part_words(self) -> None:
-        self.assertEqual(bare_style("/* one\n * two */\na {\n    b: c d; /* e */\n}\n\nf g { h: i; }\n"), "a{b:c d;}f g{h:i;}")
+        self.assertEqual(
+            bare_style("/* one\n * two */\na {\n    b: c d; /* e */\n}\n\nf g { h: i; }\n"), "a{b:c d;}f g{h:i;}"
+        )
 
     def test_a_hash_is_the_one_that_browsers_name(self) -> None:
         # of the text "alert('Hello, world.');", as the standard of Content Security Policy has it
@@ -107,7 +128,9 @@ class Page(unittest.TestCase):
 
     def test_a_title_has_the_capitals_of_its_comments(self) -> None:
         self.assertEqual(title_of("an-rfnm-is-lost", "# The RFNM is lost.\nout 0/1\n"), "An RFNM is lost")
-        self.assertEqual(title_of("a-dead-is-lost", "# Nothing is lost. Lost is the Dead that says so.\n"), "A Dead is lost")
+        self.assertEqual(
+            title_of("a-dead-is-lost", "# Nothing is lost. Lost is the Dead that says so.\n"), "A Dead is lost"
+        )
 
 
 if __name__ == "__main__":

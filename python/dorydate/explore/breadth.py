@@ -58,7 +58,8 @@ class Count:
     seconds: float
 
     def line(self) -> str:
-        return f"{self.depth} events: {self.steps} steps, {self.refused} refused, {self.new} new states, {self.states} in all, {self.seconds:.1f} s"
+        looked = f"{self.depth} events: {self.steps} steps, {self.refused} refused"
+        return f"{looked}, {self.new} new states, {self.states} in all, {self.seconds:.1f} s"
 
 
 class Walk:

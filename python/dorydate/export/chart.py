@@ -4,7 +4,7 @@ from __future__ import annotations
 
 import html
 from collections.abc import Callable, Sequence
-from dataclasses import dataclass
+from typing import NamedTuple
 
 from dorydate.drawing import SIZE, drawn
 from dorydate.export.replayed import Happened, Line, Replayed
@@ -23,8 +23,7 @@ HEAD = (
 )
 
 
-@dataclass(frozen=True)
-class Row:
+class Row(NamedTuple):
     """A row of the chart: an arrow from one host to another, or words at one host."""
 
     words: str

@@ -9,8 +9,8 @@ import signal
 import sys
 from collections.abc import Sequence
 from contextlib import AsyncExitStack
-from dataclasses import dataclass
 from pathlib import Path
+from typing import NamedTuple
 
 from dorydate import ending
 from dorydate.given import Input
@@ -42,8 +42,7 @@ class Refused(Exception):
     """Why a session doesn't begin."""
 
 
-@dataclass(frozen=True)
-class Binding:
+class Binding(NamedTuple):
     """A stranger, the port at which its IMP listens, and where its host speaks from, if that is asked for."""
 
     host: Host

@@ -47,37 +47,93 @@ PLACES = {"source_at": 1, "destination_at": 2, "link_at": 3, "number_at": 4, "pl
 KINDS = {"Rfnm": 1, "Dead": 2, "Ask": 3, "Never": 4}
 FACTS = {
     # messages and their addresses
-    "text_bits": defined(8063, ("bit_messages/specs/Body.antt", r"^most_text_bits = (\d+)"), ("bit_messages/src/bits.rt", r"MAX_TEXT_BITS: usize = ([\d_]+)")),
+    "text_bits": defined(
+        8063,
+        ("bit_messages/specs/Body.antt", r"^most_text_bits = (\d+)"),
+        ("bit_messages/src/bits.rt", r"MAX_TEXT_BITS: usize = ([\d_]+)"),
+    ),
     "unit_bits": defined(16, ("bit_messages/src/bits.rt", r"BODY_UNIT: usize = ([\d_]+)")),
-    "most_imps": defined(63, ("interface/specs/Host.antt", r"^most_imps = (\d+)"), ("interface/src/address.rt", r"MOST_IMPS: usize = ([\d_]+)")),
+    "most_imps": defined(
+        63,
+        ("interface/specs/Host.antt", r"^most_imps = (\d+)"),
+        ("interface/src/address.rt", r"MOST_IMPS: usize = ([\d_]+)"),
+    ),
     "most_hosts": defined(4, ("interface/src/address.rt", r"MOST_HOSTS: u8 = ([\d_]+)")),
     "most_lines": defined(5, ("topology/src/network.rt", r"MOST_LINES: usize = ([\d_]+)")),
     "leader_octets": defined(4, ("leader1822/src/leader.rt", r"LEADER_OCTETS: usize = ([\d_]+)")),
-    "message_numbers": defined(65536, ("interface/specs/Flow.antt", r"^message_numbers = (\d+)"), ("interface/src/address.rt", r"MESSAGE_NUMBERS: u32 = ([\d_]+)")),
-    "window": defined(32767, ("link_table/specs/Numbers.antt", r"^window = (\d+)"), ("link_table/src/numbers.rt", r"WINDOW: u32 = ([\d_]+)")),
+    "message_numbers": defined(
+        65536,
+        ("interface/specs/Flow.antt", r"^message_numbers = (\d+)"),
+        ("interface/src/address.rt", r"MESSAGE_NUMBERS: u32 = ([\d_]+)"),
+    ),
+    "window": defined(
+        32767,
+        ("link_table/specs/Numbers.antt", r"^window = (\d+)"),
+        ("link_table/src/numbers.rt", r"WINDOW: u32 = ([\d_]+)"),
+    ),
     # packets
     **{name: of_format(place, name) for name, place in PLACES.items()},
-    "header_octets": defined(9, ("packetiser/specs/Limits.antt", r"^header_octets = (\d+)"), ("packetiser/src/format.rt", r"HEADER_OCTETS: usize = ([\d_]+)")),
-    "piece_bits": defined(1008, ("packetiser/specs/Limits.antt", r"^piece_bits = (\d+)"), ("packetiser/src/format.rt", r"PACKET_BITS: usize = ([\d_]+)")),
-    "most_pieces": defined(8, ("packetiser/specs/Limits.antt", r"^most_pieces = (\d+)"), ("packetiser/src/format.rt", r"MAX_PACKETS: u8 = ([\d_]+)")),
+    "header_octets": defined(
+        9,
+        ("packetiser/specs/Limits.antt", r"^header_octets = (\d+)"),
+        ("packetiser/src/format.rt", r"HEADER_OCTETS: usize = ([\d_]+)"),
+    ),
+    "piece_bits": defined(
+        1008,
+        ("packetiser/specs/Limits.antt", r"^piece_bits = (\d+)"),
+        ("packetiser/src/format.rt", r"PACKET_BITS: usize = ([\d_]+)"),
+    ),
+    "most_pieces": defined(
+        8,
+        ("packetiser/specs/Limits.antt", r"^most_pieces = (\d+)"),
+        ("packetiser/src/format.rt", r"MAX_PACKETS: u8 = ([\d_]+)"),
+    ),
     "most_slots": defined(8, ("packetiser/src/format.rt", r"SLOTS: usize = ([\d_]+)")),
     **{f"kind_{kind.lower()}": of_format(octet, f"kind_octet kind.{kind}") for kind, octet in KINDS.items()},
     # frames and lines
-    "version": defined(0xF2, ("imp_channel/specs/Format.antt", r"^version = (\d+)"), ("imp_channel/src/frame.rt", r"VERSION: u8 = (0x\w+)")),
+    "version": defined(
+        0xF2,
+        ("imp_channel/specs/Format.antt", r"^version = (\d+)"),
+        ("imp_channel/src/frame.rt", r"VERSION: u8 = (0x\w+)"),
+    ),
     "frame_packet": defined(0, ("imp_channel/specs/Format.antt", r"^kind_octet \(content.Packet carried\) = (\d+)")),
     "frame_acks": defined(1, ("imp_channel/specs/Format.antt", r"^kind_octet content.Nothing = (\d+)")),
     "frame_routes": defined(2, ("imp_channel/specs/Format.antt", r"^kind_octet \(content.Routes distances\) = (\d+)")),
     "bit_value": defined(8, ("imp_channel/specs/Format.antt", r"carried.channel \+ (\d+) else")),
     "channels": defined(8, ("imp_channel/src/channel.rt", r"CHANNELS: usize = ([\d_]+)")),
-    "line_places": defined(256, ("subnet/specs/Net.antt", r"^line_places = (\d+)"), ("subnet/src/wire.rt", r"LINE_PLACES: usize = ([\d_]+)")),
+    "line_places": defined(
+        256,
+        ("subnet/specs/Net.antt", r"^line_places = (\d+)"),
+        ("subnet/src/wire.rt", r"LINE_PLACES: usize = ([\d_]+)"),
+    ),
     "infinite": defined(63, ("routing/src/vector.rt", r"INFINITE: u8 = ([\d_]+)")),
     # one IMP
-    "store_places": defined(32, ("imp_node/specs/Room.antt", r"^store_places = (\d+)"), ("imp_node/src/imp.rt", r"STORE_PLACES: usize = ([\d_]+)")),
-    "queue_places": defined(16, ("imp_node/specs/Room.antt", r"^queue_places = (\d+)"), ("imp_node/src/host.rt", r"QUEUE_PLACES: usize = ([\d_]+)")),
+    "store_places": defined(
+        32,
+        ("imp_node/specs/Room.antt", r"^store_places = (\d+)"),
+        ("imp_node/src/imp.rt", r"STORE_PLACES: usize = ([\d_]+)"),
+    ),
+    "queue_places": defined(
+        16,
+        ("imp_node/specs/Room.antt", r"^queue_places = (\d+)"),
+        ("imp_node/src/host.rt", r"QUEUE_PLACES: usize = ([\d_]+)"),
+    ),
     # hosts
-    "header_bits": defined(40, ("ncp_control/src/data_header.rt", r"HEADER_BITS: usize = ([\d_]+)"), ("ncp_control/specs/DataHeader.antt", r"length text\) (\d+) \|\|")),
-    "data_bits": defined(8023, ("ncp_control/src/allocation.rt", r"MAX_DATA_BITS: u32 = ([\d_]+)"), ("ncp_control/specs/Allocation.antt", r"min \(a.bits / size\) \((\d+) / size\)")),
-    "control_octets": defined(120, ("ncp_control/src/packing.rt", r"MAX_CONTROL_OCTETS: usize = ([\d_]+)"), ("ncp_control/specs/Packing.antt", r"count_within (\d+) commands")),
+    "header_bits": defined(
+        40,
+        ("ncp_control/src/data_header.rt", r"HEADER_BITS: usize = ([\d_]+)"),
+        ("ncp_control/specs/DataHeader.antt", r"length text\) (\d+) \|\|"),
+    ),
+    "data_bits": defined(
+        8023,
+        ("ncp_control/src/allocation.rt", r"MAX_DATA_BITS: u32 = ([\d_]+)"),
+        ("ncp_control/specs/Allocation.antt", r"min \(a.bits / size\) \((\d+) / size\)"),
+    ),
+    "control_octets": defined(
+        120,
+        ("ncp_control/src/packing.rt", r"MAX_CONTROL_OCTETS: usize = ([\d_]+)"),
+        ("ncp_control/specs/Packing.antt", r"count_within (\d+) commands"),
+    ),
 }
 
 
