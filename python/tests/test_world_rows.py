@@ -44,7 +44,8 @@ class Worlds(unittest.TestCase):
         self.assertEqual(reading.answers("turn hostdown 0/2", []), ["ok", "down 0/2"])
 
     def test_refusals_by_their_texts(self) -> None:
-        self.assertEqual([*map(text_of, ("IsDown", "NoProgram", "NoSuchSocket"))], ["IsDown", "no program", "no such socket"])
+        texts = {"IsDown": "IsDown", "NoProgram": "no program", "NoSuchSocket": "no such socket"}
+        self.assertEqual({name: text_of(name) for name in texts}, texts)
 
 
 class Audits(unittest.TestCase):
@@ -78,7 +79,8 @@ class Replays(unittest.TestCase):
             reading.answers("trace", [])
 
     def test_faults(self) -> None:
-        self.assertEqual([*map(fault_of, ("", "arpasim: bad script line 12", "arpasim: bad arguments"))], ["", "BadLine(12)", "BadOptions"])
+        said = {"": "", "arpasim: bad script line 12": "BadLine(12)", "arpasim: bad arguments": "BadOptions"}
+        self.assertEqual({words: fault_of(words) for words in said}, said)
 
 
 class Chance(unittest.TestCase):
@@ -95,8 +97,8 @@ class Chance(unittest.TestCase):
         lines = ["calm 2", "contact 0/1 0/2", "type 0/1 a ; b", *(f"take 0/{it}" for it in range(1, 60))]
         asked = {"silent", "strangers", "rests"}
         calls = [it for it in calls_of(random.Random(1), lines, True) if it not in asked]
-        found = [line for it in calls for line in (it[4:].split(" ; ") if it.startswith("run ") else [it.removeprefix("turn ")])]
-        self.assertEqual(found, lines)
+        runs = (it[4:].split(" ; ") if it.startswith("run ") else [it.removeprefix("turn ")] for it in calls)
+        self.assertEqual([line for run in runs for line in run], lines)
         self.assertIn("type 0/1 a ; b", calls)
 
     def test_changes_fit_their_log(self) -> None:

@@ -69,7 +69,8 @@ class Book:
     def __init__(self) -> None:
         self.notices: list[tuple[HostName, str, int]] = []
         self.contacts: list[tuple[HostName, HostName, int]] = []
-        self.reports: list[tuple[HostName, tuple[str, ...], int]] = []  # each with the number of notices up to that which it is about
+        # each report with the number of notices up to that which it is about
+        self.reports: list[tuple[HostName, tuple[str, ...], int]] = []
         self.lives: list[Life] = []
         self.strays = 0  # notices of bits that are in no life: there is none, unless a rule is lacking
 

@@ -24,7 +24,8 @@ from workshop.words import Words
 
 RUNS = 60  # of random calls on worlds
 READ_BY = {
-    "imp": "imp", "tables": "imp", "subnet": "subnet", "hosts": "hosts", "readers": "readers", "world": "rows", "program": "rows",
+    "imp": "imp", "tables": "imp", "subnet": "subnet", "hosts": "hosts", "readers": "readers",
+    "world": "rows", "program": "rows",
     **dict.fromkeys(("server", "user", "echo", "terminal"), "services"),
     **dict.fromkeys(("allocation", "bits", "boxes", "writers"), "readers"),
     **dict.fromkeys(("destinations", "line", "pieces", "routes", "sources"), "imp"),

@@ -1,6 +1,7 @@
 """Random calls on worlds, with what the model answers: half of them have strangers.
 
-The events are those of random scripts, some of them in a run. At the end the log is judged as it is, and with some lines changed.
+The events are those of random scripts, some of them in a run. At the end the log is judged as it is, and with some
+lines changed.
 """
 
 from __future__ import annotations

@@ -60,7 +60,7 @@ class WorldRows:
         return [self.happened(name, rest, call), *self.news(before)]
 
     def rests(self, wanted: list[str]) -> bool:
-        """Whether more rounds change nothing. Of a subnet that is answered only where it is known there: then a round has to change nothing."""
+        """Whether more rounds change nothing. A subnet may not know it; where it does, a round has to change nothing."""
         carrier = self.world.carrier
         if isinstance(carrier, Boxes):
             return not carrier.messages and not carrier.answers and self.is_silent()
@@ -116,7 +116,8 @@ class WorldRows:
         book, (crossings, notices, contacts, reports) = self.world.book, before
         said = [spell_crossing(it) for it in self.world.carrier.log[crossings:]]
         said += [f"told {spell_host(host)} {place} {notice}" for host, notice, place in book.notices[notices:]]
-        said += [f"called {spell_host(host)} {place} {spell_host(peer)}" for host, peer, place in book.contacts[contacts:]]
+        called = [(spell_host(host), str(place), spell_host(peer)) for host, peer, place in book.contacts[contacts:]]
+        said += [" ".join(["called", *it]) for it in called]
         return said + [spell_report(*it) for it in book.reports[reports:]]
 
 
@@ -141,7 +142,8 @@ def open_world(call: str) -> tuple[Reading, list[str]]:
     imps, slash, lines = network.partition("/")
     sites = [tuple(map(int, it.split(":"))) for it in imps.split()]
     ends_of = [tuple(map(int, it.split("-"))) for it in lines.split()]
-    carrier = opened_carrier(Topology("subnet" if slash else "plain", False, [(imp, hosts) for imp, hosts in sites], ends_of))
+    kind = "subnet" if slash else "plain"
+    carrier = opened_carrier(Topology(kind, False, [(imp, hosts) for imp, hosts in sites], ends_of))
     strangers = [read_host(word) for word in named.split()]
     absent = [f"refused NoSuch: {spell_host(it)}" for it in strangers if it not in carrier.hosts()]
     return WorldRows(MixedWorld(carrier, [it for it in strangers if it in carrier.hosts()], takes=False)), absent[:1]
