@@ -43,7 +43,7 @@ pub(crate) fn outs_of(alloc: Global, log: &[Crossing]) -> Result<Vec<Option<usiz
     ensures { IfOk result (λ outs. AreOuts (length log.now) outs.items log.now) }
 {
     let mut last = FlowMap::new(alloc);
-    let mut outs = Vec::new(alloc);
+    let mut outs = Vec::with_capacity(alloc, log.len())?;
     for (place, crossing) in log.iter().enumerate() {
         outs.push(out_at(&last, crossing))?;
         note(&mut last, place, crossing)?;

@@ -3,7 +3,7 @@ use Rattle.book_judge.proofs.Identities.Asked.{outs_init, outs_next}
 use Rattle.book_judge.proofs.stamps.outs_of.Goals as goal
 
 pub loop-place-init : goal.loop-place-init
-loop-place-init c = (outs_init c.new-last.result c.new-outs.result.items c.args.log.now c.new-last.ensures c.new-outs.ensures.items, omega arith)
+loop-place-init c = (outs_init c.new-last.result c.in_ok-outs.outs.items c.args.log.now c.new-last.ensures c.in_ok-outs.ensures.items, omega arith)
 
 pub loop-place-preserved : goal.loop-place-preserved
 loop-place-preserved c = (
