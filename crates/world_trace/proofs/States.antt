@@ -1,5 +1,5 @@
 -- What each call of a carrier keeps holds of the carrier of each world that the replay of a script comes to.
-use Rattle.world_trace.proofs.Common.{◌≡◌, inl, inr, List, [], ◌∷◌, ◌++◌, Option, None, Some, Result, reverse, ap, refl, sym, subst, ◌∙◌, append-nil, reverse-append, reverse-reverse, All-append, All-cons, All-head, All-nil, All-same, All-tail, All, Calls, Host, Crossing, WorldState, opening_world, Event, Seat, InTurn, Refused, shown_crossings, GoesOn, IsMessage, IsNetEvent, NcpState, next_out, Drive, Goes, IsDriven, IsDrivenIn, Raw, Round, replay_drives, WorldEvent, IsReached, IsSaid}
+use Rattle.world_trace.proofs.Common.{false, ◌≡◌, inl, inr, List, [], ◌∷◌, ◌++◌, Option, None, Some, Result, reverse, ap, refl, sym, subst, ◌∙◌, append-nil, reverse-append, reverse-reverse, All-append, All-cons, All-head, All-nil, All-same, All-tail, All, Calls, Host, Crossing, WorldState, opening_world, Event, Seat, InTurn, Refused, shown_crossings, GoesOn, IsMessage, IsNetEvent, NcpState, next_out, Drive, Goes, IsDriven, IsDrivenIn, Raw, Round, replay_drives, WorldEvent, IsReached, IsSaid}
 use Rattle.std.specs.Option.{option_and_then, option_map, option_to_list}
 use Rattle.interface.specs.declared.CarrierFault.{CarrierFault}
 use Rattle.interface.specs.declared.HostMessage.{HostMessage}

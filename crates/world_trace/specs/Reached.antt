@@ -1,5 +1,5 @@
 -- Worlds to which the replay of a script comes, and that texts say all of their states.
-use Rattle.std.specs.Prelude.{◌≡◌, ℕ, ◌+◌, ◌≤◌, length, List, Option}
+use Rattle.std.specs.Prelude.{◌≡◌, false, ℕ, ◌+◌, ◌≤◌, length, List, Option}
 use Rattle.std.specs.List.{All}
 use Rattle.interface.specs.Calls.{Calls}
 use Rattle.interface.specs.Host.{Host, most_imps}

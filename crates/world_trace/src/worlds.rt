@@ -12,6 +12,7 @@ ghost use Rattle.trace.specs.declared.element.Spot.{Spot};
 ghost use Rattle.world_replay.specs.Kinds.{rounds_in};
 ghost use Rattle.world_replay.specs.Output.{Writes};
 ghost use Rattle.world_replay.specs.Replay.{HappensInCalm, MayStep, StopsInCalm};
+ghost use Rattle.world_script.specs.declared.event.WorldEvent.{WorldEvent};
 ghost use Rattle.world_trace.specs.MixedTraces.{MayTellMixed, MixedEndsAt, StopsMixed, TellsMixedAt};
 ghost use Rattle.world_trace.specs.Seen.{CalmHandsOn};
 ghost use Rattle.world_trace.specs.Steps.{AreTextsOf, EndsAs};
