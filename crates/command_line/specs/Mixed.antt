@@ -1,5 +1,5 @@
 -- Networks some of whose hosts are strangers: what an input of such a network is, why octets are none, and what is written of it.
-use Rattle.std.specs.Prelude.{◌≡◌, ◌≢◌, ◌⊎◌, ◌<◌, ◌≤◌, ℕ, Bool, List, length, codes, Option, Some, IsUtf8}
+use Rattle.std.specs.Prelude.{◌≡◌, ◌≢◌, ◌⊎◌, ◌<◌, ◌≤◌, ℕ, Bool, true, List, length, codes, Option, Some, IsUtf8}
 use Rattle.std.specs.List.{All}
 use Rattle.interface.specs.Calls.{Calls}
 use Rattle.interface.specs.Host.{Host}

@@ -7,7 +7,7 @@ returns-in-Err-clause-fault c = no_strangers c.args.octets.now c.in-Some.topolog
     c.in-Err.fault c.in-Some.ensures.parted c.in-Err.ensures.fault (λ e. c.in-Err.ensures.refused (ap Err e))
     (λ e. c.in-Err.ensures.memory (ap Err e))
 
-pub returns-in-Err-2-clause-fault : goal.returns-in-Err-2-clause-fault
-returns-in-Err-2-clause-fault c =
-    mixed_script c.args.octets.now c.in-Some.topology.now c.in-Some.script.now c.in-Ok.network c.in-Err-2.fault
-    c.requires c.in-Some.ensures.parted c.in-Ok.ensures.found c.in-Err-2.ensures
+pub returns-in-Err-read_mixed_events-clause-fault : goal.returns-in-Err-read_mixed_events-clause-fault
+returns-in-Err-read_mixed_events-clause-fault c =
+    mixed_script c.args.octets.now c.in-Some.topology.now c.in-Some.script.now c.in-Ok.network c.in-Err-read_mixed_events.fault
+    c.requires c.in-Some.ensures.parted c.in-Ok.ensures.found c.in-Err-read_mixed_events.ensures
