@@ -93,13 +93,15 @@ def spelled_out(proofs: Proofs, lines: list[str]) -> list[str]:
     places: list[str | None] = []  # the module that a line takes from
     out: list[str] = []
     for line in lines:
-        uses = [(passed[name], name) if module == proofs.module else (module, name) for module, name in names(line)]
-        for module, name in uses if uses and proofs.is_elsewhere(uses[0][0]) else ():
+        uses = names(line)
+        if not uses or not (uses[0][0] == proofs.module or proofs.is_elsewhere(uses[0][0])):
+            places, out = [*places, None], [*out, line]
+            continue
+        for module, name in uses:
+            module = passed.get(name, module) if module == proofs.module else module
             if module not in by_module:
                 places, out = [*places, module], [*out, ""]
             by_module.setdefault(module, {})[name] = None
-        if not uses or not proofs.is_elsewhere(uses[0][0]):
-            places, out = [*places, None], [*out, line]
     return [line if at is None else f"use {at}.{{{', '.join(by_module[at])}}}" for at, line in zip(places, out, strict=True)]
 
 

@@ -588,6 +588,13 @@ class Common(unittest.TestCase):
     def test_what_would_take_more_octets_is_left(self) -> None:
         self.assertEqual(common.written(self.proofs), {})
 
+    def test_what_it_passes_on_of_the_crate_is_taken_from_there_again(self) -> None:
+        self.alike()
+        self.given(Common="pub use Rattle.c.proofs.Other.{x}\n", One=self.ONE.replace("c.proofs.Other.{x}", "c.proofs.Common.{x}"))
+        found = self.written()
+        self.assertEqual(found["One"][2:4], ["use Rattle.c.proofs.Other.{x}", "one : Host"])
+        self.assertNotIn("pub use Rattle.c.proofs.Other.{x}", found["Common"])
+
     def test_what_a_file_declares_or_unfolds_isnt_taken_through_it(self) -> None:
         self.alike()
         unfolds = "  unfolding refl Host\n"
