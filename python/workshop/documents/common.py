@@ -87,7 +87,7 @@ def own(lines: list[str]) -> set[str]:
 
 
 def spelled_out(proofs: Proofs, lines: list[str]) -> list[str]:
-    """A file that takes each name from where it is declared, in one line for each module, and nothing through Common."""
+    """A file that takes each name from where it is declared, in one line for each module."""
     passed = proofs.passed_on()
     by_module: dict[str, dict[str, None]] = {}
     places: list[str | None] = []  # the module that a line takes from
@@ -102,7 +102,8 @@ def spelled_out(proofs: Proofs, lines: list[str]) -> list[str]:
             if module not in by_module:
                 places, out = [*places, module], [*out, ""]
             by_module.setdefault(module, {})[name] = None
-    return [line if at is None else f"use {at}.{{{', '.join(by_module[at])}}}" for at, line in zip(places, out, strict=True)]
+    merged = {module: f"use {module}.{{{', '.join(several)}}}" for module, several in by_module.items()}
+    return [merged[at] if at else line for at, line in zip(places, out, strict=True)]
 
 
 def taken(proofs: Proofs, lines: list[str]) -> dict[int, list[Use]]:
@@ -127,7 +128,7 @@ def octets_of(lines: Iterable[str]) -> int:
 def through(proofs: Proofs, lines: list[str], common: set[Use]) -> tuple[list[Use], int]:
     """What a file takes through the module, and how many octets that saves it; nothing where it saves none."""
     kept = own(lines)
-    by_module = defaultdict(list)
+    by_module: defaultdict[str, list[Use]] = defaultdict(list)
     for uses in taken(proofs, lines).values():
         by_module[uses[0][0]] += uses
     whole = [uses for uses in by_module.values() if all(it in common and it[1] not in kept for it in uses)]
@@ -171,7 +172,7 @@ def settled(proofs: Proofs, direct: dict[str, list[str]]) -> tuple[dict[str, lis
 
 
 def dear(files: Iterable[list[Use]], passed: set[Use]) -> set[Use]:
-    """What is passed on of the module whose line in Common costs most beyond what the files save by it; nothing where each saves some."""
+    """What is passed on of the module whose line costs most beyond what files save; nothing where each saves some."""
     cost: Counter[str] = Counter()
     for line in grouped(sorted(passed), "pub "):
         cost[line.removeprefix("pub use ").split(".{")[0]] += octets_of([line])
