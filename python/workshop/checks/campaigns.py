@@ -22,6 +22,7 @@ from contextlib import contextmanager
 from pathlib import Path
 
 from workshop.parts import ROOT, any_program
+from workshop.tools import left_out
 
 SEARCH = ["half-open", "--seed", "3", "--matches", "2", "--quiet"]
 TABLE = "search,network,raw,pattern,seeds,runs,matches,audit\nresets-in-step,,,,1-2,2000,1,\n,A-B,yes,out A B N .. then not out A B N .. then in A B N .. then not out A B N .. then in A B N ..,1,400,,yes\n"
@@ -180,7 +181,7 @@ def cluster_of(runs: Runs, workers: Sequence[Runs]) -> Iterator[tuple[str, list[
 def cluster(runs: Runs, other: Runs) -> list[str]:
     """What is wrong with searches over a cluster."""
     if not importlib.util.find_spec("distributed"):
-        print("check campaigns: without Debian's python3-distributed nothing ran over a cluster")
+        left_out("campaigns", "a cluster", "this Python has no distributed (apt-get install python3-distributed)")
         return []
     wrong, wanted = [], runs.run(*SEARCH, "--cores", "1")[1]
     with cluster_of(runs, [runs] * 3) as (address, processes):
@@ -238,7 +239,7 @@ def main() -> int:
         print("check campaigns: there is no program of these sources: ./build makes it")
         return 1
     if program.endswith("-unproved"):
-        print("check campaigns: the program without proofs is too slow for searches, so none is run: ./build makes the fast one")
+        left_out("campaigns", "all of it", "the program without proofs is too slow for searches (./build makes the fast one)")
         return 0
     with tempfile.TemporaryDirectory() as folder:
         runs, other = Runs(folder, os.path.abspath(program)), Runs(folder, f"{folder}/other")
