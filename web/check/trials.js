@@ -32,6 +32,12 @@
 export function makePage(slow) {
     /** @type {string[]} */
     const wrong = [];
+    // some milliseconds of the processor: waits are counted in work, since a clock goes on while the machine does else
+    const work = () => {
+        let found = 0;
+        for (let at = 0; at < 3_000_000; at += 1) found = (31 * found + at) | 0;
+        return found;
+    };
     /** @type {Page} */
     const page = {
         wrong,
@@ -44,6 +50,7 @@ export function makePage(slow) {
         async until(holds, what, seconds = 15) {
             for (let at = 0; at < 40 * seconds * slow; at += 1) {
                 if (holds()) return;
+                work();
                 await page.pause(25);
             }
             throw new Error(`never: ${what}`);
