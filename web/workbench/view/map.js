@@ -446,9 +446,13 @@ export class MapView {
                     { class: "half", "data-imp": imps[place], x1: end.x, y1: end.y, x2: middle.x, y2: middle.y },
                 ),
             );
-            const crosses = [a, b].map((end) => cross(between(end, middle, 0.55), (this.layout.small ? 3.5 : 5) * unit));
-            const hit = s("line", { class: "hit", x1: a.x, y1: a.y, x2: b.x, y2: b.y });
             const half = 0.75 * detail.text * unit;
+            const radius = (this.layout.small ? 3.5 : 5) * unit;
+            // a cross is beside the number, where there is room
+            const length = Math.hypot(middle.x - a.x, middle.y - a.y);
+            const share = Math.max(0.3, Math.min(0.55, 1 - (half + radius) / length));
+            const crosses = [a, b].map((end) => cross(between(end, middle, share), radius));
+            const hit = s("line", { class: "hit", x1: a.x, y1: a.y, x2: b.x, y2: b.y });
             const plate = { x: middle.x - half, y: middle.y - half, width: 2 * half, height: 2 * half, rx: 3 };
             const label = this.layout.small
                 ? [s("text", { class: "many", y: 0.35 * detail.text * unit })]
