@@ -1,5 +1,5 @@
 use Rattle.command_line.proofs.Common.{subst, asked_of, IsInputFault, ScriptFault}
-use Rattle.command_line.proofs.Replayed.Either.{either_read, either_replayed, either_stopped, follow_fault, input_fault}
+use Rattle.command_line.proofs.Replayed.Either.{either_read, either_replayed, either_stopped, follow_fault}
 use Rattle.command_line.proofs.Replayed.Either.{plain_fault, plain_read, plain_replayed, plain_stopped}
 use Rattle.command_line.proofs.Faults.{write_fault}
 use Rattle.command_line.proofs.replaying.follow.Goals as goal
@@ -31,9 +31,6 @@ returns-then-check-clause-read g c = plain_read c.args.octets.now c.write_ok.res
 pub returns-in-Ok-clause-fault : goal.returns-in-Ok-clause-fault
 returns-in-Ok-clause-fault g c = plain_fault c.args.octets.now c.replay_on.result
     (c.in-Ok.field-0.network, asked_of c.in-Ok.field-0.events, c.in-Ok.ensures.read) c.replay_on.ensures.fault
-
-pub returns-in-Err-clause-fault : goal.returns-in-Err-clause-fault
-returns-in-Err-clause-fault g c = input_fault c.args.octets.now c.in-Err.fault c.in-Err.ensures.fault
 
 -- ---- with them
 
