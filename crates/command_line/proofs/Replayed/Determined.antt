@@ -1,5 +1,5 @@
 -- An input of either kind leaves a replay no choice.
-use Rattle.command_line.proofs.Common.{◌≡◌, inl, inr, ℕ, Bool, List, [], ◌++◌, Some, codes, sym, ap, ap₂}
+use Rattle.command_line.proofs.Common.{true, ◌≡◌, inl, inr, ℕ, Bool, List, [], ◌++◌, Some, codes, sym, ap, ap₂}
 use Rattle.command_line.proofs.Common.{subst, ◌∙◌, shown, Life, Calls, AreSettled, Detail, CarrierKind, plain_calls}
 use Rattle.command_line.proofs.Common.{subnet_calls, plain_of, subnet_of, WritesWorld, book_text, plain_settled}
 use Rattle.command_line.proofs.Common.{subnet_settled, parted_once, MixedFields, WorldEvent, ReplaysEither}
