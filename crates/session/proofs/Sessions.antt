@@ -1,5 +1,5 @@
 -- A session is of an input.
-use Rattle.std.proofs.Common.{◌≡◌, ◌≤◌, ◌+◌, ◌∙◌, ℕ, List, [], ◌++◌, Option, None, Some, Result, Ok, Err, IfErr, IfSome, ap, arith, codes, drop, false, inl, inr, length, refl, subst, sym, take, ◌⊎◌}
+use Rattle.std.proofs.Common.{◌≡◌, ◌≤◌, ◌+◌, ◌∙◌, ℕ, List, [], ◌++◌, Option, None, Some, Result, Ok, Err, IfErr, IfSome, ap, arith, codes, drop, false, inl, inr, length, refl, subst, sym, take}
 use Rattle.std.proofs.KnownBytes.{Appends-trans, Consumes-trans, Consumes-whole, Keeps-trans}
 use Rattle.std.proofs.lemmas.Grind.{flat_map-append}
 use Rattle.std.proofs.lemmas.List.{append-nil, length-append, take-append-drop}
@@ -17,13 +17,13 @@ use Rattle.world_script.specs.declared.event.WorldEvent.{WorldEvent}
 use Rattle.command_line.specs.Described.{Describes}
 use Rattle.command_line.specs.Either.{IsEitherFault}
 use Rattle.command_line.specs.Events.{Asked, AsksFor}
-use Rattle.command_line.specs.Input.{IsInput, IsInputFault}
+use Rattle.command_line.specs.Input.{IsInput}
 use Rattle.command_line.specs.Mixed.{DescribesMixed, IsMixedInput, MixedReplaysOver}
 use Rattle.command_line.specs.Replayed.{ReplaysOver}
 use Rattle.command_line.specs.declared.fault.ScriptFault.{ScriptFault}
 use Rattle.command_line.specs.declared.fault.ScriptFault.TheVariants as fault
 use Rattle.session.specs.Hearing.{Hearing, Hears, hearing}
-use Rattle.session.specs.Head.{HasNoHead, IsHead}
+use Rattle.session.specs.Head.{IsHead}
 use Rattle.session.specs.Session.{EndsEarly, IsSession, PrintsOn, Serving, after_head, on}
 use Rattle.session.proofs.Turns.{cause_as}
 use Rattle.session.specs.Turns.{Breaks, Ends, Reading, Serves, Turn, answers_of, script_of, session_of}
@@ -149,15 +149,6 @@ module _ (head document : List ℕ) (opens : IsHead head document) where
           bad = bad;
         });
       }
-
-pub plain_head : (head : List ℕ) (f : ScriptFault) → (f ≡ fault.BadTopology → ⊥) → IsInputFault head f → IsEitherFault head f
-plain_head head (fault.BadLine number) other plain = inl plain
-plain_head head fault.TooLong other plain = plain
-plain_head head fault.BadTopology other plain = absurd (other refl)
-plain_head head fault.CannotRead other plain = plain
-plain_head head fault.OutOfMemory other plain = tt
-plain_head head fault.CannotWrite other plain = inl plain
-plain_head head fault.BadOptions other plain = plain
 
 -- what is said of a served script is said of a head with it
 pub served : (head : List ℕ) (old : Hearing) (before after : Option (List ℕ)) (result : Result (Unit {0}) ScriptFault)

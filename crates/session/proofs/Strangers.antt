@@ -34,11 +34,11 @@ module _ {C : Type 0} (calls : Calls C) (carrier : C) where
       → Prints world_spelling (IsWorldEvent true) (ReplaysWith (HappensBy (mixed_kind (shown calls))) (lines.shown_text Texts) (KeepsAll calls)) opening script said
       → PrintsOver calls carrier raw (Some strangers) script said
   mixed_prints raw strangers opening is script said (last, h) =
-      let (shows, in_turn, written, among, toward) = h.replayed in (
+      let (shows, in_turn, written, kept) = h.replayed in (
         h.events,
         h.asked,
         mixed_writes_all calls strangers carrier opening last h.events last.kept.book.lives false Texts (Some []) (Some said) (Some (said ++ codes "end\n"))
-            is (record { shown = shows; is_shown = in_turn; written = written }) among toward refl refl,
+            is (record { shown = shows; is_shown = in_turn; written = written }) kept.0 kept.1 refl refl,
       )
 
   pub world_prints : (opening : WorldState C) → opening ≡ opening_world (shown calls) carrier → (script said : List ℕ)

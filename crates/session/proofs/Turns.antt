@@ -190,7 +190,7 @@ module _ {S E : Type 0} {spelled : E → List ℕ} {IsMeant : E → Type 0} {Rep
       → Standing spelled IsMeant Replays opening now old here before mid passed → IsReadFault f → (f ≡ fault.TooLong → IsTooLong here)
       → Breaks (reading spelled IsMeant Replays opening) old f before mid
   breaks_unheard {opening} {now} {old} {here} {before} {mid} f h read long =
-      record { last = here; said = mid; serves = h.serves; cause = by_read (λ g. IsCause _ (IsTooLong here) g mid mid) f read (λ e. (long e, Keeps-refl mid)) (Keeps-refl mid) ([], Appends-nil mid) }
+      record { last = here; said = mid; serves = h.serves; cause = by_read (λ g. IsCause (IsRefused (IsFirstBadAs spelled IsMeant) (script_of h.serves.turns) here) (IsTooLong here) g mid mid) f read (λ e. (long e, Keeps-refl mid)) (Keeps-refl mid) ([], Appends-nil mid) }
 
   module _ {opening now : S} {old here next : Hearing} {line : List ℕ} {before mid : Option (List ℕ)} {passed : ℕ}
       (h : Standing spelled IsMeant Replays opening now old here before mid passed) (k : Hears here next line) (short : next.heard ≤ 268435456) where

@@ -41,7 +41,7 @@ fn serve_on<R: Source, W: Output>(
     requires writes { W.failed writer.old ≡ false }
     requires handed { W.flushed writer.old ≡ true }
     requires short { heard + length ahead.old.items ≤ MAX_INPUT }
-    ensures ends { Ends (on network.now (option_copied strangers)) (hearing heard ahead.old.items (R.remaining reader.old)) (W.contents writer.old) (W.contents writer.new) result }
+    ensures ends { Ends (on network.now (option_copied strangers.entry)) (hearing heard ahead.old.items (R.remaining reader.old)) (W.contents writer.old) (W.contents writer.new) result }
     ensures kept { IfErr result (λ f. f ≢ ScriptFault.CannotWrite → f ≢ ScriptFault.OutOfMemory → W.flushed writer.new ≡ true) }
     ensures cannot_read { (result ≡ Err ScriptFault.CannotRead) ↔ (R.failed reader.new ≡ true) }
     ensures cannot_write { (result ≡ Err ScriptFault.CannotWrite) ↔ (W.failed writer.new ≡ true) }
@@ -82,7 +82,7 @@ fn serve_over<C: Carrier, R: Source, W: Output>(
     requires writes { W.failed writer.old ≡ false }
     requires handed { W.flushed writer.old ≡ true }
     requires short { heard + length ahead.old.items ≤ MAX_INPUT }
-    ensures ends { Ends (over C.calls carrier raw (option_copied strangers)) (hearing heard ahead.old.items (R.remaining reader.old)) (W.contents writer.old) (W.contents writer.new) result }
+    ensures ends { Ends (over C.calls carrier raw (option_copied strangers.entry)) (hearing heard ahead.old.items (R.remaining reader.old)) (W.contents writer.old) (W.contents writer.new) result }
     ensures kept { IfErr result (λ f. f ≢ ScriptFault.CannotWrite → f ≢ ScriptFault.OutOfMemory → W.flushed writer.new ≡ true) }
     ensures cannot_read { (result ≡ Err ScriptFault.CannotRead) ↔ (R.failed reader.new ≡ true) }
     ensures cannot_write { (result ≡ Err ScriptFault.CannotWrite) ↔ (W.failed writer.new ≡ true) }

@@ -1,7 +1,8 @@
-use Rattle.std.proofs.Common.{rules, ◌≡◌, Err, Ok, inl}
+use Rattle.std.proofs.Common.{rules, ◌≡◌, Err, IfSome, Ok, inl}
 use Rattle.std.proofs.lemmas.Option.{IfSome_then}
 use Rattle.replay.proofs.lemmas.{on_ok}
 use Rattle.command_line.specs.declared.fault.ScriptFault.TheVariants as fault
+use Rattle.session.specs.Head.{HasNoHead}
 use Rattle.session.proofs.Heads.{said}
 use Rattle.session.proofs.Sessions.{early_session, no_end, serving_first, whole_session}
 use Rattle.session.proofs.running.run_session.Goals as goal
@@ -10,7 +11,8 @@ pub returns-in_err-flush-clause-early : goal.returns-in_err-flush-clause-early
 returns-in_err-flush-clause-early g c =
     let known = g.R.Source.remaining c.args.reader.now in
     let is : c.from_residual.result ≡ Err fault.CannotWrite = search rules in
-    rw is (said known (inl (tt, c.flush.ensures.kept)))
+    let none : IfSome known (λ octets. HasNoHead octets fault.CannotWrite) = said known tt in
+    rw is (IfSome_then known none (λ octets h. inl (h, c.flush.ensures.kept)))
 
 pub returns-in_err-head-clause-early : goal.returns-in_err-head-clause-early
 returns-in_err-head-clause-early g c =

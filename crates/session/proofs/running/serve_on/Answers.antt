@@ -1,6 +1,6 @@
 use Rattle.std.proofs.Common.{◌≡◌, ◌∙◌, ap, rules, option_copied, subst, sym, List, None, IfSome}
 use Rattle.interface.specs.Host.{Host}
-use Rattle.leader1822.specs.Boxes.{Boxes, opening_boxes, plain_calls}
+use Rattle.leader1822.specs.Boxes.{Boxes, opening_boxes}
 use Rattle.net_sim.specs.MixedWorlds.{absent_in}
 use Rattle.subnet.specs.Calls.{Kept}
 use Rattle.topology.specs.declared.network.CarrierKind.TheVariants as kind
