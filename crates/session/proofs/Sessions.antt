@@ -1,5 +1,5 @@
 -- A session is of an input.
-use Rattle.std.proofs.Common.{◌≡◌, ◌≤◌, ◌+◌, ◌∙◌, ℕ, List, [], ◌++◌, Option, None, Some, Result, Ok, Err, IfErr, IfSome, ap, arith, codes, drop, false, inl, inr, length, refl, subst, sym, take}
+use Rattle.std.proofs.Common.{◌≡◌, ◌≤◌, ◌+◌, ◌∙◌, ℕ, List, true, [], ◌++◌, Option, None, Some, Result, Ok, Err, IfErr, IfSome, ap, arith, codes, drop, false, inl, inr, length, refl, subst, sym, take}
 use Rattle.std.proofs.KnownBytes.{Appends-trans, Consumes-trans, Consumes-whole, Keeps-trans}
 use Rattle.std.proofs.lemmas.Grind.{flat_map-append}
 use Rattle.std.proofs.lemmas.List.{append-nil, length-append, take-append-drop}

@@ -1,5 +1,5 @@
 -- A session of an input.
-use Rattle.std.specs.Prelude.{◌≡◌, ◌⊎◌, ◌++◌, Bool, true, List, None, Option, Result, Ok, Err, Some, [], codes, false, length, true, ℕ}
+use Rattle.std.specs.Prelude.{◌≡◌, ◌⊎◌, ◌++◌, Bool, List, None, Option, Result, Ok, Err, Some, [], codes, false, length, true, ℕ}
 use Rattle.std.specs.Io.KnownBytes.{Appends, Keeps}
 use Rattle.interface.specs.Calls.{Calls}
 use Rattle.interface.specs.Host.{Host}
