@@ -15,6 +15,6 @@ returns-clause-read c =
       fits = ap length c.in-Ok-event_lines.ensures ∙ mixed_fit c.args.octets.now script c.in-Ok.input.network c.in-Ok.input.events.items c.in-Ok.ensures.read parted;
     }
 
-pub returns-in_default-lines-clause-fault : goal.returns-in_default-lines-clause-fault
-returns-in_default-lines-clause-fault c =
+pub returns-in_default-event_lines-clause-fault : goal.returns-in_default-event_lines-clause-fault
+returns-in_default-event_lines-clause-fault c =
     mixed_wants c.args.octets.now c.in-Ok.input.network c.in-Ok.input.events.items c.in-Ok.ensures.read
