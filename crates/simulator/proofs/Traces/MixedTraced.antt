@@ -1,5 +1,5 @@
 -- What `--trace` writes among strangers, and of an input of either kind.
-use Rattle.simulator.proofs.Common.{◌≡◌, ◌⊎◌, inl, inr, ℕ, List, Option, Result, OnOk, ap, subst, sym, ◌∙◌, Calls, Keeps, text_of, asking_from, parted_once, CarrierKind, IsScriptOf, IsScripted, ScriptFault, TopologyFields, TracesOn, on_ok, length, WorldState, opening_mixed, MixedFields, event_lines, AllParts, WorldEvent, Asked, IsMixedScripted, MixedTraceEndsFrom, MixedTraceEndsOn, MixedTraceEndsOver, MixedTraceStops, MixedTracesFrom, MixedTracesInput, MixedTracesOn, MixedTracesOver, TraceStopsEither, TracedEither, TracesEither, EndsOn, stays}
+use Rattle.simulator.proofs.Common.{◌≡◌, ◌⊎◌, inl, inr, true, ℕ, List, Option, Result, OnOk, ap, subst, sym, ◌∙◌, Calls, Keeps, text_of, asking_from, parted_once, CarrierKind, IsScriptOf, IsScripted, ScriptFault, TopologyFields, TracesOn, on_ok, length, WorldState, opening_mixed, MixedFields, event_lines, AllParts, WorldEvent, Asked, IsMixedScripted, MixedTraceEndsFrom, MixedTraceEndsOn, MixedTraceEndsOver, MixedTraceStops, MixedTracesFrom, MixedTracesInput, MixedTracesOn, MixedTracesOver, TraceStopsEither, TracedEither, TracesEither, EndsOn, stays}
 use Rattle.world_script.specs.WorldSpelling.{IsWorldEvent, world_spelling}
 use Rattle.world_trace.specs.MixedTraces.{WritesMixed, WritesMixedPart}
 use Rattle.command_line.specs.Mixed.{IsMixedInput}
