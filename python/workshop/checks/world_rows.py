@@ -112,7 +112,7 @@ class WorldRows:
         return len(self.world.carrier.log), len(book.notices), len(book.contacts), len(book.reports)
 
     def news(self, before: tuple[int, ...]) -> list[str]:
-        """What there is after that many of each."""
+        """What there is after this many of each."""
         book, (crossings, notices, contacts, reports) = self.world.book, before
         said = [spell_crossing(it) for it in self.world.carrier.log[crossings:]]
         said += [f"told {spell_host(host)} {place} {notice}" for host, notice, place in book.notices[notices:]]
