@@ -21,6 +21,7 @@
  * @property {(holds: unknown, what: string) => void} want
  * @property {string[]} wrong
  * @property {number} slow how many times longer things may take
+ * @property {() => number} pace how many times longer a piece of work takes at present than it can
  */
 
 /**
@@ -42,6 +43,14 @@ export function makePage(slow) {
     const page = {
         wrong,
         slow,
+        pace() {
+            const times = Array.from({ length: 40 }, () => {
+                const was = performance.now();
+                work();
+                return performance.now() - was;
+            });
+            return times.reduce((sum, it) => sum + it, 0) / (times.length * Math.min(...times));
+        },
         $: (id) => document.getElementById(id),
         one: (selector) => document.querySelector(selector),
         all: (selector) => [...document.querySelectorAll(selector)],
@@ -247,7 +256,7 @@ export function reached({ $, one, press, want }) {
  * @param {Page} page
  * @param {string} text
  */
-export async function large({ $, one, all, until, changed, pause, press, key, want, wrong, slow }, text) {
+export async function large({ $, one, all, until, changed, pause, press, key, want, wrong, slow, pace }, text) {
     const given = new DataTransfer();
     given.items.add(new File([text], "large.txt"));
     $("file").files = given.files;
@@ -269,9 +278,10 @@ export async function large({ $, one, all, until, changed, pause, press, key, wa
     const median = steps.sort((a, b) => a - b)[15];
     const times = [first, whole, median].map((it) => Math.round(it));
     document.documentElement.dataset.measured = `a picture after ${times[0]} ms, all steps after ${times[1]} ms, a step ${times[2]} ms`;
-    want(median < 100 * slow, `a step takes ${times[2]} ms`);
-    want(first < 3000 * slow, `the first picture takes ${times[0]} ms`);
-    want(whole < 6000 * slow, `all steps are there after ${times[1]} ms`);
+    const longer = Math.max(slow, pace());
+    want(median < 100 * longer, `a step takes ${times[2]} ms`);
+    want(first < 3000 * longer, `the first picture takes ${times[0]} ms`);
+    want(whole < 6000 * longer, `all steps are there after ${times[1]} ms`);
     const shown = () => all("#network .part.imp:not(.folded) .title").filter((it) => it.getBoundingClientRect().width);
     want(shown().length > 8, `only ${shown().length} labels`);
     for (const it of shown()) {
@@ -485,13 +495,15 @@ export async function legible({ $, all, load, press, pause, want }, name) {
  *
  * @param {Page} page
  */
-export async function followed({ $, one, load, pause, slide, want, slow }) {
+export async function followed({ $, one, load, until, slide, want }) {
     await load("arpanet-of-september-1973");
     for (const part of [0.6, 0.3, 0.9]) {
         slide(Math.floor(part * Number($("slider").max)));
-        await pause(400 * slow);
-        const [box, frame] = [".row.current", ".sheet-scroll"].map((it) => one(it).getBoundingClientRect());
-        want(box.top >= frame.top && box.bottom <= frame.bottom + 1, `the present row is not seen at ${part}`);
+        const isSeen = () => {
+            const [box, frame] = [".row.current", ".sheet-scroll"].map((it) => one(it).getBoundingClientRect());
+            return box.top >= frame.top && box.bottom <= frame.bottom + 1;
+        };
+        await until(isSeen, "the present row", 1).catch(() => want(false, `the present row is not seen at ${part}`));
     }
 }
 
