@@ -21,6 +21,7 @@ code{font:10pt ui-monospace,monospace}.note td{font-style:italic;padding-top:.6r
 .blank td{height:3em;border-bottom:1px dotted #555}
 .reply td{font-weight:600}.name{border-bottom:1px dotted #555;max-width:20rem}tr{break-inside:avoid}"""
 SLIDES = """body{margin:0;font-family:system-ui,sans-serif;color:#161a20}
+html{scroll-snap-type:y mandatory}section{scroll-snap-align:start}
 section{min-height:100vh;box-sizing:border-box;padding:7vh 8vw;display:flex;flex-direction:column;gap:3vh}
 section{page-break-after:always}section.title{background:#14273f;color:#f2f5f9;justify-content:center}
 h1{font-size:9vh;margin:0}p,li{font-size:3.3vh;line-height:1.35;margin:0 0 1vh}.big{font-size:5vh;font-weight:600}
