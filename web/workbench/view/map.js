@@ -434,6 +434,24 @@ export class MapView {
         return this.tags.get(imp) ?? { w: 0, h: 0 };
     }
 
+    /**
+     * Where a line has its number: in the middle, or beside that where the count of an IMP would lie on it.
+     *
+     * @param {number[]} imps
+     * @param {Point} a
+     * @param {Point} b
+     * @param {number} half of the number's size
+     */
+    numbered(imps, a, b, half) {
+        const counts = imps.map((imp) => {
+            const [at, { w, h }] = [this.imp(imp), this.box(imp)];
+            return { x: at.x + w, y: at.y - h };
+        });
+        const apart = half + DOT_BADGE * this.layout.unit;
+        const isFree = (/** @type {Point} */ it) => counts.every(({ x, y }) => Math.hypot(it.x - x, it.y - y) > apart);
+        return [0.5, 0.6, 0.4, 0.7, 0.3].map((it) => between(a, b, it)).find(isFree) ?? between(a, b, 0.5);
+    }
+
     drawLines() {
         if (this.network.plain) return this.drawCloud();
         const { detail, unit } = this.layout;
@@ -447,18 +465,21 @@ export class MapView {
                 ),
             );
             const half = 0.75 * detail.text * unit;
+            const mark = this.layout.small ? middle : this.numbered(imps, a, b, half);
             const radius = (this.layout.small ? 3.5 : 5) * unit;
             // a cross is beside the number, where there is room
-            const length = Math.hypot(middle.x - a.x, middle.y - a.y);
-            const share = Math.max(0.3, Math.min(0.55, 1 - (half + radius) / length));
-            const crosses = [a, b].map((end) => cross(between(end, middle, share), radius));
+            const share = (/** @type {Point} */ end) => {
+                const room = 1 - (half + radius) / Math.hypot(mark.x - end.x, mark.y - end.y);
+                return Math.max(0.3, Math.min(0.55, room));
+            };
+            const crosses = [a, b].map((end) => cross(between(end, mark, share(end)), radius));
             const hit = s("line", { class: "hit", x1: a.x, y1: a.y, x2: b.x, y2: b.y });
-            const plate = { x: middle.x - half, y: middle.y - half, width: 2 * half, height: 2 * half, rx: 3 };
+            const plate = { x: mark.x - half, y: mark.y - half, width: 2 * half, height: 2 * half, rx: 3 };
             const label = this.layout.small
                 ? [s("text", { class: "many", y: 0.35 * detail.text * unit })]
                 : [
                     s("rect", { class: "plate", ...plate }),
-                    s("text", { class: "number", x: middle.x, y: middle.y + 0.35 * detail.text * unit }, String(line)),
+                    s("text", { class: "number", x: mark.x, y: mark.y + 0.35 * detail.text * unit }, String(line)),
                 ];
             this.lines.append(
                 this.part({ kind: "line", line }, `line ${line}`, [...halves, ...crosses, hit, ...label]),
