@@ -40,7 +40,7 @@ import { cpus, loadavg, tmpdir } from "node:os";
  * @property {() => Promise<void>} close
  */
 
-const MOST_WORK = 300; // seconds of the processor that a browser may take for one step
+const MOST_WORK = 900; // seconds of the processor that a browser may take for one step: WebKit draws slowly
 const LONGEST = 3_600; // seconds by the clock after which it has stopped working, whatever else the machine does
 const TICKS = 100; // of a second of the processor, as Linux counts
 const MOST_LOAD = 5;
