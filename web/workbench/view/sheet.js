@@ -21,7 +21,7 @@ import { keep, s, say, set, h } from "./dom.js";
 const EMPTY = "The script has no event yet. Tap a part of the map, or an event in the table Possible, and it is added here. "
     + "Or type it: press Edit.";
 
-const [MOST_HEADS, FEW_HEADS] = [3, 2]; // lanes with their names in one row, on a wide page and on a narrow one
+const [MOST_HEADS, FEW_HEADS] = [3, 2]; // lanes with their names in one row, on a large page and on a small one
 
 /** The sheet of a replay. */
 export class SheetView {
@@ -74,8 +74,9 @@ export class SheetView {
         this.isNew = true;
         this.rows.classList.toggle("many", this.list.length > 400);
         const { network } = sheet.history;
-        const isNarrow = document.documentElement.dataset.layout === "narrow";
-        this.heads.classList.toggle("many", sheet.chart.lanes.length > (isNarrow ? FEW_HEADS : MOST_HEADS));
+        const { layout, low } = document.documentElement.dataset;
+        const isSmall = layout === "narrow" || low !== undefined;
+        this.heads.classList.toggle("many", sheet.chart.lanes.length > (isSmall ? FEW_HEADS : MOST_HEADS));
         keep(
             this.heads,
             ["", ...sheet.chart.lanes],
