@@ -16,7 +16,6 @@ import { chromium, firefox } from "./browser.js";
 /** @typedef {import("./browser.js").Browser} Browser */
 
 const WIDTHS = [390, 720, 1024, 1280, 1440];
-const ENDINGS = [".args", ".stdout", ".stderr", ".status", ".rows", ".md"];
 
 /** What each trial begins with. */
 const HELPERS = `
@@ -56,7 +55,7 @@ function want(holds, what) {
  * @param {string} folder
  */
 async function tryExamples(browser, folder) {
-    const names = readdirSync(folder).filter((name) => !ENDINGS.some((ending) => name.endsWith(ending)));
+    const names = readdirSync(folder).filter((name) => !name.includes("."));
     for (const name of names) {
         const read = (/** @type {string} */ ending) => (
             existsSync(`${folder}/${name}${ending}`) ? readFileSync(`${folder}/${name}${ending}`, "utf8") : ""
