@@ -382,7 +382,7 @@ export async function bundles({ $, all, pause, press, load, key, want }) {
     const folds = counted.reduce((sum, it) => sum + it - 1, 0);
     want(folds <= far, `${far} lines are folded, in bundles of ${counted}`);
     const on = () => {
-        const boxes = all("#network .part.imp .box").map((it) => it.getBoundingClientRect());
+        const boxes = all("#network .part.imp:not(.folded) .box").map((it) => it.getBoundingClientRect());
         const areOn = (/** @type {DOMRect} */ a, /** @type {DOMRect} */ b) =>
             Math.min(a.right, b.right) - Math.max(a.left, b.left) > 2 && Math.min(a.bottom, b.bottom) - Math.max(a.top, b.top) > 2;
         return boxes.flatMap((a, at) => boxes.slice(at + 1).filter((b) => areOn(a, b))).length;
