@@ -145,10 +145,9 @@ class Open:
 
     def used(self) -> tuple[float, int]:
         """The seconds of the processor that it has used, and the kB of memory that it has had at most."""
-        fields = text_of(f"/proc/{self.process.pid}/stat").rpartition(")")[2].split()
+        nanoseconds = int(text_of(f"/proc/{self.process.pid}/schedstat").split()[0])
         status = text_of(f"/proc/{self.process.pid}/status").splitlines()
-        ticks = int(fields[11]) + int(fields[12])
-        return ticks / os.sysconf("SC_CLK_TCK"), next(int(it.split()[1]) for it in status if it.startswith("VmHWM"))
+        return nanoseconds / 1e9, next(int(it.split()[1]) for it in status if it.startswith("VmHWM"))
 
 
 def answers(room: Room) -> Iterator[str]:
