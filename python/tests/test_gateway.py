@@ -290,6 +290,26 @@ class Live(unittest.TestCase):
         self.assertLessEqual(script.count("\nhostup 0/3") + script.count("\nhostdown 0/3"), 1 + 4 + 5)
         self.assertGreaterEqual(script.count("\nhostup 0/3"), 2)
 
+    def test_a_ready_line_that_has_turned_too_often_is_looked_at_again(self) -> None:
+        session, gateway = self.rounds("often")
+        gateway.begin()
+        interface = Interface(session, Host(0, 3), gateway.wake)
+        gateway.parts.append(interface)
+        interface.turns.left = 0
+
+        async def comes() -> None:
+            running = asyncio.create_task(gateway.run())
+            await asyncio.sleep(0.3)
+            interface.comes(mock.Mock(has_room=lambda: True, where=lambda: "udp"))
+            for _ in range(100):
+                if not interface.up:
+                    await asyncio.sleep(0.05)
+            gateway.stop("over")
+            await running
+
+        asyncio.run(comes())
+        self.assertIn("\nhostup 0/3\n", (self.folder / "often" / "script").read_text())
+
     def test_a_server_whose_socket_is_in_use_is_not_begun_in_each_round(self) -> None:
         session, gateway = self.rounds("served")
         gateway.begin()

@@ -50,9 +50,10 @@ class Gateway:
         self.quiet = 0  # rounds since something was printed
         self.ended = ""
 
-    def wake(self) -> None:
-        """Something may happen."""
-        self.quiet = 0
+    def wake(self, anew: bool = True) -> None:
+        """Something may happen: rounds begin anew, or the network is only looked at."""
+        if anew:
+            self.quiet = 0
         self.awake.set()
 
     def stop(self, why: str) -> None:

@@ -4,7 +4,7 @@ from __future__ import annotations
 
 import time
 from collections import Counter, deque
-from collections.abc import Callable, Iterator, Sequence
+from collections.abc import Iterator, Sequence
 from typing import Protocol
 
 from dorydate.export.leaders import crossing_of
@@ -55,6 +55,12 @@ class Faults:
             self.session.say(f"{self.of}: refused: {why} ({self.count[why]})")
 
 
+class Wake(Protocol):
+    """Says that something may happen, or that something is to be looked at."""
+
+    def __call__(self, anew: bool = True) -> None: ...
+
+
 class Wire(Protocol):
     """What brings a host its messages."""
 
@@ -76,7 +82,7 @@ class Interface:
     """
 
     def __init__(
-        self, session: Session, host: Host, wake: Callable[[], None], marked: bool = False, silence: float | None = None
+        self, session: Session, host: Host, wake: Wake, marked: bool = False, silence: float | None = None
     ) -> None:
         self.session, self.host, self.wake = session, host, wake
         self.marked, self.silence = marked, silence  # seconds of silence after which its host is gone
@@ -110,9 +116,8 @@ class Interface:
         self.queue.clear()
 
     def _turned(self) -> None:
-        """Its ready line has changed. While that has come too often, it is only looked at now and then (`waits`)."""
-        if self.turns.has():
-            self.wake()
+        """Its ready line has changed. While that has come too often, no rounds pass for it (`waits`)."""
+        self.wake(self.turns.has())
 
     def asks(self) -> None:
         """Its host asks whether the IMP is there."""
