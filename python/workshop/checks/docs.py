@@ -54,7 +54,7 @@ from workshop.words import Words
 # the pages whose links and sources are looked for
 LINKING = ("*.md", "docs/*.md", "docs/measured/*.md", "crates/*/CLAIMS.md", "crates/*/WHY.md")
 MOST_REACHING = 0  # imports into another crate's proofs/ beside lemmas
-MOST_DEAD = 45  # declarations of proofs/ that nothing leads to that is proved; `python3 python dead` names them
+MOST_DEAD = 40  # declarations of proofs/ that nothing leads to that is proved; `python3 python dead` names them
 MOST_ENTRIES = 40  # of a folder of proofs/
 MOST_CROWDED = 0
 MOST_FEW = 0  # names that a crate's Common passes on to one file
