@@ -123,7 +123,7 @@ class Judge:
         seen: Value = Lambda(1, lambda carrier: struct({"hosts": logged.hosts}))
         env: Env = {"C": struct({"calls": struct({"seen": seen})})}
         if logged.book.strangers:
-            now = struct({"world": struct({"carrier": 0, "kept": kept}), "strangers": logged.strangers})
+            now = struct({"carrier": 0, "kept": kept, "strangers": logged.strangers})
             env |= {"world": struct({"now": now})}
         else:
             env |= {"world": struct({"now": struct({"carrier": 0})}), "result": kept}
