@@ -71,7 +71,7 @@ def check_commands(room: str) -> None:
             raise Wrong(f"dorydate {' '.join(words)} prints nothing")
     call(f"{room}/venv/bin/python", "-m", "dorydate", *SEARCH, cwd=room, env=env)
     judged = call(f"{room}/venv/bin/dorydate", "explain", "--promise", f"{ROOT}/logs/two-octets", cwd=room, env=env)
-    if "broken" in judged or "holds  within" not in judged:
+    if "broken" in judged or "holds  promise.within" not in judged:
         raise Wrong("dorydate explain --promise doesn't judge a log")
 
 
