@@ -49,7 +49,8 @@ class Served:
     def read(self, last: float) -> None:
         """Reads more of the answer, until a time."""
         _, answers = self.pipes()
-        if not select.select([answers], [], [], max(0.0, last - time.monotonic()))[0]:
+        left = last - time.monotonic()
+        if left <= 0.0 or not select.select([answers], [], [], left)[0]:
             raise TookTooLong("the program ran longer than it may")
         piece = os.read(answers.fileno(), PIECE)
         if not piece:
