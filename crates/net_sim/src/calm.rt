@@ -9,8 +9,8 @@ ghost use Rattle.net_sim.specs.Silent.{AllSilent, IsSilent, IsSilentAt};
 ghost use Rattle.net_sim.specs.World as world;
 ghost use Rattle.net_sim.specs.World.{CalmGives, Repeats};
 
+use crate::mixed_world::{MixedWorld, stops};
 use crate::seat::Seat;
-use crate::world_core::{WorldCore, stops};
 use crate::{Event, WorldFault};
 use interface::{Carrier, CarrierFault, HostAddr, TAKINGS};
 
@@ -74,12 +74,13 @@ fn is_silent(seat: &Seat) -> bool
     matches!(program.next_out(), Ok(None))
 }
 
-impl<C: Carrier> WorldCore<C> {
-    /// Passes `rounds` times: a quiet round of the network, and then each host that is up has its turn, in order of IMP
-    /// and host. It takes until nothing waits for it, or 16 times; then it offers until it has nothing to say or is
-    /// refused, or 32 times. It continues after refusals, and ends when memory runs out. Rounds that would change
-    /// nothing are not made once that is known.
-    pub(crate) fn calm(&mut self, rounds: u32) -> Result<(), WorldFault>
+impl<C: Carrier> MixedWorld<C> {
+    /// Passes `rounds` times: a quiet round of the network, and then each host that has a program and is up has its
+    /// turn, as in [`World::calm`](crate::World::calm). A stranger has none: what waits for it stays, and it says
+    /// nothing.
+    ///
+    /// Errors: memory runs out, which ends the calm, and `Stopped` after that.
+    pub fn calm(&mut self, rounds: u32) -> Result<(), WorldFault>
         ensures { CalmGives (shown C.calls) rounds self.old result self.new }
     {
         if self.is_stopped() {
@@ -98,9 +99,10 @@ impl<C: Carrier> WorldCore<C> {
         Ok(())
     }
 
-    /// Returns whether more rounds of a calm are known to change nothing: the network is known to rest, and each host
-    /// that is up has nothing to say, or is known to be refused what it has to say.
-    pub(crate) fn rests(&self) -> bool
+    /// Returns whether more rounds of a calm are known to change nothing: the network is known to rest, so nothing
+    /// waits in it, for a stranger neither; and each host that has a program and is up has nothing to say, or is known
+    /// to be refused what it has to say.
+    pub fn rests(&self) -> bool
         ensures rest { result ≡ true → IsAtRest (shown C.calls) self.now }
         ensures unchanged { result ≡ true → (n : ℕ) → CalmGives (shown C.calls) n self.now (Ok tt) self.now }
         ensures running { result ≡ true → self.now.stopped ≡ false }
@@ -108,8 +110,8 @@ impl<C: Carrier> WorldCore<C> {
         self.has_calmed(self.crossed())
     }
 
-    /// Returns whether it is known that no host that is up has anything to say.
-    pub(crate) fn is_silent(&self) -> bool
+    /// Returns whether it is known that no host that has a program and is up has anything to say.
+    pub fn is_silent(&self) -> bool
         ensures { result ≡ true → AllSilent self.now.seats }
     {
         all_silent(self.seats())
@@ -157,7 +159,7 @@ impl<C: Carrier> WorldCore<C> {
     fn pass_round(&mut self) -> Result<(), WorldFault>
         ensures { Round (shown C.calls) self.old result self.new }
     {
-        let passed = self.step(&Event::Quiet);
+        let passed = self.turn(&Event::Quiet);
         if stops(&passed) {
             return passed;
         }
@@ -190,7 +192,7 @@ impl<C: Carrier> WorldCore<C> {
     {
         for _ in 0..times {
             let before = self.crossed();
-            let answer = self.step_near(Some(at), event);
+            let answer = self.turn_near(Some(at), event);
             if stops(&answer) {
                 return answer;
             }

@@ -41,7 +41,6 @@ pub mod worked_reports;
 pub mod worked_resets;
 pub mod worked_rest;
 mod world;
-mod world_core;
 
 pub use auditing::{
     Audit, Finding, Part, audit, broken_grants, broken_messages, broken_partners, broken_streams,

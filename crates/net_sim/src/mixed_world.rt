@@ -1,25 +1,28 @@
 //! Hosts over a carrier, some of which are strangers.
 
-ghost use Rattle.std.specs.Prelude.{◌≡◌, ℕ, true, false, [], Ok, IfOk};
+ghost use Rattle.std.specs.Prelude.{◌≡◌, false, [], IfOk, length};
 ghost use Rattle.net_sim.specs.Carriers.{shown};
 ghost use Rattle.net_sim.specs.Handed.{AreUnhanded};
+ghost use Rattle.net_sim.specs.Inside.Mixed.{IsHeldAmong, mixed_of};
+ghost use Rattle.net_sim.specs.Inside.Parts as parts;
+ghost use Rattle.net_sim.specs.Inside.Parts.{AreLive, IsOnce, hosts_of, world_after, world_of};
 ghost use Rattle.net_sim.specs.MixedWorlds.{IsLawfulAmong, MixedRunGives, MixedStepGives};
 ghost use Rattle.net_sim.specs.MixedWorlds.{OpensMixed, opening_mixed, strange_in};
-ghost use Rattle.net_sim.specs.Rest.{IsAtRest};
-ghost use Rattle.net_sim.specs.Silent.{AllSilent};
-ghost use Rattle.net_sim.specs.World.{CalmGives, StepGives};
+ghost use Rattle.net_sim.specs.World as world;
+ghost use Rattle.net_sim.specs.World.{EventGives, StepGives};
 ghost use Rattle.promise.specs.Fates.{AreFated};
 
 use crate::book::Book;
+use crate::events::{follow, is_named, offer, take};
 use crate::mixed::StrangersFault;
 use crate::parts::Hosts;
 use crate::seat::{Seat, ServiceSeat};
-use crate::strangers::{absent_in, programs_of, strangers_of};
+use crate::strangers::{absent_in, follow_mixed, programs_of, strangers_of};
 use crate::world::are_addresses;
-use crate::world_core::{WorldCore, stops};
 use crate::{Event, WorldFault};
 use interface::{Carrier, CarrierFault, HostAddr};
 use promise::{BitLog, Fate};
+use sockets::NcpFault;
 use std::alloc::{AllocError, Global};
 use std::marker::Model;
 
@@ -31,15 +34,21 @@ use std::marker::Model;
 /// every event is refused as `Stopped`, as in a [`World`](crate::World).
 #[derive(Drop)]
 pub struct MixedWorld<C: Carrier> {
-    core: WorldCore<C>,
+    carrier: C,
+    hosts: Hosts,
+    strangers: Vec<HostAddr>,
+    stopped: bool,
 }
 
 impl<C: Carrier> Model for MixedWorld<C> {
+    ghost use Rattle.net_sim.specs.Inside.Mixed.{IsHeldAmong, mixed_of_hosts};
     ghost use Rattle.net_sim.specs.World.{WorldState};
 
     ghost Value = { WorldState C };
 
-    ghost view = { λ w. w.core };
+    ghost view = { λ w. mixed_of_hosts w.carrier w.hosts w.strangers.items w.stopped };
+
+    ghost invariant = { λ w. IsHeldAmong C.calls.seen (mixed_of_hosts w.carrier w.hosts w.strangers.items w.stopped) };
 }
 
 impl<C: Carrier> MixedWorld<C> {
@@ -75,9 +84,20 @@ impl<C: Carrier> MixedWorld<C> {
         let programs = programs_of(alloc, carrier.hosts(), &strangers)?;
         let hosts = Hosts::new(alloc, &programs)?;
         are_addresses(carrier.hosts());
-        Ok(MixedWorld {
-            core: WorldCore::of_parts(carrier, hosts, strangers),
-        })
+        Ok(MixedWorld::of_parts(carrier, hosts, strangers))
+    }
+
+    /// Returns a world of these parts, in which memory has lasted.
+    pub(crate) fn of_parts(carrier: C, hosts: Hosts, strangers: Vec<HostAddr>) -> MixedWorld<C>
+        requires { IsHeldAmong C.calls.seen (mixed_of carrier hosts strangers.items) }
+        ensures { result ≡ mixed_of carrier hosts strangers.items }
+    {
+        MixedWorld {
+            carrier,
+            hosts,
+            strangers,
+            stopped: false,
+        }
     }
 
     /// Returns what happened so far. It is that of a lawful world with strangers, of which the laws of `mixed_worlds` speak: what is
@@ -86,7 +106,7 @@ impl<C: Carrier> MixedWorld<C> {
         ensures value { result ≡ self.now.kept }
         ensures lawful { IsLawfulAmong (strange_in self.now) C.calls.seen (C.calls.seen self.now.carrier).hosts self.now }
     {
-        self.core.book()
+        self.hosts.book(self.carrier.log())
     }
 
     /// Returns what was handed over to be sent, a list of bits for each life, in the order in which the book has the lives. For a
@@ -110,28 +130,43 @@ impl<C: Carrier> MixedWorld<C> {
     pub fn carrier(&self) -> &C
         ensures { result.now ≡ self.now.carrier }
     {
-        self.core.carrier()
+        &self.carrier
     }
 
     /// Returns the hosts with their programs, in the carrier's order.
     pub fn seats(&self) -> &[Seat]
-        ensures { result.now ≡ self.now.seats }
+        ensures value { result.now ≡ self.now.seats }
+        ensures once { self.now.stopped ≡ false → IsOnce (hosts_of self.now.seats) }
     {
-        self.core.seats()
+        self.hosts.seats()
     }
 
     /// Returns what runs on these hosts beside their programs, in the carrier's order.
     pub fn services(&self) -> &[ServiceSeat]
         ensures { result.now ≡ self.now.services }
     {
-        self.core.services()
+        self.hosts.services()
     }
 
     /// Returns the strangers, in the carrier's order.
     pub fn strangers(&self) -> &[HostAddr]
         ensures { result.now ≡ self.now.strangers }
     {
-        self.core.strangers()
+        &self.strangers
+    }
+
+    /// Returns how many crossings there were.
+    pub(crate) fn crossed(&self) -> usize
+        ensures { result ≡ length self.now.kept.book.crossings }
+    {
+        self.hosts.crossed()
+    }
+
+    /// Returns whether running out of memory has stopped it.
+    pub(crate) fn is_stopped(&self) -> bool
+        ensures { result ≡ self.now.stopped }
+    {
+        self.stopped
     }
 
     /// Lets one event happen, or refuses it.
@@ -141,25 +176,53 @@ impl<C: Carrier> MixedWorld<C> {
     pub fn step(&mut self, event: Event) -> Result<(), WorldFault>
         ensures { MixedStepGives (shown C.calls) self.old event result self.new }
     {
-        self.core.step_among(event)
+        if self.stopped {
+            return Err(WorldFault::Carrier(CarrierFault::Stopped));
+        }
+        is_named(&event);
+        let done = follow_mixed(&mut self.carrier, &mut self.hosts, &self.strangers, event);
+        // for the proof only, as in `turn_near`
+        let _ = self.carrier.log();
+        self.stopped = runs_out(&done);
+        done
     }
 
     /// Lets one event happen as those of a calm do, in which no stranger has a turn: at a stranger it is refused, as at a host
     /// that the network doesn't have, and what waits for it stays.
     ///
     /// Errors: those of [`World::step`](crate::World::step).
-    pub fn turn(&mut self, event: Event) -> Result<(), WorldFault>
-        ensures gives { StepGives (shown C.calls) self.old event result self.new }
+    pub fn turn(&mut self, event: &Event) -> Result<(), WorldFault>
+        ensures gives { StepGives (shown C.calls) self.old event.now result self.new }
         ensures strangers { self.new.strangers ≡ self.old.strangers }
     {
-        self.core.step(&event)
+        self.turn_near(None, event)
+    }
+
+    /// Lets one event happen as [`MixedWorld::turn`] does. The seat of a host that takes or offers is looked for at a likely place
+    /// first, if one is given.
+    pub(crate) fn turn_near(
+        &mut self,
+        likely: Option<usize>,
+        event: &Event,
+    ) -> Result<(), WorldFault>
+        ensures { StepGives (shown C.calls) self.old event.now result self.new }
+    {
+        is_named(event);
+        if self.stopped {
+            return Err(WorldFault::Carrier(CarrierFault::Stopped));
+        }
+        let done = follow_near(&mut self.carrier, &mut self.hosts, likely, event);
+        // for the proof only: the log is a run of the mailboxes, which is a part of what a world keeps
+        let _ = self.carrier.log();
+        self.stopped = runs_out(&done);
+        done
     }
 
     /// Lets one event happen after the other. It continues after a refusal, and ends when memory runs out.
     pub fn run(&mut self, events: Vec<Event>) -> Result<(), WorldFault>
         ensures { MixedRunGives (shown C.calls) self.old events.items result self.new }
     {
-        if self.core.is_stopped() {
+        if self.stopped {
             return Err(WorldFault::Carrier(CarrierFault::Stopped));
         }
         for event in events {
@@ -170,33 +233,47 @@ impl<C: Carrier> MixedWorld<C> {
         }
         Ok(())
     }
+}
 
-    /// Passes `rounds` times: a quiet round of the network, and then each host that has a program and is up has its
-    /// turn, as in [`World::calm`](crate::World::calm). A stranger has none: what waits for it stays, and it says
-    /// nothing.
-    ///
-    /// Errors: memory runs out, which ends the calm, and `Stopped` after that.
-    pub fn calm(&mut self, rounds: u32) -> Result<(), WorldFault>
-        ensures { CalmGives (shown C.calls) rounds self.old result self.new }
-    {
-        self.core.calm(rounds)
+/// Lets any event happen, as [`follow`] does, at a likely place if one is given.
+fn follow_near<C: Carrier>(
+    carrier: &mut C,
+    hosts: &mut Hosts,
+    likely: Option<usize>,
+    event: &Event,
+) -> Result<(), WorldFault>
+    requires live { AreLive hosts.old.seats }
+    ensures { EventGives (shown C.calls) (world_of carrier.old hosts.old) event.now result (world_after carrier.new hosts.new result) }
+{
+    match (likely, event) {
+        (Some(at), Event::Offer(host)) => offer(carrier, hosts, at, *host),
+        (Some(at), Event::Take(host)) => take(carrier, hosts, at, *host),
+        _ => follow(carrier, hosts, event),
     }
+}
 
-    /// Returns whether more rounds of a calm are known to change nothing: the network is known to rest, so nothing
-    /// waits in it, for a stranger neither; and each host that has a program and is up has nothing to say, or is known
-    /// to be refused what it has to say.
-    pub fn rests(&self) -> bool
-        ensures rest { result ≡ true → IsAtRest (shown C.calls) self.now }
-        ensures unchanged { result ≡ true → (n : ℕ) → CalmGives (shown C.calls) n self.now (Ok tt) self.now }
-        ensures running { result ≡ true → self.now.stopped ≡ false }
-    {
-        self.core.rests()
-    }
+/// Returns whether memory ran out.
+fn runs_out(done: &Result<(), WorldFault>) -> bool
+    ensures { result ≡ parts.runs_out done.now }
+{
+    matches!(
+        done,
+        Err(
+            WorldFault::Carrier(CarrierFault::OutOfMemory)
+                | WorldFault::Program(NcpFault::OutOfMemory)
+        )
+    )
+}
 
-    /// Returns whether it is known that no host that has a program and is up has anything to say.
-    pub fn is_silent(&self) -> bool
-        ensures { result ≡ true → AllSilent self.now.seats }
-    {
-        self.core.is_silent()
-    }
+/// Returns whether a list of events ends after this answer.
+pub(crate) fn stops(done: &Result<(), WorldFault>) -> bool
+    ensures { result ≡ world.stops done.now }
+{
+    matches!(
+        done,
+        Err(
+            WorldFault::Carrier(CarrierFault::OutOfMemory | CarrierFault::Stopped)
+                | WorldFault::Program(NcpFault::OutOfMemory)
+        )
+    )
 }

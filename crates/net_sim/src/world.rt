@@ -12,9 +12,9 @@ ghost use Rattle.net_sim.specs.World.{CalmGives, opening_world, StepGives, RunGi
 ghost use Rattle.promise.specs.Fates.{AreFated};
 
 use crate::book::Book;
+use crate::mixed_world::{MixedWorld, stops};
 use crate::parts::Hosts;
 use crate::seat::{Seat, ServiceSeat};
-use crate::world_core::{WorldCore, stops};
 use crate::{Event, WorldFault};
 use interface::{Carrier, CarrierFault, HostAddr};
 use promise::{BitLog, Fate};
@@ -28,7 +28,7 @@ use std::marker::Model;
 /// the book as it was, and after it every event is refused as `Stopped`.
 #[derive(Drop)]
 pub struct World<C: Carrier> {
-    core: WorldCore<C>,
+    core: MixedWorld<C>,
 }
 
 impl<C: Carrier> Model for World<C> {
@@ -55,7 +55,7 @@ impl<C: Carrier> World<C> {
         let hosts = Hosts::new(alloc, carrier.hosts())?;
         are_addresses(carrier.hosts());
         Ok(World {
-            core: WorldCore::of_parts(carrier, hosts, Vec::new(alloc)),
+            core: MixedWorld::of_parts(carrier, hosts, Vec::new(alloc)),
         })
     }
 
@@ -180,7 +180,7 @@ impl<C: Carrier> World<C> {
     fn follow(&mut self, event: &Event) -> Result<(), WorldFault>
         ensures { StepGives (shown C.calls) self.old event.now result self.new }
     {
-        self.core.step(event)
+        self.core.turn(event)
     }
 }
 

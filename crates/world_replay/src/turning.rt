@@ -54,6 +54,6 @@ impl<C: Carrier> Turning<C> for MixedWorld<C> {
     }
 
     fn turn(&mut self, event: Event) -> Result<(), WorldFault> {
-        MixedWorld::turn(self, event)
+        MixedWorld::turn(self, &event)
     }
 }

@@ -4,5 +4,5 @@ use Rattle.net_sim.proofs.mixed_world.MixedWorld.turn.Goals as goal
 
 pub returns-clause-strangers : goal.returns-clause-strangers
 returns-clause-strangers g c =
-    let gives : StepGives (shown g.C.Carrier.calls) c.args.self.now c.args.event c.step.result c.step.new.self = search rules in
-    step_same (shown g.C.Carrier.calls) c.args.event c.args.self.now c.step.result c.step.new.self gives
+    let gives : StepGives (shown g.C.Carrier.calls) c.args.self.now c.args.event.now c.turn_near.result c.turn_near.new.self = search rules in
+    step_same (shown g.C.Carrier.calls) c.args.event.now c.args.self.now c.turn_near.result c.turn_near.new.self gives

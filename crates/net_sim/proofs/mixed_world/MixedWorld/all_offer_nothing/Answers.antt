@@ -1,6 +1,6 @@
 use Rattle.net_sim.specs.Inside.Calm.{OffersNothingAt}
 use Rattle.net_sim.proofs.Hosts.Resting.{one_more}
-use Rattle.net_sim.proofs.world_core.WorldCore.all_offer_nothing.Goals as goal
+use Rattle.net_sim.proofs.mixed_world.MixedWorld.all_offer_nothing.Goals as goal
 
 pub loop-at-preserved : goal.loop-at-preserved
 loop-at-preserved g c =

@@ -1,5 +1,5 @@
 use Rattle.net_sim.proofs.Books.Lent.{lent}
-use Rattle.net_sim.proofs.world_core.WorldCore.book.Goals as goal
+use Rattle.net_sim.proofs.mixed_world.MixedWorld.book.Goals as goal
 
 pub book-requires : goal.book-requires
 book-requires g c =

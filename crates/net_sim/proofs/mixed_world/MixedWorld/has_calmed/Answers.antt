@@ -1,6 +1,6 @@
 use Rattle.net_sim.proofs.Common.{◌≡◌, false, subst, sym, ◌∙◌, Calls, Rests, WorldState}
 use Rattle.net_sim.proofs.Hosts.Resting.{at_rest}
-use Rattle.net_sim.proofs.world_core.WorldCore.has_calmed.Goals as goal
+use Rattle.net_sim.proofs.mixed_world.MixedWorld.has_calmed.Goals as goal
 
 pub returns : goal.returns
 returns g c = λ e.

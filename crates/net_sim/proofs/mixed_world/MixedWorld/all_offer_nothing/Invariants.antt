@@ -1,6 +1,6 @@
 use Rattle.std.proofs.Common.{ℕ, ◌<◌}
 use Rattle.net_sim.specs.Inside.Calm.{OffersNothingAt}
-use Rattle.net_sim.proofs.world_core.WorldCore.all_offer_nothing.Given as goal
+use Rattle.net_sim.proofs.mixed_world.MixedWorld.all_offer_nothing.Given as goal
 
 -- the hosts so far
 abbrev pub invariant-loop-at : goal.invariant-loop-at

@@ -2,7 +2,7 @@ use Rattle.net_sim.proofs.Common.{rules, runs_out, ◌≡◌, shown, world_ended
 use Rattle.net_sim.specs.Inside.Mixed.{IsHeldAmong, among}
 use Rattle.net_sim.specs.MixedWorlds.{AmongGives}
 use Rattle.net_sim.proofs.Books.HeldMixed.{core_live, mixed_held, mixed_steps}
-use Rattle.net_sim.proofs.world_core.WorldCore.step_among.Goals as goal
+use Rattle.net_sim.proofs.mixed_world.MixedWorld.step.Goals as goal
 
 pub follow_mixed-done-requires : goal.follow_mixed-done-requires
 follow_mixed-done-requires g c = record {

@@ -1,6 +1,6 @@
 use Rattle.net_sim.proofs.Common.{shown, Calls}
 use Rattle.net_sim.proofs.Hosts.Calming.{Passed}
-use Rattle.net_sim.proofs.world_core.WorldCore.calm.Given as goal
+use Rattle.net_sim.proofs.mixed_world.MixedWorld.calm.Given as goal
 
 -- this many rounds have passed
 abbrev pub invariant-loop : goal.invariant-loop

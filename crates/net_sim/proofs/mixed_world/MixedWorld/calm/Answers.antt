@@ -1,7 +1,7 @@
 use Rattle.net_sim.proofs.Common.{◌≡◌, ◌+◌, true, false, Ok, sym, ◌∙◌, shown, stops, Calls}
 use Rattle.net_sim.proofs.Hosts.Calming.{begun, none_passed, one_passed, stop_passed, all_passed}
 use Rattle.net_sim.proofs.Hosts.Resting.{rest_passed}
-use Rattle.net_sim.proofs.world_core.WorldCore.calm.Goals as goal
+use Rattle.net_sim.proofs.mixed_world.MixedWorld.calm.Goals as goal
 
 pub returns-then-stops : goal.returns-then-stops
 returns-then-stops g c =

@@ -1,7 +1,7 @@
 use Rattle.net_sim.proofs.Common.{Ok, shown, WorldState, Calls}
 use Rattle.net_sim.proofs.Hosts.Calming.{begun, none_passed}
 use Rattle.net_sim.proofs.Hosts.Resting.{rest_passed}
-use Rattle.net_sim.proofs.world_core.WorldCore.rests.Goals as goal
+use Rattle.net_sim.proofs.mixed_world.MixedWorld.rests.Goals as goal
 
 pub returns-clause-unchanged : goal.returns-clause-unchanged
 returns-clause-unchanged g c = λ rests times.

@@ -1,7 +1,7 @@
 use Rattle.net_sim.proofs.Common.{rules, ◌≡◌, shown, world_ended, running, runs_out, EventGives, WorldState, Calls}
 use Rattle.net_sim.specs.Inside.Mixed.{IsHeldAmong, among}
 use Rattle.net_sim.proofs.Books.HeldMixed.{core_live, event_steps, step_held}
-use Rattle.net_sim.proofs.world_core.WorldCore.step_near.Goals as goal
+use Rattle.net_sim.proofs.mixed_world.MixedWorld.turn_near.Goals as goal
 
 pub follow_near-done-requires : goal.follow_near-done-requires
 follow_near-done-requires g c = record {

@@ -1,6 +1,6 @@
 use Rattle.net_sim.proofs.Common.{shown, Calls}
 use Rattle.net_sim.proofs.Hosts.Calming.{Turned}
-use Rattle.net_sim.proofs.world_core.WorldCore.pass_round.Given as goal
+use Rattle.net_sim.proofs.mixed_world.MixedWorld.pass_round.Given as goal
 
 -- the hosts before this place have had their turns
 abbrev pub invariant-loop-at : goal.invariant-loop-at

@@ -1,6 +1,6 @@
 use Rattle.net_sim.proofs.Common.{shown, Calls}
 use Rattle.net_sim.proofs.Hosts.Calming.{Repeated}
-use Rattle.net_sim.proofs.world_core.WorldCore.repeat.Given as goal
+use Rattle.net_sim.proofs.mixed_world.MixedWorld.repeat.Given as goal
 
 -- something has crossed each time
 abbrev pub invariant-loop : goal.invariant-loop

@@ -1,6 +1,6 @@
 use Rattle.net_sim.proofs.Common.{◌≡◌, true, false, sym, ◌∙◌, shown, stops, Calls}
 use Rattle.net_sim.proofs.Hosts.Calming.{stop_turn, whole_turn}
-use Rattle.net_sim.proofs.world_core.WorldCore.take_turn.Goals as goal
+use Rattle.net_sim.proofs.mixed_world.MixedWorld.take_turn.Goals as goal
 
 pub returns-then-stops : goal.returns-then-stops
 returns-then-stops g c =
