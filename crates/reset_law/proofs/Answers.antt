@@ -1,5 +1,5 @@
 -- An answer that a host is given keeps the invariant.
-use Rattle.std.proofs.Common.{◌≡◌, ◌≢◌, ◌⊎◌, ℕ, Bool, true, false, Option, Some, None, refl, ap, sym, subst, ◌∙◌, inl, inr, if◌then◌else◌, ◌==◌}
+use Rattle.std.proofs.Common.{◌≡◌, ◌≢◌, ◌⊎◌, ℕ, Bool, true, false, Option, Some, None, refl, ap, sym, subst, ◌∙◌, inl, inr, if◌then◌else◌}
 use Rattle.std.specs.Prelude.{is_some}
 use Rattle.interface.specs.declared.crossing.Answer.{Answer}
 use Rattle.interface.specs.declared.crossing.Answer.TheVariants as answer
@@ -142,10 +142,10 @@ shape_rfnm : (ph : Phase) (l : ℕ) (m : Monitor) (begun : Bool) (out : ℕ → 
     → Shape (rfnm_phase l ph) (monitor_told l answer.Rfnm m) begun (at_link out l None)
 shape_rfnm Closed l m begun out alone there s =
     let S : Phase → Type 0 = λ ph. Shape ph (monitor_told l answer.Rfnm m) begun (at_link out l None) in
-    subst S (sym (same_either (l == 0) Closed)) (record { idle = s.idle; silent = s.silent; no_rst = no_rst_cleared l out s.no_rst })
+    subst S (sym (same_either _ Closed)) (record { idle = s.idle; silent = s.silent; no_rst = no_rst_cleared l out s.no_rst })
 shape_rfnm Want l m begun out alone there s =
     let S : Phase → Type 0 = λ ph. Shape ph (monitor_told l answer.Rfnm m) begun (at_link out l None) in
-    subst S (sym (same_either (l == 0) Want)) (record {
+    subst S (sym (same_either _ Want)) (record {
       pending = s.pending;
       silent = s.silent;
       none_after = none_after_cleared l m.after s.none_after;
@@ -160,7 +160,7 @@ shape_rfnm (Gone early) l m begun out alone there s =
 shape_rfnm Heard l m begun out alone there s =
     let S : Phase → Type 0 = λ ph. Shape ph (monitor_told l answer.Rfnm m) begun (at_link out l None) in
     let stage : m.stage ≡ Received = s.stage in
-    subst S (sym (same_either (l == 0) Heard)) (record {
+    subst S (sym (same_either _ Heard)) (record {
       pending = s.pending;
       silent = s.silent;
       stage = rw stage refl;
@@ -171,7 +171,7 @@ shape_rfnm Heard l m begun out alone there s =
     })
 shape_rfnm Ready l m begun out alone there s =
     let S : Phase → Type 0 = λ ph. Shape ph (monitor_told l answer.Rfnm m) begun (at_link out l None) in
-    subst S (sym (same_either (l == 0) Ready)) (record { idle = s.idle; point = s.point; clean = s.clean; no_rst = no_rst_cleared l out s.no_rst })
+    subst S (sym (same_either _ Ready)) (record { idle = s.idle; point = s.point; clean = s.clean; no_rst = no_rst_cleared l out s.no_rst })
 
 -- ---- failures
 
@@ -248,20 +248,20 @@ sound_failed : (l : ℕ) (p : Pair) (m : Monitor) (boxes : ℕ → Box) → is_s
 sound_failed l p m boxes there s =
     let o : Outstanding p m boxes = s.outstanding in
     record {
-      outstanding = cleared l p m (monitor_failed l m) boxes (failed_phase p.phase p.owed) (if p.owed then p.begun else false) refl (less_begun p.owed p.begun) o;
+      outstanding = cleared l p m _ boxes _ _ refl (less_begun p.owed p.begun) o;
       shape = shape_failed p.phase p.owed l m p.begun p.out o.owes o.alone there s.shape;
     }
 
 pub sound_told : (l : ℕ) (k : Answer) (p : Pair) (m : Monitor) (boxes : ℕ → Box) → Fits k (boxes l) → Sound p m boxes → Sound (pair_answered l k p) (monitor_told l k m) (at_link boxes l Empty)
 sound_told l k p m boxes fits s =
     let o : Outstanding p m boxes = s.outstanding in
-    by k (ap is_some (o.boxed l) ∙ fits_some k (boxes l) fits)
+    by k (ap is_some (o.boxed l) ∙ fits_some k _ fits)
   where
     by : (k : Answer) → is_some (p.out l) ≡ true → Sound (pair_answered l k p) (monitor_told l k m) (at_link boxes l Empty)
     by answer.Rfnm there =
         let o : Outstanding p m boxes = s.outstanding in
         record {
-          outstanding = cleared l p m (monitor_told l answer.Rfnm m) boxes (rfnm_phase l p.phase) p.begun refl (λ e. e) o;
+          outstanding = cleared l p m _ boxes _ p.begun refl (λ e. e) o;
           shape = shape_rfnm p.phase l m p.begun p.out o.alone there s.shape;
         }
     by answer.Dead there = sound_failed l p m boxes there s

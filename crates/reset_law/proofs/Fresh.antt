@@ -1,5 +1,5 @@
 -- A host that is through a reset takes only what went out after its last clean point.
-use Rattle.std.proofs.Common.{◌≡◌, ◌≢◌, ◌⊎◌, ℕ, ◌+◌, ◌<◌, Bool, true, false, ◌&&◌, List, [], ◌∷◌, Option, Some, None, refl, ap, sym, subst, ◌∙◌, inl, inr, if◌then◌else◌, ◌==◌, arith}
+use Rattle.std.proofs.Common.{◌≡◌, ◌≢◌, ◌⊎◌, ℕ, ◌+◌, ◌<◌, Bool, true, false, ◌&&◌, List, [], ◌∷◌, Option, Some, None, refl, ap, sym, subst, ◌∙◌, inl, inr, if◌then◌else◌, arith}
 use Rattle.std.proofs.lemmas.Bool.{and_from}
 use Rattle.interface.specs.Host.{Host, same_host}
 use Rattle.interface.specs.declared.crossing.Answer.TheVariants as answer
@@ -8,9 +8,9 @@ use Rattle.ncp_control.specs.Phases.{taken_phase, failed_phase}
 use Rattle.ncp_control.specs.declared.phase.Phase.{Phase}
 use Rattle.ncp_control.specs.declared.phase.Phase.TheVariants.{Closed, Want, Gone, Heard, Ready}
 use Rattle.reset_law.specs.Events.{Message, Reset, Reply, Other, Event, Contact, Out, In, Told, Down, Up, Idle, Part, Call, Send, Take, Hear, Begin, when, are, place}
-use Rattle.reset_law.specs.Boxes.{Box, Empty, Waiting, Taken, WaitsWith, Post, Put, Fetch, Clear, ClearAll, fetched, posted, at_link, boxes}
+use Rattle.reset_law.specs.Boxes.{Box, Empty, Waiting, Taken, WaitsWith, Post, Put, Fetch, ClearAll, fetched, posted, at_link, boxes}
 use Rattle.reset_law.specs.Pairs.{Pair, kind_of, pair_moved, pair}
-use Rattle.reset_law.specs.Monitor.{Monitor, IsAfter, monitored, monitor, counts}
+use Rattle.reset_law.specs.Monitor.{Monitor, IsAfter, monitored, monitor}
 use Rattle.reset_law.specs.Invariant.{kind_in, is_signal, InReady, Shape, Sound}
 use Rattle.reset_law.specs.Runs.{IsRun, WaitsAfterClean}
 use Rattle.reset_law.proofs.Links.{at}
@@ -41,7 +41,7 @@ past_step (Send l Reset) here m h = past_more here m.clean h
 past_step (Send l Reply) here m h = past_more here m.clean h
 past_step (Send l (Other text)) here m h = past_more here m.clean h
 past_step (Take Reset) here m h = past_either m.pending here m.clean h
-past_step (Take Reply) here m h = past_other (counts m) here m.clean h
+past_step (Take Reply) here m h = past_other _ here m.clean h
 past_step (Take (Other text)) here m h = past_more here m.clean h
 past_step (Hear l answer.Rfnm) here m h = past_more here m.clean h
 past_step (Hear l c) here m h = past_more here m.clean h
@@ -57,12 +57,12 @@ past_call false here m h = h
 
 past_run : (events : List Event) (a b : Host) → IsPast (place events) (monitor a b events).clean
 past_run [] a b = tt
-past_run (Contact x y ∷ events) a b = past_call (are a b x y) (place events) (monitor a b events) (past_run events a b)
-past_run (Out x y l message ∷ events) a b = past_if (are a b x y) (Send l message) (place events) (monitor a b events) (past_run events a b)
-past_run (In x y l message ∷ events) a b = past_if (are a b y x) (Take message) (place events) (monitor a b events) (past_run events a b)
-past_run (Told x y l k ∷ events) a b = past_if (are a b x y) (Hear l k) (place events) (monitor a b events) (past_run events a b)
-past_run (Down x ∷ events) a b = past_if (same_host a x) Begin (place events) (monitor a b events) (past_run events a b)
-past_run (Up x ∷ events) a b = past_if (same_host a x) Begin (place events) (monitor a b events) (past_run events a b)
+past_run (Contact x y ∷ events) a b = past_call _ _ _ (past_run events a b)
+past_run (Out x y l message ∷ events) a b = past_if _ _ _ _ (past_run events a b)
+past_run (In x y l message ∷ events) a b = past_if _ _ _ _ (past_run events a b)
+past_run (Told x y l k ∷ events) a b = past_if _ _ _ _ (past_run events a b)
+past_run (Down x ∷ events) a b = past_if _ Begin _ _ (past_run events a b)
+past_run (Up x ∷ events) a b = past_if _ Begin _ _ (past_run events a b)
 past_run (Idle ∷ events) a b = past_run events a b
 
 -- ---- what stays ready
@@ -96,7 +96,7 @@ plain_ready (Send l (Other text)) here p m plain e = (e, refl)
 plain_ready (Take Reset) here p m plain e = absurd plain
 plain_ready (Take Reply) here p m plain e = absurd plain
 plain_ready (Take (Other text)) here p m plain e = (e, refl)
-plain_ready (Hear l answer.Rfnm) here p m plain e = (ready_after_rfnm (l == 0) p.phase e, refl)
+plain_ready (Hear l answer.Rfnm) here p m plain e = (ready_after_rfnm _ p.phase e, refl)
 plain_ready (Hear l c) here p m plain e = (ready_after_failure p.phase p.owed e, refl)
 plain_ready Begin here p m plain e = absurd (cc)
 
@@ -205,18 +205,18 @@ fresh_run hosts (In x y l message ∷ events) r a b ours ready = elim (ready_tak
 ]
 fresh_run hosts (Told x y l k ∷ events) r a b ours ready =
     let t : ((pair b a events).phase ≡ Ready) × ((monitor b a (Told x y l k ∷ events)).clean ≡ (monitor b a events).clean) =
-    still_ready (are b a x y) (Hear l k) (place events) (pair b a events) (monitor b a events) tt ready in
+    still_ready _ _ _ _ _ tt ready in
     subst (λ (o : Option ℕ). IsFresh (boxes a b (Told x y l k ∷ events)) o) (sym t.1)
-    (fresh_if (are a b x y) (Clear l) (place events) (boxes a b events) (monitor b a events).clean
+    (fresh_if _ _ _ _ _
     (λ e. fresh_cleared (boxes a b events) l (monitor b a events).clean (fresh_run hosts events r.2 a b ours t.0))
     (fresh_run hosts events r.2 a b ours t.0))
 fresh_run hosts (Down x ∷ events) r a b ours ready =
-    let t : ((pair b a events).phase ≡ Ready) × ((monitor b a (Down x ∷ events)).clean ≡ (monitor b a events).clean) = still_ready (same_host b x) Begin (place events) (pair b a events) (monitor b a events) tt ready in
+    let t : ((pair b a events).phase ≡ Ready) × ((monitor b a (Down x ∷ events)).clean ≡ (monitor b a events).clean) = still_ready _ Begin _ _ _ tt ready in
     subst (λ (o : Option ℕ). IsFresh (boxes a b events) o) (sym t.1) (fresh_run hosts events r.2 a b ours t.0)
 fresh_run hosts (Up x ∷ events) r a b ours ready =
-    let t : ((pair b a events).phase ≡ Ready) × ((monitor b a (Up x ∷ events)).clean ≡ (monitor b a events).clean) = still_ready (same_host b x) Begin (place events) (pair b a events) (monitor b a events) tt ready in
+    let t : ((pair b a events).phase ≡ Ready) × ((monitor b a (Up x ∷ events)).clean ≡ (monitor b a events).clean) = still_ready _ Begin _ _ _ tt ready in
     subst (λ (o : Option ℕ). IsFresh (boxes a b (Up x ∷ events)) o) (sym t.1)
-    (fresh_if (same_host a x) ClearAll (place events) (boxes a b events) (monitor b a events).clean (λ e l p text waits. absurd (cc)) (fresh_run hosts events r.2 a b ours t.0))
+    (fresh_if _ ClearAll _ _ _ (λ e l p text waits. absurd (cc)) (fresh_run hosts events r.2 a b ours t.0))
 fresh_run hosts (Idle ∷ events) r a b ours ready = fresh_run hosts events r.2 a b ours ready
 
 -- the box of a message that is taken
@@ -228,5 +228,5 @@ waiting (Taken p n) m w = absurd w
 pub clean_run : (hosts : Network) (events : List Event) (a b : Host) (l : ℕ) (text : List Bool) → AreOurs hosts a b → IsRun hosts (In a b l (Other text) ∷ events) → (pair b a events).phase ≡ Ready
     → WaitsAfterClean a b l text events
 clean_run hosts events a b l text ours r ready =
-    let w : (p : ℕ) × (boxes a b events l ≡ Waiting p (Other text)) = waiting (boxes a b events l) (Other text) r.0.1 in
+    let w : (p : ℕ) × (boxes a b events l ≡ Waiting p (Other text)) = waiting _ _ r.0.1 in
     record { place = w.0; waits = w.1; after = fresh_run hosts events r.2 a b ours ready l w.0 text w.1 }

@@ -1,14 +1,14 @@
 -- Two hosts that are both through a reset: how that begins, and what it keeps.
 pub use Rattle.reset_law.proofs.Runs.{up_and_down as contradicts}
 use Rattle.std.proofs.Common.{◌≡◌, ◌≢◌, ◌⊎◌, ℕ, Bool, true, false, List, [], ◌∷◌, Option, Some, None, refl, ap, sym, subst, ◌∙◌, inl, inr}
-use Rattle.interface.specs.Host.{Host, same_host}
+use Rattle.interface.specs.Host.{Host}
 use Rattle.interface.specs.declared.crossing.Answer.{Answer}
 use Rattle.interface.specs.declared.crossing.Answer.TheVariants as answer
 use Rattle.ncp_control.specs.Phases.{reset_phase}
 use Rattle.ncp_control.specs.declared.phase.Phase.{Phase}
 use Rattle.ncp_control.specs.declared.phase.Phase.TheVariants.{Want, Gone, Ready}
 use Rattle.reset_law.specs.Events.{Message, Reset, Reply, Other, Event, Contact, Out, In, Told, Down, Up, Idle, Call, Send, Take, Hear, Begin, when, are, place, is_up}
-use Rattle.reset_law.specs.Boxes.{Box, Empty, Waiting, Taken, WaitsWith, Post, Put, Fetch, Clear, ClearAll, fetched, posted, at_link, boxes}
+use Rattle.reset_law.specs.Boxes.{Box, Empty, Waiting, Taken, WaitsWith, Post, Put, Fetch, ClearAll, fetched, posted, at_link, boxes}
 use Rattle.reset_law.specs.Pairs.{Kind, Rst, Plain, kind_of, Pair, MaySend, pair_moved, pair}
 use Rattle.reset_law.specs.Monitor.{Monitor, monitor}
 use Rattle.reset_law.specs.Invariant.{kind_in, is_signal, Outstanding, Shape, Sound}
@@ -53,12 +53,12 @@ reset_unready hosts events x y l r v w ours same ready =
     let s : Sound (pair w v events) (monitor w v events) (boxes w v events) = sound_run hosts events r.2 w v (ours.1, ours.0) up in
     let o : Outstanding (pair w v events) (monitor w v events) (boxes w v events) = s.outstanding in
     let waits : WaitsWith (boxes w v events l) Reset = carry (λ i j. WaitsWith (boxes i j events l) Reset) w v x y (turned_about w v x y same) r.0.1 in
-    let out : (pair w v events).out l ≡ Some Rst = o.boxed l ∙ rst_kind (boxes w v events l) waits in
+    let out : (pair w v events).out l ≡ Some Rst = o.boxed l ∙ rst_kind _ waits in
     let zero : l ≡ 0 = o.on_zero l (ap is_signal out) in
     let rst : (pair w v events).out 0 ≡ Some Rst = subst (λ (k : ℕ). (pair w v events).out k ≡ Some Rst) zero out in
     let no_ready : ((pair w v events).phase ≢ Ready) × (reset_phase (pair w v events).phase ≢ Ready) =
-    unready (pair w v events).phase (monitor w v events) (pair w v events).begun (pair w v events).out s.shape rst in
-    elim (taken_either (are w v y x) (pair w v events) ready) [
+    unready _ _ _ _ s.shape rst in
+    elim (taken_either _ _ ready) [
       | inl e ↦ no_ready.0 e
       | inr e ↦ no_ready.1 e
     ]
@@ -169,7 +169,7 @@ owes_run hosts (In x y l m ∷ events) r a b ours owed prepared = elim (ready_ta
   | inr t ↦ elim (owed_taken (are a b y x) m (pair a b events) owed) [
     | inl old ↦
         (let h : NoPlain (boxes a b events) = owes_run hosts events r.2 a b ours old t.0 in
-        plain_if (are a b x y) (Fetch l) (place events) (boxes a b events) (λ e. plain_fetched (boxes a b events) l h) h)
+        plain_if (are a b x y) _ _ _ (λ e. plain_fetched (boxes a b events) l h) h)
     | inr taken ↦ absurd (took_reset taken.1 taken.0)
   ]
 ] where
@@ -180,12 +180,12 @@ owes_run hosts (In x y l m ∷ events) r a b ours owed prepared = elim (ready_ta
       reset_unready hosts events x y l q a b ours same p
 owes_run hosts (Told x y l k ∷ events) r a b ours owed prepared =
     let h : NoPlain (boxes a b events) =
-    owes_run hosts events r.2 a b ours (owed_told (are a b x y) l k (pair a b events) owed) (still_ready (are b a x y) (Hear l k) (place events) (pair b a events) (monitor b a events) tt prepared).0 in
-    plain_if (are a b x y) (Clear l) (place events) (boxes a b events) (λ e. plain_cleared (boxes a b events) l h) h
+    owes_run hosts events r.2 a b ours (owed_told _ l k _ owed) (still_ready (are b a x y) (Hear l k) (place events) (pair b a events) (monitor b a events) tt prepared).0 in
+    plain_if _ _ _ _ (λ e. plain_cleared (boxes a b events) l h) h
 owes_run hosts (Down x ∷ events) r a b ours owed prepared =
-    owes_run hosts events r.2 a b ours (owed_begin (same_host a x) (pair a b events) owed) (still_ready (same_host b x) Begin (place events) (pair b a events) (monitor b a events) tt prepared).0
+    owes_run hosts events r.2 a b ours (owed_begin _ _ owed) (still_ready _ Begin (place events) _ (monitor b a events) tt prepared).0
 owes_run hosts (Up x ∷ events) r a b ours owed prepared =
     let h : NoPlain (boxes a b events) =
-    owes_run hosts events r.2 a b ours (owed_begin (same_host a x) (pair a b events) owed) (still_ready (same_host b x) Begin (place events) (pair b a events) (monitor b a events) tt prepared).0 in
-    plain_if (same_host a x) ClearAll (place events) (boxes a b events) (λ e k plain. absurd (cc)) h
+    owes_run hosts events r.2 a b ours (owed_begin _ _ owed) (still_ready _ Begin (place events) _ (monitor b a events) tt prepared).0 in
+    plain_if _ ClearAll _ _ (λ e k plain. absurd (cc)) h
 owes_run hosts (Idle ∷ events) r a b ours owed prepared = owes_run hosts events r.2 a b ours owed prepared

@@ -18,7 +18,7 @@ kinds true x y = refl
 kinds false x y = refl
 
 pub boxed_at : (out : ℕ → Option Kind) (boxes : ℕ → Box) (l : ℕ) (x : Box) → ((k : ℕ) → out k ≡ kind_in (boxes k)) → (k : ℕ) → at_link out l (kind_in x) k ≡ kind_in (at_link boxes l x k)
-boxed_at out boxes l x h k = ap (λ (o : Option Kind). if k == l then kind_in x else o) (h k) ∙ kinds (k == l) x (boxes k)
+boxed_at out boxes l x h k = ap (λ (o : Option Kind). if k == l then kind_in x else o) (h k) ∙ kinds _ x _
 
 -- a message that is taken is still outstanding
 pub fetched_kind : (x : Box) → kind_in (fetched x) ≡ kind_in x

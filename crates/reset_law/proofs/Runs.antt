@@ -4,8 +4,8 @@ use Rattle.std.proofs.Common.{◌≡◌, ◌≢◌, ℕ, Bool, true, false, List
 use Rattle.interface.specs.Host.{Host, same_host}
 use Rattle.interface.proofs.lemmas.{and_true, same_host-true}
 use Rattle.ncp_control.specs.declared.phase.Phase.TheVariants.{Closed, Ready}
-use Rattle.reset_law.specs.Events.{Message, Reset, Reply, Other, Event, Contact, Out, In, Told, Down, Up, Idle, Part, Call, Send, Take, Hear, Begin, when, are, place, is_up}
-use Rattle.reset_law.specs.Boxes.{Box, Empty, Waiting, Taken, Post, Put, Fetch, Clear, ClearAll, Fits, fetched, posted, at_link, boxes}
+use Rattle.reset_law.specs.Events.{Message, Reset, Reply, Other, Event, Contact, Out, In, Told, Down, Up, Idle, Part, Call, Send, Take, Begin, when, are, place, is_up}
+use Rattle.reset_law.specs.Boxes.{Box, Empty, Waiting, Taken, Post, Put, ClearAll, Fits, fetched, posted, at_link, boxes}
 use Rattle.reset_law.specs.Pairs.{Pair, MaySend, opening_pair, pair_moved, pair}
 use Rattle.reset_law.specs.Monitor.{Monitor, monitored, monitor}
 use Rattle.reset_law.specs.Invariant.{kind_in, is_signal, Outstanding, Sound}
@@ -71,26 +71,26 @@ pub sound_run : (hosts : Network) (events : List Event) → IsRun hosts events �
 sound_run hosts [] r a b ours up = sound_opening
 sound_run hosts (Contact x y ∷ events) r a b ours up =
     let h : Sound (pair a b events) (monitor a b events) (boxes a b events) = sound_run hosts events r.2 a b ours up in
-    chosen_part (are a b x y) Call (place events) (pair a b events) (monitor a b events) (boxes a b events) (λ e. sound_contact (place events) (pair a b events) (monitor a b events) (boxes a b events) h) h
+    chosen_part _ Call _ _ _ _ (λ e. sound_contact (place events) (pair a b events) (monitor a b events) (boxes a b events) h) h
 sound_run hosts (Out x y l message ∷ events) r a b ours up =
     let h : Sound (pair a b events) (monitor a b events) (boxes a b events) = sound_run hosts events r.2 a b ours up in
-    chosen_both (are a b x y) (Send l message) (Put l message) (place events) (pair a b events) (monitor a b events) (boxes a b events)
+    chosen_both _ _ _ _ _ _ _
     (λ e. sound_sent (place events) l message (pair a b events) (monitor a b events) (boxes a b events) (carry (λ v w. AreOurs hosts v w → MaySend (pair v w events) l message) a b x y e r.1 ours) h) h
 sound_run hosts (In x y l message ∷ events) r a b ours up =
     let h : Sound (pair a b events) (monitor a b events) (boxes a b events) = sound_run hosts events r.2 a b ours up in
-    let bs : ℕ → Box = posted (place events) (when (are a b x y) (Fetch l)) (boxes a b events) in
+    let bs : ℕ → Box = posted (place events) (when _ _) (boxes a b events) in
     let g : Sound (pair a b events) (monitor a b events) bs =
-    chosen_post (are a b x y) (Fetch l) (place events) (pair a b events) (monitor a b events) (boxes a b events) (λ e. sound_fetched l (pair a b events) (monitor a b events) (boxes a b events) h) h in
-    chosen_part (are a b y x) (Take message) (place events) (pair a b events) (monitor a b events) bs (λ e. sound_taken (place events) message (pair a b events) (monitor a b events) bs g) g
+    chosen_post _ _ _ _ _ _ (λ e. sound_fetched l (pair a b events) (monitor a b events) (boxes a b events) h) h in
+    chosen_part _ _ _ _ _ bs (λ e. sound_taken (place events) message (pair a b events) (monitor a b events) bs g) g
 sound_run hosts (Told x y l k ∷ events) r a b ours up =
     let h : Sound (pair a b events) (monitor a b events) (boxes a b events) = sound_run hosts events r.2 a b ours up in
-    chosen_both (are a b x y) (Hear l k) (Clear l) (place events) (pair a b events) (monitor a b events) (boxes a b events)
+    chosen_both _ _ _ _ _ _ _
     (λ e. sound_told l k (pair a b events) (monitor a b events) (boxes a b events) (carry (λ v w. Fits k (boxes v w events l)) a b x y e r.0.1) h) h
 sound_run hosts (Down x ∷ events) r a b ours up =
-    let t : (same_host a x ≡ false) × (is_up hosts.all a events ≡ true) = stayed_up (same_host a x) (is_up hosts.all a events) up in
-    not_stopped (same_host a x) (place events) (pair a b events) (monitor a b events) (boxes a b events) t.0 (sound_run hosts events r.2 a b ours t.1)
+    let t : (same_host a x ≡ false) × (is_up hosts.all a events ≡ true) = stayed_up _ _ up in
+    not_stopped _ _ _ _ _ t.0 (sound_run hosts events r.2 a b ours t.1)
 sound_run hosts (Up x ∷ events) r a b ours up =
-    came_up (same_host a x) (is_up hosts.all a events) (place events) (pair a b events) (monitor a b events) (boxes a b events) up (λ before. sound_run hosts events r.2 a b ours before)
+    came_up _ _ _ _ _ _ up (λ before. sound_run hosts events r.2 a b ours before)
 sound_run hosts (Idle ∷ events) r a b ours up = sound_run hosts events r.2 a b ours up
 
 -- ---- RST and RRP each go by themselves
@@ -159,21 +159,21 @@ pub alone_run : (hosts : Network) (events : List Event) → IsRun hosts events �
 alone_run hosts [] r a b ours = none_alone
 alone_run hosts (Contact x y ∷ events) r a b ours = alone_run hosts events r.2 a b ours
 alone_run hosts (Out x y l message ∷ events) r a b ours =
-    alone_if (are a b x y) (Put l message) (place events) (boxes a b events)
+    alone_if _ _ _ _
     (λ e.
     (let up : is_up hosts.all a events ≡ true = carry (λ v w. is_up hosts.all v events ≡ true) a b x y e r.0.0 in
     let may : MaySend (pair a b events) l message = carry (λ v w. AreOurs hosts v w → MaySend (pair v w events) l message) a b x y e r.1 ours in
-    sound_alone (pair_moved (Some (Send l message)) (pair a b events)) (monitored (place events) (Some (Send l message)) (monitor a b events)) (posted (place events) (Some (Put l message)) (boxes a b events))
-    (sound_sent (place events) l message (pair a b events) (monitor a b events) (boxes a b events) may (sound_run hosts events r.2 a b ours up))))
+    sound_alone _ _ _
+    (sound_sent _ l message _ _ _ may (sound_run hosts events r.2 a b ours up))))
     (alone_run hosts events r.2 a b ours)
 alone_run hosts (In x y l message ∷ events) r a b ours =
     let h : IsAlone (boxes a b events) = alone_run hosts events r.2 a b ours in
-    alone_if (are a b x y) (Fetch l) (place events) (boxes a b events) (λ e. alone_less (at_link (boxes a b events) l (fetched (boxes a b events l))) (boxes a b events) (less_fetched (boxes a b events) l) h) h
+    alone_if _ _ _ _ (λ e. alone_less (at_link _ l _) (boxes a b events) (less_fetched _ l) h) h
 alone_run hosts (Told x y l k ∷ events) r a b ours =
     let h : IsAlone (boxes a b events) = alone_run hosts events r.2 a b ours in
-    alone_if (are a b x y) (Clear l) (place events) (boxes a b events) (λ e. alone_less (at_link (boxes a b events) l Empty) (boxes a b events) (less_cleared (boxes a b events) l) h) h
+    alone_if _ _ _ _ (λ e. alone_less (at_link _ l Empty) (boxes a b events) (less_cleared _ l) h) h
 alone_run hosts (Down x ∷ events) r a b ours = alone_run hosts events r.2 a b ours
-alone_run hosts (Up x ∷ events) r a b ours = alone_if (same_host a x) ClearAll (place events) (boxes a b events) (λ e. none_alone) (alone_run hosts events r.2 a b ours)
+alone_run hosts (Up x ∷ events) r a b ours = alone_if _ ClearAll _ _ (λ e. none_alone) (alone_run hosts events r.2 a b ours)
 alone_run hosts (Idle ∷ events) r a b ours = alone_run hosts events r.2 a b ours
 
 -- ---- a host that is down is in the initial state
@@ -193,17 +193,17 @@ not_up false up e = (refl, e)
 pub down_pair : (hosts : Network) (events : List Event) → IsRun hosts events → (a b : Host) → AreOurs hosts a b → is_up hosts.all a events ≡ false → pair a b events ≡ opening_pair
 down_pair hosts [] r a b ours down = refl
 down_pair hosts (Contact x y ∷ events) r a b ours down =
-    opened_if (are a b x y) Call (pair a b events) (λ e. up_and_down (is_up hosts.all a events) (carry (λ v w. hosts.strange v ≡ false → is_up hosts.all v events ≡ true) a b x y e r.1 ours.0) down) (down_pair hosts events r.2 a b ours down)
+    opened_if _ Call _ (λ e. up_and_down (is_up hosts.all a events) (carry (λ v w. hosts.strange v ≡ false → is_up hosts.all v events ≡ true) a b x y e r.1 ours.0) down) (down_pair hosts events r.2 a b ours down)
 down_pair hosts (Out x y l message ∷ events) r a b ours down =
-    opened_if (are a b x y) (Send l message) (pair a b events) (λ e. up_and_down (is_up hosts.all a events) (carry (λ v w. is_up hosts.all v events ≡ true) a b x y e r.0.0) down) (down_pair hosts events r.2 a b ours down)
+    opened_if _ _ _ (λ e. up_and_down (is_up hosts.all a events) (carry (λ v w. is_up hosts.all v events ≡ true) a b x y e r.0.0) down) (down_pair hosts events r.2 a b ours down)
 down_pair hosts (In x y l message ∷ events) r a b ours down =
-    opened_if (are a b y x) (Take message) (pair a b events) (λ e. up_and_down (is_up hosts.all a events) (carry (λ v w. is_up hosts.all v events ≡ true) a b y x e r.0.0) down) (down_pair hosts events r.2 a b ours down)
+    opened_if _ _ _ (λ e. up_and_down (is_up hosts.all a events) (carry (λ v w. is_up hosts.all v events ≡ true) a b y x e r.0.0) down) (down_pair hosts events r.2 a b ours down)
 down_pair hosts (Told x y l k ∷ events) r a b ours down =
-    opened_if (are a b x y) (Hear l k) (pair a b events) (λ e. up_and_down (is_up hosts.all a events) (carry (λ v w. is_up hosts.all v events ≡ true) a b x y e r.0.0) down) (down_pair hosts events r.2 a b ours down)
-down_pair hosts (Down x ∷ events) r a b ours down = stopped_pair (same_host a x) (is_up hosts.all a events) (pair a b events) down (λ before. down_pair hosts events r.2 a b ours before)
+    opened_if _ _ _ (λ e. up_and_down (is_up hosts.all a events) (carry (λ v w. is_up hosts.all v events ≡ true) a b x y e r.0.0) down) (down_pair hosts events r.2 a b ours down)
+down_pair hosts (Down x ∷ events) r a b ours down = stopped_pair _ _ _ down (λ before. down_pair hosts events r.2 a b ours before)
 down_pair hosts (Up x ∷ events) r a b ours down =
-    let t : (same_host a x ≡ false) × (is_up hosts.all a events ≡ false) = not_up (same_host a x) (is_up hosts.all a events) down in
-    opened_if (same_host a x) Begin (pair a b events) (λ e. up_and_down (same_host a x) e t.0) (down_pair hosts events r.2 a b ours t.1)
+    let t : (same_host a x ≡ false) × (is_up hosts.all a events ≡ false) = not_up _ _ down in
+    opened_if _ Begin _ (λ e. up_and_down (same_host a x) e t.0) (down_pair hosts events r.2 a b ours t.1)
 down_pair hosts (Idle ∷ events) r a b ours down = down_pair hosts events r.2 a b ours down
 
 -- a host that is ready is up

@@ -55,8 +55,8 @@ became_quiet hosts (In x y l Reply) events r v w ours here before there = elim (
         let same : are w v x y ≡ true = turned_about w v x y s.0 in
         let waits : WaitsWith (boxes w v events l) Reply = carry (λ i j. WaitsWith (boxes i j events l) Reply) w v x y same r.0.1 in
         let other : NoPlain (boxes w v events) = plain_alone (boxes w v events) l Reply (alone_run hosts events r.2 w v (ours.1, ours.0)) waits refl in (
-          plain_if (are v w x y) (Fetch l) (place events) (boxes v w events) (λ e. plain_fetched (boxes v w events) l own) own,
-          plain_if (are w v x y) (Fetch l) (place events) (boxes w v events) (λ e. plain_fetched (boxes w v events) l other) other,
+          plain_if (are v w x y) (Fetch l) _ _ (λ e. plain_fetched (boxes v w events) l own) own,
+          plain_if _ _ _ _ (λ e. plain_fetched (boxes w v events) l other) other,
         ))
     | inr old ↦ absurd (before old)
   ]
@@ -78,12 +78,12 @@ pub begin_quiet : (hosts : Network) (e : Event) (events : List Event) → IsRun 
 begin_quiet hosts e events r a b ours begun =
     let t : (joint a b (e ∷ events) ≡ true) × (not (joint a b events) ≡ true) = and_true (joint a b (e ∷ events)) (not (joint a b events)) begun in
     let now : (ready a b (e ∷ events) ≡ true) × (ready b a (e ∷ events) ≡ true) = and_true (ready a b (e ∷ events)) (ready b a (e ∷ events)) t.0 in
-    let first : (pair a b (e ∷ events)).phase ≡ Ready = ready_phase (pair a b (e ∷ events)).phase now.0 in
-    let second : (pair b a (e ∷ events)).phase ≡ Ready = ready_phase (pair b a (e ∷ events)).phase now.1 in
-    elim (and_cases (ready a b events) (ready b a events) (not_true (joint a b events) t.1)) [
-      | inl was ↦ became_quiet hosts e events r a b ours first (unready_phase (pair a b events).phase was) second
+    let first : (pair a b (e ∷ events)).phase ≡ Ready = ready_phase _ now.0 in
+    let second : (pair b a (e ∷ events)).phase ≡ Ready = ready_phase _ now.1 in
+    elim (and_cases (ready a b events) (ready b a events) (not_true _ t.1)) [
+      | inl was ↦ became_quiet hosts e events r a b ours first (unready_phase _ was) second
       | inr was ↦
-          (let q : NoPlain (boxes b a (e ∷ events)) × NoPlain (boxes a b (e ∷ events)) = became_quiet hosts e events r b a (ours.1, ours.0) second (unready_phase (pair b a events).phase was) first in
+          (let q : NoPlain (boxes b a (e ∷ events)) × NoPlain (boxes a b (e ∷ events)) = became_quiet hosts e events r b a (ours.1, ours.0) second (unready_phase _ was) first in
           (q.1, q.0))
     ]
 
@@ -118,7 +118,7 @@ stays_ready [] a b s = absurd (cc)
 stays_ready (e ∷ events) a b s = by (begins a b e events) refl where
   by : (t : Bool) → begins a b e events ≡ t → ready a b (e ∷ events) ≡ true
   by true begun = (and_true (ready a b (e ∷ events)) (ready b a (e ∷ events)) (and_true (joint a b (e ∷ events)) (not (joint a b events)) begun).0).0
-  by false old = (stays_parts (begins a b e events) (ready a b (e ∷ events)) (takes_reset a b e) (stays a b events) s old).0
+  by false old = (stays_parts _ _ _ _ s old).0
 
 -- while two hosts are together neither takes an RST of the other
 no_reset : (hosts : Network) (e : Event) (events : List Event) → IsRun hosts (e ∷ events) → (a b : Host) → AreOurs hosts a b → (pair b a (e ∷ events)).phase ≡ Ready → takes_reset a b e ≡ false
@@ -136,9 +136,9 @@ joint_stays hosts (e ∷ events) r a b ours together = by (begins a b e events) 
   by true begun rest = or_left (begins a b e events) (ready a b (e ∷ events) && not (takes_reset a b e) && stays a b events) begun
   by false old rest =
       let now : (ready a b (e ∷ events) ≡ true) × (ready b a (e ∷ events) ≡ true) = and_true (ready a b (e ∷ events)) (ready b a (e ∷ events)) together in
-      let before : stays a b events ≡ true = rest (were_joint (joint a b (e ∷ events)) (joint a b events) old together) in
-      stays_on (begins a b e events) (ready a b (e ∷ events)) (takes_reset a b e) (stays a b events) now.0
-      (no_reset hosts e events r a b ours (ready_phase (pair b a (e ∷ events)).phase now.1)) before
+      let before : stays a b events ≡ true = rest (were_joint _ _ old together) in
+      stays_on _ _ _ _ now.0
+      (no_reset hosts e events r a b ours (ready_phase _ now.1)) before
 
 -- ---- what waits, after one event more
 
@@ -233,41 +233,41 @@ quiet : (hosts : Network) (e : Event) (events : List Event) (a b : Host) (l : �
     → (waits_in (boxes a b (e ∷ events) l) ≡ waits_in (boxes a b events l)) ⊎ ((waits_in (boxes a b (e ∷ events) l) ≡ []) × (all' ≡ true → waits_in (boxes a b events l) ≡ []))
     → HeardBefore a b l events → HeardNow a b l e events all'
 quiet hosts e events a b l all' s none silent waits h =
-    tells_quiet (joint a b events) all' (stays a b events) (heard_in_stay a b l events) (waits_in (boxes a b events l)) (waits_in (boxes a b (e ∷ events) l)) (said_in_stay a b l events) (heard_by a b l e) (said_by a b l e)
+    tells_quiet _ all' _ _ _ _ _ _ _
     none silent s.before waits h
 
 out_step : (hosts : Network) (x y : Host) (k : ℕ) (text : List Bool) (events : List Event) (a b : Host) (l : ℕ) (all' : Bool) → Stay hosts events a b all' → IsRun hosts (Out x y k (Other text) ∷ events)
     → HeardBefore a b l events → (t : Bool) → are a b x y ≡ t → HeardNow a b l (Out x y k (Other text)) events all'
 out_step hosts x y k text events a b l all' s r h false apart =
-    quiet hosts (Out x y k (Other text)) events a b l all' s refl (not_ours (are a b x y) (l == k) (text ∷ []) apart)
+    quiet hosts (Out x y k (Other text)) events a b l all' s refl (not_ours _ (l == k) (text ∷ []) apart)
     (inl (ap (λ (t : Bool). waits_in (posted (place events) (when t (Put k (Other text))) (boxes a b events) l)) apart)) h
 out_step hosts x y k text events a b l all' s r h true same =
-    let put : boxes a b (Out x y k (Other text) ∷ events) l ≡ at_link (boxes a b events) k (Waiting (place events) (Other text)) l =
+    let put : boxes a b (Out x y k (Other text) ∷ events) l ≡ at_link (boxes a b events) k _ l =
     ap (λ (t : Bool). posted (place events) (when t (Put k (Other text))) (boxes a b events) l) same in
     let empty : boxes a b events k ≡ Empty = carry (λ v w. boxes v w events k ≡ Empty) a b x y same r.0.1 in
     let may : MaySend (pair a b events) k (Other text) = carry (λ v w. AreOurs hosts v w → MaySend (pair v w events) k (Other text)) a b x y same r.1 s.ours in
-    let own : ready a b events ≡ true = phase_ready (pair a b events).phase may.0 in
+    let own : ready a b events ≡ true = phase_ready _ may.0 in
     let peer : ready b a events ≡ true = stays_ready events b a s.stay in
     let together : joint a b events ≡ true = rw (own, peer) refl in
     let grows : stays a b events ≡ true = joint_stays hosts events s.run a b s.ours together in
     elim (at (boxes a b events) k (Waiting (place events) (Other text)) l) [
       | inl u ↦
-          tells_said (joint a b events) all' (stays a b events) (heard_in_stay a b l events) (waits_in (boxes a b events l)) (waits_in (boxes a b (Out x y k (Other text) ∷ events) l)) (said_in_stay a b l events)
-          (heard_by a b l (Out x y k (Other text))) (said_by a b l (Out x y k (Other text))) (text ∷ []) refl
-          (on_link (are a b x y) (l == k) (text ∷ []) same (eq-eqb l k u.0))
+          tells_said _ all' _ _ _ _ _
+          _ _ _ refl
+          (on_link _ _ _ same (eq-eqb l k u.0))
           (ap (λ (j : ℕ). waits_in (boxes a b events j)) u.0 ∙ ap waits_in empty)
           (ap waits_in (put ∙ u.1)) grows together h
       | inr u ↦
-          quiet hosts (Out x y k (Other text)) events a b l all' s refl (off_link (are a b x y) (l == k) (text ∷ []) (other_link l k u.0)) (inl (ap waits_in (put ∙ u.1))) h
+          quiet hosts (Out x y k (Other text)) events a b l all' s refl (off_link (are a b x y) _ (text ∷ []) (other_link l k u.0)) (inl (ap waits_in (put ∙ u.1))) h
     ]
 
 in_step : (hosts : Network) (x y : Host) (k : ℕ) (text : List Bool) (events : List Event) (a b : Host) (l : ℕ) (all' : Bool) → Stay hosts events a b all' → IsRun hosts (In x y k (Other text) ∷ events)
     → HeardBefore a b l events → (t : Bool) → are a b x y ≡ t → HeardNow a b l (In x y k (Other text)) events all'
 in_step hosts x y k text events a b l all' s r h false apart =
-    quiet hosts (In x y k (Other text)) events a b l all' s (not_ours (are a b x y) (l == k) (text ∷ []) apart) refl
-    (inl (no_fetch (are a b x y) (place events) k l (boxes a b events) apart)) h
+    quiet hosts (In x y k (Other text)) events a b l all' s (not_ours _ (l == k) (text ∷ []) apart) refl
+    (inl (no_fetch _ (place events) k l (boxes a b events) apart)) h
 in_step hosts x y k text events a b l all' s r h true same =
-    let fetch : boxes a b (In x y k (Other text) ∷ events) l ≡ at_link (boxes a b events) k (fetched (boxes a b events k)) l =
+    let fetch : boxes a b (In x y k (Other text) ∷ events) l ≡ at_link (boxes a b events) k _ l =
     ap (λ (t : Bool). posted (place events) (when t (Fetch k)) (boxes a b events) l) same in
     let waits : WaitsWith (boxes a b events k) (Other text) = carry (λ v w. WaitsWith (boxes v w events k) (Other text)) a b x y same r.0.1 in
     elim (at (boxes a b events) k (fetched (boxes a b events k)) l) [
@@ -275,10 +275,10 @@ in_step hosts x y k text events a b l all' s r h true same =
           tells_heard (joint a b events) all' (stays a b events) (heard_in_stay a b l events) (waits_in (boxes a b events l)) (waits_in (boxes a b (In x y k (Other text) ∷ events) l)) (said_in_stay a b l events)
           (heard_by a b l (In x y k (Other text))) (said_by a b l (In x y k (Other text))) (text ∷ [])
           (on_link (are a b x y) (l == k) (text ∷ []) same (eq-eqb l k u.0))
-          (ap (λ (j : ℕ). waits_in (boxes a b events j)) u.0 ∙ other_waits (boxes a b events k) text waits)
-          (ap waits_in (fetch ∙ u.1) ∙ fetched_waits (boxes a b events k)) refl s.before h
+          (ap (λ (j : ℕ). waits_in (boxes a b events j)) u.0 ∙ other_waits _ text waits)
+          (ap waits_in (fetch ∙ u.1) ∙ fetched_waits _) refl s.before h
       | inr u ↦
-          quiet hosts (In x y k (Other text)) events a b l all' s (off_link (are a b x y) (l == k) (text ∷ []) (other_link l k u.0)) refl (inl (ap waits_in (fetch ∙ u.1))) h
+          quiet hosts (In x y k (Other text)) events a b l all' s (off_link (are a b x y) _ (text ∷ []) (other_link l k u.0)) refl (inl (ap waits_in (fetch ∙ u.1))) h
     ]
 
 -- a message that is answered waits no more; while both stay together it didn't
@@ -296,11 +296,11 @@ told_step hosts x y k kind events a b l s r true same =
             ap waits_in (clear ∙ u.1),
             λ together.
                 (let own : ready a b (Told x y k kind ∷ events) ≡ true = (and_true (ready a b (Told x y k kind ∷ events)) (ready b a (Told x y k kind ∷ events)) together).0 in
-                let phase : (pair a b (Told x y k kind ∷ events)).phase ≡ Ready = ready_phase (pair a b (Told x y k kind ∷ events)).phase own in
-                let peer : (pair b a events).phase ≡ Ready = ready_phase (pair b a events).phase (stays_ready events b a s.stay) in
-                elim (told_owed (are a b x y) k kind (pair a b events) same phase) [
-                  | inl rfnm ↦ (ap (λ (j : ℕ). waits_in (boxes a b events j)) u.0 ∙ rfnm_waits (boxes a b events k) (subst (λ (z : Answer). Fits z (boxes a b events k)) rfnm fits))
-                  | inr owed ↦ nothing_waits (boxes a b events l) (owes_run hosts events s.run a b s.ours owed peer l)
+                let phase : (pair a b (Told x y k kind ∷ events)).phase ≡ Ready = ready_phase _ own in
+                let peer : (pair b a events).phase ≡ Ready = ready_phase _ (stays_ready events b a s.stay) in
+                elim (told_owed _ k kind _ same phase) [
+                  | inl rfnm ↦ (ap (λ (j : ℕ). waits_in (boxes a b events j)) u.0 ∙ rfnm_waits _ (subst (λ (z : Answer). Fits z (boxes a b events k)) rfnm fits))
+                  | inr owed ↦ nothing_waits _ (owes_run hosts events s.run a b s.ours owed peer l)
                 ]),
           )
       | inr u ↦ inl (ap waits_in (clear ∙ u.1))
@@ -312,16 +312,16 @@ up_step false here l p bs = inl refl
 
 stay_step : (hosts : Network) (e : Event) (events : List Event) (a b : Host) (l : ℕ) → Stay hosts events a b (joint a b (e ∷ events)) → IsRun hosts (e ∷ events) → takes_reset b a e ≡ false
     → HeardBefore a b l events → HeardNow a b l e events (joint a b (e ∷ events))
-stay_step hosts (Contact x y) events a b l s r kept h = quiet hosts (Contact x y) events a b l (joint a b (Contact x y ∷ events)) s refl refl (inl refl) h
-stay_step hosts (Out x y k (Other text)) events a b l s r kept h = out_step hosts x y k text events a b l (joint a b (Out x y k (Other text) ∷ events)) s r h (are a b x y) refl
+stay_step hosts (Contact x y) events a b l s r kept h = quiet hosts (Contact x y) events a b l _ s refl refl (inl refl) h
+stay_step hosts (Out x y k (Other text)) events a b l s r kept h = out_step hosts x y k text events a b l _ s r h _ refl
 stay_step hosts (Out x y k c) events a b l s r kept h =
-    quiet hosts (Out x y k c) events a b l (joint a b (Out x y k c ∷ events)) s refl refl
-    (inl (signal_put (are a b x y) (place events) k l c (boxes a b events) refl (λ same. carry (λ v w. boxes v w events k ≡ Empty) a b x y same r.0.1))) h
+    quiet hosts (Out x y k c) events a b l _ s refl refl
+    (inl (signal_put _ (place events) k l c (boxes a b events) refl (λ same. carry (λ v w. boxes v w events k ≡ Empty) a b x y same r.0.1))) h
 stay_step hosts (In x y k Reset) events a b l s r kept h =
-    quiet hosts (In x y k Reset) events a b l (joint a b (In x y k Reset ∷ events)) s refl refl
-    (inl (no_fetch (are a b x y) (place events) k l (boxes a b events) (false_from_ne_true (are a b x y) (λ same. contradicts (are b a y x) (turned_about b a y x same) kept)))) h
+    quiet hosts (In x y k Reset) events a b l _ s refl refl
+    (inl (no_fetch _ (place events) k l (boxes a b events) (false_from_ne_true (are a b x y) (λ same. contradicts (are b a y x) (turned_about b a y x same) kept)))) h
 stay_step hosts (In x y k Reply) events a b l s r kept h =
-    quiet hosts (In x y k Reply) events a b l (joint a b (In x y k Reply ∷ events)) s refl refl
+    quiet hosts (In x y k Reply) events a b l _ s refl refl
     (inl (reply_fetch (are a b x y) (place events) k l (boxes a b events) (λ same. carry (λ v w. WaitsWith (boxes v w events k) Reply) a b x y same r.0.1))) h
 stay_step hosts (In x y k (Other text)) events a b l s r kept h = in_step hosts x y k text events a b l (joint a b (In x y k (Other text) ∷ events)) s r h (are a b x y) refl
 stay_step hosts (Told x y k kind) events a b l s r kept h =
@@ -354,28 +354,28 @@ stay_run hosts [] r a b ours l s = absurd (cc)
 stay_run hosts (e ∷ events) r a b ours l s = by (begins a b e events) refl (λ before. stay_run hosts events r.2 a b ours l before) where
   by : (t : Bool) → begins a b e events ≡ t → (stays b a events ≡ true → HeardBefore a b l events) → HeardBefore a b l (e ∷ events)
   by true begun rest =
-      let none : waits_in (boxes a b (e ∷ events) l) ≡ [] = nothing_waits (boxes a b (e ∷ events) l) ((begin_quiet hosts e events r a b ours begun).0 l) in
+      let none : waits_in (boxes a b (e ∷ events) l) ≡ [] = nothing_waits _ ((begin_quiet hosts e events r a b ours begun).0 l) in
       let old : List (List Bool) = heard_in_stay a b l events ++ (if stays b a events then heard_by a b l e else []) in
       let spoken : List (List Bool) = said_in_stay a b l events ++ (if stays a b events then said_by a b l e else []) in
       tells_all (joint a b (e ∷ events)) (heard_in_stay a b l (e ∷ events) ++ waits_in (boxes a b (e ∷ events) l)) (said_in_stay a b l (e ∷ events))
-      (ap (λ (v : List (List Bool)). v ++ waits_in (boxes a b (e ∷ events) l)) (anew (begins a b e events) old begun) ∙ none ∙ sym (anew (begins a b e events) spoken begun))
+      (ap (λ (v : List (List Bool)). v ++ waits_in (boxes a b (e ∷ events) l)) (anew _ old begun) ∙ none ∙ sym (anew _ spoken begun))
   by false same rest =
       let parts : (ready b a (e ∷ events) ≡ true) × (takes_reset b a e ≡ false) × (stays b a events ≡ true) =
-      stays_parts (begins b a e events) (ready b a (e ∷ events)) (takes_reset b a e) (stays b a events) s (sym (begins_either a b e events) ∙ same) in
+      stays_parts _ _ _ _ s (sym (begins_either a b e events) ∙ same) in
       let old : List (List Bool) = heard_in_stay a b l events ++ (if stays b a events then heard_by a b l e else []) in
       let spoken : List (List Bool) = said_in_stay a b l events ++ (if stays a b events then said_by a b l e else []) in
       let more : heard_in_stay a b l (e ∷ events) ≡ heard_in_stay a b l events ++ heard_by a b l e =
-      goes_on (begins a b e events) old same ∙ ap (λ (t : Bool). heard_in_stay a b l events ++ (if t then heard_by a b l e else [])) parts.2 in
-      tells_as (joint a b (e ∷ events)) ((heard_in_stay a b l events ++ heard_by a b l e) ++ waits_in (boxes a b (e ∷ events) l)) (heard_in_stay a b l (e ∷ events) ++ waits_in (boxes a b (e ∷ events) l))
-      spoken (said_in_stay a b l (e ∷ events)) (ap (λ (v : List (List Bool)). v ++ waits_in (boxes a b (e ∷ events) l)) more) (goes_on (begins a b e events) spoken same)
-      (stay_step hosts e events a b l (record { run = r.2; ours = ours; stay = parts.2; before = were_joint (joint a b (e ∷ events)) (joint a b events) same }) r parts.1 (rest parts.2))
+      goes_on _ old same ∙ ap (λ (t : Bool). heard_in_stay a b l events ++ (if t then heard_by a b l e else [])) parts.2 in
+      tells_as _ _ _
+      spoken _ (ap (λ (v : List (List Bool)). v ++ waits_in (boxes a b (e ∷ events) l)) more) (goes_on _ spoken same)
+      (stay_step hosts e events a b l (record { run = r.2; ours = ours; stay = parts.2; before = were_joint _ _ same }) r parts.1 (rest parts.2))
 
 -- what is heard was waiting
 heard_waiting : (hosts : Network) (e : Event) (events : List Event) → IsRun hosts (e ∷ events) → (a b : Host) (l : ℕ) → (heard_by a b l e ≡ []) ⊎ (heard_by a b l e ≡ waits_in (boxes a b events l))
 heard_waiting hosts (In x y k (Other text)) events r a b l = by (are a b x y) (l == k) refl refl where
   by : (t u : Bool) → are a b x y ≡ t → (l == k) ≡ u → (heard_by a b l (In x y k (Other text)) ≡ []) ⊎ (heard_by a b l (In x y k (Other text)) ≡ waits_in (boxes a b events l))
-  by false u apart other = inl (not_ours (are a b x y) (l == k) (text ∷ []) apart)
-  by true false same other = inl (off_link (are a b x y) (l == k) (text ∷ []) other)
+  by false u apart other = inl (not_ours _ _ _ apart)
+  by true false same other = inl (off_link _ _ _ other)
   by true true same ours =
       let link : l ≡ k = eqb-true l k ours in
       let waits : WaitsWith (boxes a b events k) (Other text) = carry (λ v w. WaitsWith (boxes v w events k) (Other text)) a b x y same r.0.1 in
@@ -403,8 +403,8 @@ heard_front hosts (e ∷ events) r a b ours l = by (begins a b e events) refl (h
   ]
 
   by : (t : Bool) → begins a b e events ≡ t → IsPrefix (heard_in_stay a b l events) (said_in_stay a b l events) → IsPrefix (heard_in_stay a b l (e ∷ events)) (said_in_stay a b l (e ∷ events))
-  by true begun h = subst (λ (v : List (List Bool)). IsPrefix v (said_in_stay a b l (e ∷ events))) (sym (anew (begins a b e events) (heard_in_stay a b l events ++ new) begun)) (said_in_stay a b l (e ∷ events), refl)
+  by true begun h = subst (λ (v : List (List Bool)). IsPrefix v (said_in_stay a b l (e ∷ events))) (sym (anew _ _ begun)) (said_in_stay a b l (e ∷ events), refl)
   by false same h =
-      let front : IsPrefix (heard_in_stay a b l events ++ new) (said_in_stay a b l events ++ spoken) = front_longer (heard_in_stay a b l events ++ new) (said_in_stay a b l events) spoken (more (stays b a events) refl h) in
-      subst (λ (v : List (List Bool)). IsPrefix v (said_in_stay a b l (e ∷ events))) (sym (goes_on (begins a b e events) (heard_in_stay a b l events ++ new) same))
-      (subst (λ (v : List (List Bool)). IsPrefix (heard_in_stay a b l events ++ new) v) (sym (goes_on (begins a b e events) (said_in_stay a b l events ++ spoken) same)) front)
+      let front : IsPrefix (heard_in_stay a b l events ++ new) (said_in_stay a b l events ++ spoken) = front_longer _ _ spoken (more _ refl h) in
+      subst (λ (v : List (List Bool)). IsPrefix v (said_in_stay a b l (e ∷ events))) (sym (goes_on _ _ same))
+      (subst (λ (v : List (List Bool)). IsPrefix (heard_in_stay a b l events ++ new) v) (sym (goes_on _ _ same)) front)

@@ -42,7 +42,7 @@ sound_contact here p m boxes s =
 signal_on_zero : (out : ℕ → Option Kind) (l : ℕ) (x : Option Kind) → l ≡ 0 → IsFreePair out → (k : ℕ) → is_signal (at_link out l x k) ≡ true → k ≡ 0
 signal_on_zero out l x zero free k signal = elim (at out l x k) [
   | inl t ↦ (t.0 ∙ zero)
-  | inr t ↦ absurd (no_signal (at_link out l x k) (t.1 ∙ free k) signal)
+  | inr t ↦ absurd (no_signal _ (t.1 ∙ free k) signal)
 ]
 
 signal_alone : (out : ℕ → Option Kind) (l : ℕ) (x : Option Kind) → l ≡ 0 → IsFreePair out → (k : ℕ) → k ≢ 0 → at_link out l x k ≡ None
@@ -63,12 +63,12 @@ sound_reset_sent here l p m boxes may s =
     let o : Outstanding p m boxes = s.outstanding in
     let S : Phase → Type 0 = λ ph. Shape ph m p.begun p.out in
     let w : InWant m p.begun p.out = subst S may.1 s.shape in
-    let rst : at_link p.out l (Some Rst) 0 ≡ Some Rst = at_itself p.out l (Some Rst) may.0 in
+    let rst : at_link p.out l _ 0 ≡ Some Rst = at_itself p.out l _ may.0 in
     record {
       outstanding = record {
-        boxed = boxed_at p.out boxes l (Waiting here Reset) o.boxed;
+        boxed = boxed_at p.out boxes l _ o.boxed;
         owes = o.owes;
-        on_zero = signal_on_zero p.out l (Some Rst) may.0 may.2;
+        on_zero = signal_on_zero p.out l _ may.0 may.2;
         alone = λ signal. signal_alone p.out l (Some Rst) may.0 may.2;
         owing = o.owing;
         replying = λ rrp. w.silent;
@@ -79,13 +79,13 @@ sound_reset_sent here l p m boxes may s =
 -- where an RRP goes out nothing is known of a pair that waits to reset
 shape_reply_sent : (ph : Phase) (l : ℕ) (m : Monitor) (begun : Bool) (out : ℕ → Option Kind) → l ≡ 0 → ph ≢ Want → IsFreePair out → Shape ph m begun out
     → Shape ph (monitor_sent l Reply m) begun (at_link out l (Some Rrp))
-shape_reply_sent Closed l m begun out zero want free s = record { idle = s.idle; silent = s.silent; no_rst = λ rst. let both : Some Rrp ≡ Some Rst = sym (at_itself out l (Some Rrp) zero) ∙ rst in absurd (cc) }
+shape_reply_sent Closed l m begun out zero want free s = record { idle = s.idle; silent = s.silent; no_rst = λ rst. let both : Some Rrp ≡ Some Rst = sym (at_itself out l _ zero) ∙ rst in absurd (cc) }
 shape_reply_sent Want l m begun out zero want free s = absurd (want refl)
 shape_reply_sent (Gone early) l m begun out zero want free s = let both : None ≡ Some Rst = sym (free 0) ∙ s.rst in absurd (cc)
 shape_reply_sent Heard l m begun out zero want free s =
     let pending : m.pending ≡ true = s.pending in
     let stage : m.stage ≡ Received = s.stage in
-    let after : (k : ℕ) → at_link m.after l true k ≡ is_some (at_link out l (Some Rrp) k) = λ k. elim (at m.after l true k) [
+    let after : (k : ℕ) → at_link m.after l true k ≡ is_some (at_link out l _ k) = λ k. elim (at m.after l true k) [
       | inl t ↦ elim (at out l (Some Rrp) k) [
         | inl u ↦ (t.1 ∙ ap is_some (sym u.1))
         | inr u ↦ absurd (u.0 t.0)
@@ -101,14 +101,14 @@ shape_reply_sent Heard l m begun out zero want free s =
       stage = s.stage;
       on_time = s.on_time;
       after = rw (pending, stage) after;
-      no_rst = λ rst. let both : Some Rrp ≡ Some Rst = sym (at_itself out l (Some Rrp) zero) ∙ rst in absurd (cc);
+      no_rst = λ rst. let both : Some Rrp ≡ Some Rst = sym (at_itself out l _ zero) ∙ rst in absurd (cc);
       no_plain = λ k plain. elim (at out l (Some Rrp) k) [
         | inl u ↦ (let both : Some Rrp ≡ Some Plain = sym u.1 ∙ plain in absurd (cc))
         | inr u ↦ s.no_plain k (sym u.1 ∙ plain)
       ];
     }
 shape_reply_sent Ready l m begun out zero want free s =
-    record { idle = s.idle; point = s.point; clean = s.clean; no_rst = λ rst. let both : Some Rrp ≡ Some Rst = sym (at_itself out l (Some Rrp) zero) ∙ rst in absurd (cc) }
+    record { idle = s.idle; point = s.point; clean = s.clean; no_rst = λ rst. let both : Some Rrp ≡ Some Rst = sym (at_itself out l _ zero) ∙ rst in absurd (cc) }
 
 pub sound_reply_sent : (here l : ℕ) (p : Pair) (m : Monitor) (boxes : ℕ → Box) → MaySend p l Reply → Sound p m boxes
     → Sound (pair_sent l Reply p) (monitor_sent l Reply m) (at_link boxes l (Waiting here Reply))
@@ -117,9 +117,9 @@ sound_reply_sent here l p m boxes may s =
     let free : IsFreePair p.out = may.3 in
     record {
       outstanding = record {
-        boxed = boxed_at p.out boxes l (Waiting here Reply) o.boxed;
+        boxed = boxed_at p.out boxes l _ o.boxed;
         owes = refl;
-        on_zero = signal_on_zero p.out l (Some Rrp) may.0 free;
+        on_zero = signal_on_zero p.out l _ may.0 free;
         alone = λ signal. signal_alone p.out l (Some Rrp) may.0 free;
         owing = λ owed. absurd (cc);
         replying = λ rrp. o.owing may.1;
@@ -130,7 +130,7 @@ sound_reply_sent here l p m boxes may s =
 -- any other message goes out only where no signal is outstanding
 no_signal_beside : (l : ℕ) (p : Pair) (m : Monitor) (boxes : ℕ → Box) → Outstanding p m boxes → p.out 0 ≢ Some Rst → p.out l ≡ None → (l ≡ 0) ⊎ (p.begun ≡ true) → is_signal (p.out 0) ≡ true → ⊥
 no_signal_beside l p m boxes o no_rst none start signal = elim start [
-  | inl zero ↦ no_signal (p.out 0) (subst (λ (k : ℕ). p.out k ≡ None) zero none) signal
+  | inl zero ↦ no_signal _ (subst (λ (k : ℕ). p.out k ≡ None) zero none) signal
   | inr begun ↦ by (p.out 0) refl signal begun
 ] where
   by : (x : Option Kind) → p.out 0 ≡ x → is_signal x ≡ true → p.begun ≡ true → ⊥
@@ -153,7 +153,7 @@ sound_other_sent here l text p m boxes may s =
     let idle : m.pending ≡ false = r.idle in
     record {
       outstanding = record {
-        boxed = boxed_at p.out boxes l (Waiting here (Other text)) o.boxed;
+        boxed = boxed_at p.out boxes l _ o.boxed;
         owes = o.owes;
         on_zero = λ k signal. absurd (quiet (old k signal));
         alone = λ signal k away. absurd (quiet (old 0 signal));

@@ -32,10 +32,10 @@ more_nothing xs z w e = ap (λ (v : List (List Bool)). (xs ++ v) ++ w) e ∙ ap 
 pub tells_quiet : (all all' t : Bool) (xs w w' ys more said : List (List Bool)) → more ≡ [] → said ≡ [] → (all' ≡ true → all ≡ true) → (w' ≡ w) ⊎ ((w' ≡ []) × (all' ≡ true → w ≡ []))
     → Tells all (xs ++ w) ys → Tells all' ((xs ++ more) ++ w') (ys ++ (if t then said else []))
 tells_quiet all all' t xs w w' ys more said none silent before waits h =
-    tells_as all' (xs ++ w') ((xs ++ more) ++ w') ys (ys ++ (if t then said else [])) (more_nothing xs more w' none) (if_nothing t said ys silent) (by waits)
+    tells_as all' _ _ ys _ (more_nothing xs more w' none) (if_nothing t said ys silent) (by waits)
   where
     by : (w' ≡ w) ⊎ ((w' ≡ []) × (all' ≡ true → w ≡ [])) → Tells all' (xs ++ w') ys
-    by (inl same) = tells_as all' (xs ++ w) (xs ++ w') ys ys (ap (λ (v : List (List Bool)). xs ++ v) same) refl (record { front = h.front; whole = λ e. h.whole (before e) })
+    by (inl same) = tells_as all' (xs ++ w) _ ys ys (ap (λ (v : List (List Bool)). xs ++ v) same) refl (record { front = h.front; whole = λ e. h.whole (before e) })
     by (inr lost) = record {
       front = subst (λ (v : List (List Bool)). IsPrefix v ys) (sym (ap (λ (v : List (List Bool)). xs ++ v) lost.0 ∙ append-nil xs)) (front_shorter xs w ys h.front);
       whole = λ e. (ap (λ (v : List (List Bool)). xs ++ v) (lost.0 ∙ sym (lost.1 e)) ∙ h.whole (before e));
@@ -45,7 +45,7 @@ tells_quiet all all' t xs w w' ys more said none silent before waits h =
 pub tells_heard : (all all' t : Bool) (xs w w' ys more said text : List (List Bool)) → more ≡ text → w ≡ text → w' ≡ [] → said ≡ [] → (all' ≡ true → all ≡ true)
     → Tells all (xs ++ w) ys → Tells all' ((xs ++ more) ++ w') (ys ++ (if t then said else []))
 tells_heard all all' t xs w w' ys more said text heard waits gone silent before h =
-    tells_as all' (xs ++ w) ((xs ++ more) ++ w') ys (ys ++ (if t then said else []))
+    tells_as all' _ _ ys _
     (ap (λ (v : List (List Bool)). (xs ++ more) ++ v) gone ∙ append-nil (xs ++ more) ∙ ap (λ (v : List (List Bool)). xs ++ v) (heard ∙ sym waits)) (if_nothing t said ys silent)
     (record { front = h.front; whole = λ e. h.whole (before e) })
 
@@ -56,4 +56,4 @@ tells_said all all' t xs w w' ys more said text none says empty waits grows toge
     let old : xs ≡ ys = sym (append-nil xs) ∙ ap (λ (v : List (List Bool)). xs ++ v) (sym empty) ∙ h.whole together in
     let left : (xs ++ more) ++ w' ≡ ys ++ text = more_nothing xs more w' none ∙ ap (λ (v : List (List Bool)). xs ++ v) waits ∙ ap (λ (v : List (List Bool)). v ++ text) old in
     let right : ys ++ (if t then said else []) ≡ ys ++ text = ap (λ (b : Bool). ys ++ (if b then said else [])) grows ∙ ap (λ (v : List (List Bool)). ys ++ v) says in
-    tells_all all' ((xs ++ more) ++ w') (ys ++ (if t then said else [])) (left ∙ sym right)
+    tells_all all' _ _ (left ∙ sym right)

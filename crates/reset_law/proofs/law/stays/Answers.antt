@@ -1,5 +1,3 @@
-use Rattle.std.proofs.Common.{◌∷◌}
-use Rattle.reset_law.specs.Boxes.{boxes}
 use Rattle.reset_law.proofs.Joint.{nothing_waits}
 use Rattle.reset_law.proofs.Stays.{begin_quiet, joint_stays, joint_either, stay_run, heard_front}
 use Rattle.reset_law.proofs.law.stays.Goals as goal
@@ -15,7 +13,7 @@ returns c = record {
   together = joint_stays;
   beginning =
       λ hosts e events r a b ours link begun. (
-        nothing_waits (boxes a b (e ∷ events) link) ((begin_quiet hosts e events r a b ours begun).0 link),
-        nothing_waits (boxes b a (e ∷ events) link) ((begin_quiet hosts e events r a b ours begun).1 link),
+        nothing_waits _ ((begin_quiet hosts e events r a b ours begun).0 link),
+        nothing_waits _ ((begin_quiet hosts e events r a b ours begun).1 link),
       );
 }
