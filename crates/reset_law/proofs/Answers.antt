@@ -1,12 +1,8 @@
 -- An answer that a host is given keeps the invariant.
+use Rattle.reset_law.proofs.Common.{is_some, Answer, Phase, Closed, Want, Gone, Heard, Ready, Box, Empty, Waiting, Taken, Fits, at_link}
 use Rattle.std.proofs.Common.{◌≡◌, ◌≢◌, ◌⊎◌, ℕ, Bool, true, false, Option, Some, None, refl, ap, sym, subst, ◌∙◌, inl, inr, if◌then◌else◌}
-use Rattle.std.specs.Prelude.{is_some}
-use Rattle.interface.specs.declared.crossing.Answer.{Answer}
 use Rattle.interface.specs.declared.crossing.Answer.TheVariants as answer
 use Rattle.ncp_control.specs.Phases.{rfnm_phase, failed_phase}
-use Rattle.ncp_control.specs.declared.phase.Phase.{Phase}
-use Rattle.ncp_control.specs.declared.phase.Phase.TheVariants.{Closed, Want, Gone, Heard, Ready}
-use Rattle.reset_law.specs.Boxes.{Box, Empty, Waiting, Taken, Fits, at_link}
 use Rattle.reset_law.specs.Pairs.{Kind, Rst, Rrp, Plain, Pair, IsFreePair, pair_answered}
 use Rattle.reset_law.specs.Monitor.{Monitor, OnItsWay, Received, monitor_told, monitor_failed}
 use Rattle.reset_law.specs.Invariant.{kind_in, is_signal, Outstanding, InGone, InHeard, InReady, Shape, Sound}

@@ -1,21 +1,17 @@
 -- A host that is through a reset takes only what went out after its last clean point.
+use Rattle.reset_law.proofs.Common.{Host, same_host, Phase, Closed, Want, Gone, Heard, Ready, Box, Empty, Waiting, Taken, WaitsWith, Post, Put, Fetch, ClearAll, fetched, posted, at_link, boxes, AreOurs, Network}
 use Rattle.std.proofs.Common.{◌≡◌, ◌≢◌, ◌⊎◌, ℕ, ◌+◌, ◌<◌, Bool, true, false, ◌&&◌, List, [], ◌∷◌, Option, Some, None, refl, ap, sym, subst, ◌∙◌, inl, inr, if◌then◌else◌, arith}
 use Rattle.std.proofs.lemmas.Bool.{and_from}
-use Rattle.interface.specs.Host.{Host, same_host}
 use Rattle.interface.specs.declared.crossing.Answer.TheVariants as answer
 use Rattle.interface.proofs.lemmas.{and_true}
 use Rattle.ncp_control.specs.Phases.{taken_phase, failed_phase}
-use Rattle.ncp_control.specs.declared.phase.Phase.{Phase}
-use Rattle.ncp_control.specs.declared.phase.Phase.TheVariants.{Closed, Want, Gone, Heard, Ready}
 use Rattle.reset_law.specs.Events.{Message, Reset, Reply, Other, Event, Contact, Out, In, Told, Down, Up, Idle, Part, Call, Send, Take, Hear, Begin, when, are, place}
-use Rattle.reset_law.specs.Boxes.{Box, Empty, Waiting, Taken, WaitsWith, Post, Put, Fetch, ClearAll, fetched, posted, at_link, boxes}
 use Rattle.reset_law.specs.Pairs.{Pair, kind_of, pair_moved, pair}
 use Rattle.reset_law.specs.Monitor.{Monitor, IsAfter, monitored, monitor}
 use Rattle.reset_law.specs.Invariant.{kind_in, is_signal, InReady, Shape, Sound}
 use Rattle.reset_law.specs.Runs.{IsRun, WaitsAfterClean}
 use Rattle.reset_law.proofs.Links.{at}
 use Rattle.reset_law.proofs.Runs.{carry, IsAlone, sound_run, alone_run, ready_up}
-use Rattle.reset_law.specs.Network.{AreOurs, Network}
 
 -- ---- clean points lie in the past
 

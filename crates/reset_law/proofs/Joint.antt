@@ -1,24 +1,17 @@
 -- Two hosts that are both through a reset: how that begins, and what it keeps.
 pub use Rattle.reset_law.proofs.Runs.{up_and_down as contradicts}
+use Rattle.reset_law.proofs.Common.{Host, Answer, Phase, Want, Gone, Ready, Box, Empty, Waiting, Taken, WaitsWith, Post, Put, Fetch, ClearAll, fetched, posted, at_link, boxes, IsRun, AreOurs, Network}
 use Rattle.std.proofs.Common.{◌≡◌, ◌≢◌, ◌⊎◌, ℕ, Bool, true, false, List, [], ◌∷◌, Option, Some, None, refl, ap, sym, subst, ◌∙◌, inl, inr}
-use Rattle.interface.specs.Host.{Host}
-use Rattle.interface.specs.declared.crossing.Answer.{Answer}
 use Rattle.interface.specs.declared.crossing.Answer.TheVariants as answer
-use Rattle.ncp_control.specs.Phases.{reset_phase}
-use Rattle.ncp_control.specs.declared.phase.Phase.{Phase}
-use Rattle.ncp_control.specs.declared.phase.Phase.TheVariants.{Want, Gone, Ready}
+use Rattle.ncp_control.specs.Phases.{reset_phase, is_ready}
 use Rattle.reset_law.specs.Events.{Message, Reset, Reply, Other, Event, Contact, Out, In, Told, Down, Up, Idle, Call, Send, Take, Hear, Begin, when, are, place, is_up}
-use Rattle.reset_law.specs.Boxes.{Box, Empty, Waiting, Taken, WaitsWith, Post, Put, Fetch, ClearAll, fetched, posted, at_link, boxes}
 use Rattle.reset_law.specs.Pairs.{Kind, Rst, Plain, kind_of, Pair, MaySend, pair_moved, pair}
 use Rattle.reset_law.specs.Monitor.{Monitor, monitor}
 use Rattle.reset_law.specs.Invariant.{kind_in, is_signal, Outstanding, Shape, Sound}
-use Rattle.reset_law.specs.Runs.{IsRun}
-use Rattle.ncp_control.specs.Phases.{is_ready}
 use Rattle.reset_law.specs.Stays.{ready, waits_in}
 use Rattle.reset_law.proofs.Links.{at, fetched_kind}
 use Rattle.reset_law.proofs.Runs.{carry, IsAlone, sound_run, alone_run, ready_up}
 use Rattle.reset_law.proofs.Fresh.{turned_about, still_ready, ready_taken}
-use Rattle.reset_law.specs.Network.{AreOurs, Network}
 
 -- ---- tests
 

@@ -1,3 +1,4 @@
+pub mod Common
 pub mod Links
 pub mod Steps
 pub mod Answers

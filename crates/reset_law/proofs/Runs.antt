@@ -1,19 +1,15 @@
 -- The invariant over whole lists of events.
 pub use Rattle.interface.proofs.lemmas.{unlike as up_and_down}
+use Rattle.reset_law.proofs.Common.{Host, same_host, Closed, Ready, Box, Empty, Waiting, Taken, Post, Put, ClearAll, Fits, fetched, posted, at_link, boxes, IsRun, AreOurs, Network}
 use Rattle.std.proofs.Common.{◌≡◌, ◌≢◌, ℕ, Bool, true, false, List, [], ◌∷◌, Some, None, refl, ap, sym, subst, ◌∙◌, inl, inr, if◌then◌else◌}
-use Rattle.interface.specs.Host.{Host, same_host}
 use Rattle.interface.proofs.lemmas.{and_true, same_host-true}
-use Rattle.ncp_control.specs.declared.phase.Phase.TheVariants.{Closed, Ready}
 use Rattle.reset_law.specs.Events.{Message, Reset, Reply, Other, Event, Contact, Out, In, Told, Down, Up, Idle, Part, Call, Send, Take, Begin, when, are, place, is_up}
-use Rattle.reset_law.specs.Boxes.{Box, Empty, Waiting, Taken, Post, Put, ClearAll, Fits, fetched, posted, at_link, boxes}
 use Rattle.reset_law.specs.Pairs.{Pair, MaySend, opening_pair, pair_moved, pair}
 use Rattle.reset_law.specs.Monitor.{Monitor, monitored, monitor}
 use Rattle.reset_law.specs.Invariant.{kind_in, is_signal, Outstanding, Sound}
-use Rattle.reset_law.specs.Runs.{IsRun}
 use Rattle.reset_law.proofs.Links.{at, fetched_kind}
 use Rattle.reset_law.proofs.Steps.{sound_opening, sound_contact, sound_reset_sent, sound_reply_sent, sound_other_sent, sound_reset_taken, sound_reply_taken, sound_fetched}
 use Rattle.reset_law.proofs.Answers.{sound_told}
-use Rattle.reset_law.specs.Network.{AreOurs, Network}
 
 -- ---- tests of hosts
 

@@ -1,27 +1,21 @@
 -- What a host heard of its peer while it stays is a prefix of what that peer said.
+use Rattle.reset_law.proofs.Common.{Host, same_host, Answer, Phase, Closed, Want, Gone, Heard, Ready, IsRun, AreOurs, Network}
 use Rattle.std.proofs.Common.{◌≡◌, ◌≢◌, ◌⊎◌, ℕ, Bool, true, false, not, ◌&&◌, ◌||◌, List, [], ◌∷◌, ◌++◌, refl, ap, sym, subst, ◌∙◌, inl, inr, if◌then◌else◌, ◌==◌, eq-eqb, append-nil}
 use Rattle.std.proofs.lemmas.Bool.{eqb-true, false_from_ne_true, or_left, and_cases}
-use Rattle.interface.specs.Host.{Host, same_host}
-use Rattle.interface.specs.declared.crossing.Answer.{Answer}
 use Rattle.interface.specs.declared.crossing.Answer.TheVariants as answer
 use Rattle.interface.proofs.lemmas.{and_true, not_true, and_turned}
-use Rattle.ncp_control.specs.Phases.{reply_phase, failed_phase}
-use Rattle.ncp_control.specs.declared.phase.Phase.{Phase}
-use Rattle.ncp_control.specs.declared.phase.Phase.TheVariants.{Closed, Want, Gone, Heard, Ready}
+use Rattle.ncp_control.specs.Phases.{reply_phase, failed_phase, is_ready}
 use Rattle.reset_law.specs.Events.{Message, Reset, Reply, Other, Event, Contact, Out, In, Told, Down, Up, Idle, Call, Send, Take, Hear, Begin, when, are, place, is_up}
 use Rattle.reset_law.specs.Boxes.{Box, Empty, Waiting, Taken, WaitsWith, Fits, Put, Fetch, Clear, ClearAll, fetched, posted, at_link, boxes}
 use Rattle.reset_law.specs.Pairs.{Pair, MaySend, pair_moved, pair}
 use Rattle.reset_law.specs.Monitor.{monitor}
 use Rattle.reset_law.specs.Invariant.{InHeard, Shape, Sound}
-use Rattle.reset_law.specs.Runs.{IsRun}
-use Rattle.ncp_control.specs.Phases.{is_ready}
 use Rattle.reset_law.specs.Stays.{ready, joint, begins, takes_reset, stays, said_by, heard_by, said_in_stay, heard_in_stay, waits_in, IsPrefix}
 use Rattle.reset_law.proofs.Links.{at}
 use Rattle.reset_law.proofs.Runs.{carry, sound_run, alone_run, ready_up}
 use Rattle.reset_law.proofs.Fresh.{turned_about, still_ready, ready_taken}
 use Rattle.reset_law.proofs.Joint.{ready_phase, phase_ready, contradicts, reset_unready, NoPlain, nothing_waits, plain_fetched, plain_if, plain_alone, owes_run}
 use Rattle.reset_law.proofs.Words.{Tells, tells_as, tells_all, front_longer, tells_quiet, tells_heard, tells_said}
-use Rattle.reset_law.specs.Network.{AreOurs, Network}
 
 -- ---- how a stay begins
 

@@ -1,11 +1,9 @@
 -- What a host and one peer do keeps the invariant: contacts, messages that go out and messages that are taken.
+use Rattle.reset_law.proofs.Common.{is_some, Phase, Box, Empty, Waiting, fetched, at_link}
 use Rattle.std.proofs.Common.{◌≡◌, ◌≢◌, ◌⊎◌, ℕ, Bool, true, false, List, Option, Some, None, refl, ap, sym, subst, ◌∙◌, inl, inr}
-use Rattle.std.specs.Prelude.{is_some}
 use Rattle.ncp_control.specs.Phases.{reset_phase, reply_phase}
-use Rattle.ncp_control.specs.declared.phase.Phase.{Phase}
 use Rattle.ncp_control.specs.declared.phase.Phase.TheVariants.{Closed, Want, Gone, Heard, Ready}
 use Rattle.reset_law.specs.Events.{Reset, Reply, Other, Call}
-use Rattle.reset_law.specs.Boxes.{Box, Empty, Waiting, fetched, at_link}
 use Rattle.reset_law.specs.Pairs.{Kind, Rst, Rrp, Plain, Pair, IsFreePair, MaySend, pair_sent, took, pair_moved, opening_pair}
 use Rattle.reset_law.specs.Monitor.{Monitor, OnItsWay, Received, monitor_sent, monitor_took, monitored, opening_monitor}
 use Rattle.reset_law.specs.Invariant.{is_signal, Outstanding, InWant, InReady, Shape, Sound}
