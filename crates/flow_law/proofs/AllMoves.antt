@@ -1,11 +1,8 @@
 -- Each move keeps the clauses, and shows the hosts what their mailbox allows.
-use Rattle.std.proofs.Common.{◌≡◌, Bool, true, false, List, [], ◌∷◌, ◌++◌, None, inl, inr, refl, ap, sym, ◌∙◌, subst, append_assoc, if◌then◌else◌}
+use Rattle.flow_law.proofs.Common.{◌≡◌, Bool, true, false, List, [], ◌∷◌, ◌++◌, None, inl, inr, refl, ap, sym, ◌∙◌, subst, append_assoc, if◌then◌else◌, View, Packet, Queued, mail_now, Invariant, Held, Sound}
 use Rattle.interface.specs.Mailboxes.{Box, Mail, Passing, WaitsWith, MailNeeds, mail_after, mail_of, IsFlowRun}
 use Rattle.link_table.specs.declared.destination.Fate.TheVariants as fate
-use Rattle.flow_law.specs.View.{View, Packet, Queued, mail_now}
 use Rattle.flow_law.specs.Moves.{Move, Needs, Makes, Either, CanOffer, CanTakeMessage, NeedsAll, Grown, queued_text, view_moved, after_all, shows, shown_by}
-use Rattle.flow_law.specs.Invariant.{Invariant, Held}
-use Rattle.flow_law.specs.Follows.{Sound}
 use Rattle.flow_law.proofs.Clauses.{invariant_less}
 use Rattle.flow_law.proofs.Begins.{dead_now, begin_sent, begin_local}
 use Rattle.flow_law.proofs.Arrivals.{note_gone, whole, freed, given_up, take_message, held_there, take_answer, told}

@@ -1,12 +1,8 @@
 -- Packets arrive, and hosts take what waits for them.
-use Rattle.std.proofs.Common.{◌≡◌, ℕ, Bool, true, false, List, [], ◌∷◌, ◌++◌, Option, Some, None, inl, inr, refl, ap, sym, ◌∙◌, subst, eq-eqb, if◌then◌else◌}
-use Rattle.std.proofs.lemmas.Bool.{cases_Bool}
-use Rattle.interface.specs.declared.crossing.Answer.{Answer}
+use Rattle.flow_law.proofs.Common.{◌≡◌, ℕ, Bool, true, false, List, [], ◌∷◌, ◌++◌, Option, Some, None, inl, inr, refl, ap, sym, ◌∙◌, subst, eq-eqb, if◌then◌else◌, cases_Bool, Answer, Fate, View, Packet, Queued, Kind, is_request, is_refusal}
 use Rattle.interface.specs.declared.crossing.Answer.TheVariants as answer
 use Rattle.interface.specs.Mailboxes.{Box, Fits, fetched}
-use Rattle.link_table.specs.declared.destination.Fate.{Fate}
 use Rattle.link_table.specs.declared.destination.Fate.TheVariants as fate
-use Rattle.flow_law.specs.View.{View, Packet, Queued, Kind, is_request, is_refusal}
 use Rattle.flow_law.specs.Moves.{Move, New, CanNote, CanQueue, CanFree, CanTakeMessage, CanGiveUp, Brings, IsLost, IsTold, IsRefusal, Either, with_answer, with_fate, queued_text, view_moved}
 use Rattle.flow_law.specs.Invariant.{Invariant, Begun, Carried, Held, Gone, Busy, Lost, FateSays, Fated}
 use Rattle.flow_law.proofs.Clauses.{idle_new, idle_queue, dead_fits, shut_new, shut_queue, noted, begun_itself, new_too, one_there, not_taken_fits}

@@ -1,14 +1,8 @@
 -- The source's IMP asks what became of the outstanding message, and the destination's IMP answers it.
-use Rattle.std.proofs.Common.{◌≡◌, ◌≢◌, ℕ, Bool, true, false, List, Option, Some, inl, inr, refl, ap, sym, ◌∙◌, subst}
+use Rattle.flow_law.proofs.Common.{◌≡◌, ◌≢◌, ℕ, Bool, true, false, List, Option, Some, inl, inr, refl, ap, sym, ◌∙◌, subst, Box, Fits, Near, Fate, near_same, View, Packet, Queued, Kind, is_request, is_refusal, Invariant, Begun, Carried, Gone, Lost, Unnoted, FateSays, Fated}
 use Rattle.interface.specs.declared.crossing.Answer.TheVariants as answer
-use Rattle.interface.specs.Mailboxes.{Box, Fits}
-use Rattle.link_table.specs.Numbers.{Near}
-use Rattle.link_table.specs.declared.destination.Fate.{Fate}
 use Rattle.link_table.specs.declared.destination.Fate.TheVariants as fate
-use Rattle.link_table.proofs.lemmas.{near_same}
-use Rattle.flow_law.specs.View.{View, Packet, Queued, Kind, is_request, is_refusal}
 use Rattle.flow_law.specs.Moves.{Move, New, CanReply, Tells, IsTold, Either, view_moved}
-use Rattle.flow_law.specs.Invariant.{Invariant, Begun, Carried, Gone, Lost, Unnoted, FateSays, Fated}
 use Rattle.flow_law.proofs.Clauses.{near_not_new, begun_itself}
 use Rattle.flow_law.proofs.Arrivals.{refusal_asks_not}
 

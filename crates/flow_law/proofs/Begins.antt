@@ -1,11 +1,8 @@
 -- A message is offered: a Dead at once, a message to another IMP, a message within one IMP.
-use Rattle.std.proofs.Common.{◌≡◌, ℕ, ◌<◌, Bool, true, false, List, [], ◌∷◌, ◌++◌, Some, None, inl, inr, refl, ap, sym, ◌∙◌, subst}
+use Rattle.flow_law.proofs.Common.{◌≡◌, ℕ, ◌<◌, Bool, true, false, List, [], ◌∷◌, ◌++◌, Some, None, inl, inr, refl, ap, sym, ◌∙◌, subst, near_same, View, Packet, Queued, Kind, is_refusal, Invariant}
 use Rattle.interface.specs.declared.crossing.Answer.TheVariants as answer
 use Rattle.link_table.specs.Numbers.{modulus, Near}
-use Rattle.link_table.proofs.lemmas.{near_same}
-use Rattle.flow_law.specs.View.{View, Packet, Queued, Kind, is_refusal}
 use Rattle.flow_law.specs.Moves.{Move, New, CanOffer, CanBegin, IsPieceOf, Either, queued_text, next_number, view_moved}
-use Rattle.flow_law.specs.Invariant.{Invariant}
 use Rattle.flow_law.proofs.Clauses.{idle_new, idle_queue, near_not_new, next_number_in, fresh, still_near}
 
 no_refusal : (x : Packet) → x.kind ≡ Kind.Data → is_refusal x.kind ≡ true → ⊥

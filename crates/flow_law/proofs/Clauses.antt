@@ -1,15 +1,9 @@
 -- What follows from the clauses, and that losing packets keeps them.
-use Rattle.std.proofs.Common.{◌≡◌, ◌≢◌, ℕ, ◌<◌, Bool, true, false, List, [], ◌∷◌, Option, Some, None, inl, inr, refl, ap, sym, ◌∙◌, subst, arith}
-use Rattle.std.specs.List.{Contains}
-use Rattle.std.proofs.lemmas.Bool.{cases_Bool}
-use Rattle.std.proofs.lemmas.List.Elements.{Contains-push_cases}
+use Rattle.flow_law.proofs.Common.{◌≡◌, ◌≢◌, ℕ, ◌<◌, Bool, true, false, List, [], ◌∷◌, Option, Some, None, inl, inr, refl, ap, sym, ◌∙◌, subst, arith, Contains, cases_Bool, Contains-push_cases, Box, Fits, View, Packet, Queued, is_request, Invariant, Begun, Carried, Gone, Unnoted, Fated}
 use Rattle.interface.specs.declared.crossing.Answer.TheVariants as answer
-use Rattle.interface.specs.Mailboxes.{Box, Fits}
 use Rattle.link_table.specs.Numbers.{modulus, next, is_new, Near}
 use Rattle.link_table.proofs.lemmas.{near_next, near_old, near_same, next_in, not_next, two}
-use Rattle.flow_law.specs.View.{View, Packet, Queued, is_request}
 use Rattle.flow_law.specs.Moves.{New, CanBegin, queued_text, next_number}
-use Rattle.flow_law.specs.Invariant.{Invariant, Begun, Carried, Gone, Unnoted, Fated}
 
 fated_less : (v : View) (t s : Packet → Type 0) (number : ℕ) → ((x : Packet) → s x → t x) → Fated number v.to_up v.kept v.fate v.queue v.box t → Fated number v.to_up v.kept v.fate v.queue v.box s
 fated_less v t s number less k = record {

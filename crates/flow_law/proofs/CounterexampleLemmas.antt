@@ -1,17 +1,12 @@
 -- Each machine that lacks a need breaks its mailbox.
-use Rattle.std.proofs.Common.{◌≡◌, ◌≢◌, ℕ, true, false, [], ◌∷◌, Some, None, inl, refl, sym, ◌∙◌, subst, arith}
-use Rattle.std.specs.List.{Contains}
-use Rattle.interface.specs.Mailboxes.{Box}
+use Rattle.flow_law.proofs.Common.{◌≡◌, ◌≢◌, ℕ, true, false, [], ◌∷◌, Some, None, inl, refl, sym, ◌∙◌, subst, arith, Contains, Box, Packet, Kind, is_request, first_text, contains_head, contains_none}
 use Rattle.link_table.specs.Numbers.{modulus, window, next, oldest, is_new, Near}
 use Rattle.link_table.proofs.lemmas.{near_same, not_next, two}
-use Rattle.flow_law.specs.View.{Packet, Kind, is_request}
 use Rattle.flow_law.specs.Moves.{next_number}
 use Rattle.flow_law.specs.Local.{answer_packet}
-use Rattle.flow_law.specs.Example.{first_text}
 use Rattle.flow_law.specs.Counterexamples.{Breaks, second_text, data_of, rfnm_of, dead_of, OffersDown, offers_down, NotIdle, not_idle, NotAnswered, not_answered, NotesNothing, notes_nothing, NotesAway, notes_away, NotesTaken, notes_taken, NotesOld, notes_old, QueuesOld, queues_old, JoinsAny, joins_any, FreedByNothing, freed_by_nothing, FreedByAny, freed_by_any, FreedByData, freed_by_data, TakesNothing, takes_nothing, ToldNothing, told_nothing, TakesDown, takes_down, SourceStopsTwice, source_stops_twice, DestinationStopsTwice, destination_stops_twice, SourceStartsTwice, source_starts_twice, DestinationStartsTwice, destination_starts_twice, StartsAway, starts_away, StartsUnsettled, starts_unsettled, StartsAlive, starts_alive, StartsQueued, starts_queued, ReturnsAlive, returns_alive, ForgetsAlive, forgets_alive, GivesUpNothing, gives_up_nothing, GivesUpAlive, gives_up_alive, GivesUpQueued, gives_up_queued}
 use Rattle.flow_law.proofs.Left.{only, second_there, left_none, left_old, left_made, left_both}
 use Rattle.flow_law.proofs.ExampleLemmas.{new_at_first}
-use Rattle.interface.proofs.lemmas.{contains_head, contains_none}
 
 -- number 0 isn't the one that would leave the window after number 0
 not_oldest : (last : ℕ) → last ≡ 0 → 0 ≢ oldest last

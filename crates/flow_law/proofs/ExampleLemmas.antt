@@ -1,12 +1,10 @@
 -- The worked history is one.
-use Rattle.std.proofs.Common.{◌≡◌, true, [], ◌∷◌, None, inl, refl}
+use Rattle.flow_law.proofs.Common.{◌≡◌, true, [], ◌∷◌, None, inl, refl, Packet, is_request, contains_head}
 use Rattle.link_table.specs.Numbers.{is_new}
-use Rattle.flow_law.specs.View.{Packet, is_request}
 use Rattle.flow_law.specs.Moves.{New}
 use Rattle.flow_law.specs.Runs.{IsHistory}
 use Rattle.flow_law.specs.Example.{at_first, worked, data_packet, rfnm, InOnePacket}
 use Rattle.flow_law.proofs.Left.{second_there, left_old, left_made, left_both}
-use Rattle.interface.proofs.lemmas.{contains_head}
 
 -- where nothing was noted each request is new
 pub new_at_first : (x : Packet) → is_request x.kind ≡ true → New true None x

@@ -1,12 +1,9 @@
 -- The interface: what the layer above cites.
-use Rattle.std.proofs.Common.{◌≡◌, Bool, List, [], ◌∷◌, ◌++◌, length, refl, ap, sym, ◌∙◌, subst, append_assoc}
-use Rattle.interface.specs.declared.address.Flow.{Flow}
-use Rattle.interface.specs.declared.crossing.Crossing.{Crossing}
+use Rattle.flow_law.proofs.Common.{◌≡◌, Bool, List, [], ◌∷◌, ◌++◌, length, refl, ap, sym, ◌∙◌, subst, append_assoc, Flow, Crossing, View, Packet}
 use Rattle.interface.specs.declared.crossing.Crossing.TheVariants as crossing
 use Rattle.interface.specs.Host.{Host}
 use Rattle.interface.specs.Mailboxes.{Mail, Passing, passings, passed, opening_mail, UpsAreHosts, IsRun, EachIsRun}
 use Rattle.interface.proofs.lemmas.{each_is_run}
-use Rattle.flow_law.specs.View.{View, Packet}
 use Rattle.flow_law.specs.Moves.{Move, Needs, Makes, Either, Grown, view_moved, after_all, shown_by}
 use Rattle.flow_law.specs.Follows.{Follows, Sound, AllSound, AllFollow, AllOpen, passed_over}
 use Rattle.flow_law.proofs.AllMoves.{sound_less, sound_after_all}

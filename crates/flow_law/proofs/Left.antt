@@ -1,11 +1,7 @@
 -- Which packets may be left, for short lists.
-use Rattle.std.proofs.Common.{List, [], ◌∷◌, inl, inr, refl, subst, arith}
-use Rattle.std.specs.List.{Contains}
-use Rattle.std.proofs.lemmas.List.Elements.{Contains-push_cases}
-use Rattle.flow_law.specs.View.{Packet}
+use Rattle.flow_law.proofs.Common.{List, [], ◌∷◌, inl, inr, refl, subst, arith, Contains, Contains-push_cases, Packet, contains_none}
 use Rattle.flow_law.specs.Moves.{Either}
 use Rattle.flow_law.proofs.Clauses.{only_one}
-use Rattle.interface.proofs.lemmas.{contains_none}
 
 -- the element of a list of one
 pub only : {X : Type 0} (P : X → Type 0) (x z : X) → P x → Contains (x ∷ []) z → P z

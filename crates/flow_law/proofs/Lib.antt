@@ -1,3 +1,4 @@
+pub mod Common
 pub mod Clauses
 pub mod Begins
 pub mod Arrivals

@@ -1,9 +1,6 @@
 -- A flow within one IMP.
-use Rattle.std.proofs.Common.{◌≡◌, Bool, true, false, List, [], ◌∷◌, Some, inl, inr, refl, ap}
-use Rattle.std.specs.List.{Contains}
-use Rattle.flow_law.specs.View.{View, Packet, Queued}
+use Rattle.flow_law.proofs.Common.{◌≡◌, Bool, true, false, List, [], ◌∷◌, Some, inl, inr, refl, ap, Contains, View, Packet, Queued, Invariant}
 use Rattle.flow_law.specs.Moves.{CanTakeMessage, CanStartSource, queued_text}
-use Rattle.flow_law.specs.Invariant.{Invariant}
 use Rattle.flow_law.specs.Follows.{Follows}
 use Rattle.flow_law.specs.Local.{taken_here, view_taken_here, stopped_host, started_host, stopped_host_queued, view_stopped_here, view_stopped_itself, view_stopped_unread, view_started_itself}
 

@@ -1,12 +1,9 @@
 -- Machines that ask, report or forget what is asked for where they shouldn't.
-use Rattle.std.proofs.Common.{[], ◌∷◌, inl, refl}
-use Rattle.flow_law.specs.View.{Kind}
-use Rattle.flow_law.specs.Example.{first_text}
+use Rattle.flow_law.proofs.Common.{[], ◌∷◌, inl, refl, Kind, first_text, contains_head, contains_none}
 use Rattle.flow_law.specs.Counterexamples.{Breaks, data_of, dead_of, rfnm_of, never_of, ask_of, second, ReturnsAwaited, returns_awaited, ForgetsAwaited, forgets_awaited, AsksAnything, asks_anything, RepliesToNothing, replies_to_nothing, RepliesToAny, replies_to_any, RepliesFalsely, replies_falsely, NeverOfWaiting, never_of_waiting, NeverOfTaken, never_of_taken, NeverUnnoted, never_unnoted}
 use Rattle.flow_law.proofs.Left.{second_there, left_none, left_old, left_made, left_both}
 use Rattle.flow_law.proofs.ExampleLemmas.{new_at_first}
 use Rattle.flow_law.proofs.CounterexampleLemmas.{answer_only, second_is_other}
-use Rattle.interface.proofs.lemmas.{contains_head, contains_none}
 
 pub returns_awaited_breaks : Breaks ReturnsAwaited returns_awaited
 returns_awaited_breaks = record {

@@ -1,19 +1,17 @@
 -- A machine that begins any number: enough messages that a copy of the first one's packet, which outlives them, is new
 -- again. Nothing is used of the modulus and the window but that the modulus is more than twice the window.
+use Rattle.flow_law.proofs.Common.{Contains, View, Packet, Kind, contains_head, contains_none}
 use Rattle.std.proofs.Common.{◌≡◌, ℕ, zero, suc, ◌-◌, ◌<◌, true, List, [], ◌∷◌, Some, inl, refl, ap, sym, ◌∙◌, subst, arith}
-use Rattle.std.specs.List.{Contains}
 use Rattle.interface.specs.declared.crossing.Answer.TheVariants as answer
 use Rattle.link_table.specs.Numbers.{modulus, window, next, is_new}
 use Rattle.link_table.proofs.lemmas.{new_again, next_below, next_last, next_new, some_ahead, two, wide}
 use Rattle.link_table.specs.declared.destination.Fate.TheVariants as fate
-use Rattle.flow_law.specs.View.{View, Packet, Kind}
 use Rattle.flow_law.specs.Moves.{Move, Either, IsRefusal, queued_text, view_moved}
 use Rattle.flow_law.specs.Runs.{IsTurn, IsHistoryBy, view_after, left_by}
 use Rattle.flow_law.specs.Example.{at_first, first_text, InOnePacket}
 use Rattle.flow_law.specs.Counterexamples.{Breaks, AnyNumber, any_number, outlived, rounds, BeginsKept, begins_kept, asked_after, given_up_to, turn, second_text, data_of, dead_of, rfnm_of, ask_of}
 use Rattle.flow_law.proofs.Left.{second_there, left_none, left_old, left_made, left_both}
 use Rattle.flow_law.proofs.ExampleLemmas.{new_at_first}
-use Rattle.interface.proofs.lemmas.{contains_head, contains_none}
 
 next_is : (n : ℕ) → suc n < modulus → next n ≡ suc n
 next_is n small = next_below n (omega (arith, small)) ∙ omega arith

@@ -1,13 +1,8 @@
 -- A history of one flow from its opening.
-use Rattle.std.proofs.Common.{◌≡◌, Bool, List, [], ◌∷◌, None, inl, refl}
-use Rattle.std.specs.List.{Contains}
-use Rattle.flow_law.specs.View.{View, Packet, mail_now}
+use Rattle.flow_law.proofs.Common.{◌≡◌, Bool, List, [], ◌∷◌, None, inl, refl, Contains, View, Packet, mail_now, Invariant, Sound, contains_none}
 use Rattle.flow_law.specs.Moves.{Makes, Either}
-use Rattle.flow_law.specs.Invariant.{Invariant}
-use Rattle.flow_law.specs.Follows.{Sound}
 use Rattle.flow_law.specs.Runs.{FlowTurn, IsOpening, IsHistory, left_by, view_after, seen_in}
 use Rattle.flow_law.proofs.AllMoves.{sound_less, sound_after}
-use Rattle.interface.proofs.lemmas.{contains_none}
 
 -- at the opening the clauses hold, where nothing is alive
 pub opening_invariant : {Piece : List Bool → Packet → Type 0} (v : View) (t : Packet → Type 0) → IsOpening v → ((x : Packet) → t x → ⊥) → Invariant Piece v t

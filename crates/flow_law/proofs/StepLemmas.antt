@@ -1,14 +1,10 @@
 -- Steps that concern one flow, or one host.
-use Rattle.std.proofs.Common.{◌≡◌, Bool, true, false, List, [], ◌∷◌, ◌++◌, length, refl, sym, subst, if◌then◌else◌}
-use Rattle.interface.specs.declared.address.Flow.{Flow}
-use Rattle.interface.specs.declared.crossing.Answer.{Answer}
-use Rattle.interface.specs.declared.crossing.Crossing.{Crossing}
+use Rattle.flow_law.proofs.Common.{◌≡◌, Bool, true, false, List, [], ◌∷◌, ◌++◌, length, refl, sym, subst, if◌then◌else◌, Flow, Answer, Crossing, View, Packet}
 use Rattle.interface.specs.declared.crossing.Crossing.TheVariants as crossing
 use Rattle.interface.specs.declared.message.HostMessage.{HostMessage}
 use Rattle.interface.specs.Host.{Host, same_host}
 use Rattle.interface.specs.Mailboxes.{Passing, first_if, same_flow, UpsAreHosts}
 use Rattle.interface.proofs.lemmas.{same_flow-refl, same_flow-true}
-use Rattle.flow_law.specs.View.{View, Packet}
 use Rattle.flow_law.specs.Moves.{Move, shown_by}
 use Rattle.flow_law.specs.Follows.{Follows, AllSound, AllFollow, OneFollows, passed_over}
 use Rattle.flow_law.specs.Local.{stopped_host, started_host}

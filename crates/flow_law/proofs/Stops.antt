@@ -1,12 +1,7 @@
 -- Hosts go down and come up, and so do their IMPs.
-use Rattle.std.proofs.Common.{◌≡◌, ℕ, Bool, true, false, List, [], ◌∷◌, Option, Some, None, inl, inr, refl, ap, sym, ◌∙◌, subst, eq-eqb, if◌then◌else◌}
-use Rattle.std.proofs.lemmas.Bool.{cases_Bool}
-use Rattle.link_table.specs.Numbers.{Near}
-use Rattle.link_table.specs.declared.destination.Fate.{Fate}
+use Rattle.flow_law.proofs.Common.{◌≡◌, ℕ, Bool, true, false, List, [], ◌∷◌, Option, Some, None, inl, inr, refl, ap, sym, ◌∙◌, subst, eq-eqb, if◌then◌else◌, cases_Bool, Near, Fate, View, Packet, Queued, Kind, is_request, is_refusal, Invariant, Begun, Carried, Held, Gone, Unnoted, Lost, FateSays, Fated}
 use Rattle.link_table.specs.declared.destination.Fate.TheVariants as fate
-use Rattle.flow_law.specs.View.{View, Packet, Queued, Kind, is_request, is_refusal}
 use Rattle.flow_law.specs.Moves.{Move, New, CanStartSource, CanStartFrom, CanForget, IsDeadOf, Either, queued_text, view_moved, with_fate, with_fates}
-use Rattle.flow_law.specs.Invariant.{Invariant, Begun, Carried, Held, Gone, Unnoted, Lost, FateSays, Fated}
 use Rattle.flow_law.proofs.Clauses.{invariant_less, idle_new, idle_queue, dead_fits, begun_itself, number_of, none_in}
 use Rattle.flow_law.proofs.Arrivals.{refusal_asks_not}
 

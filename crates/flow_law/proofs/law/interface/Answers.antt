@@ -1,9 +1,7 @@
-use Rattle.std.proofs.Common.{[]}
-use Rattle.std.specs.List.{Contains}
+use Rattle.flow_law.proofs.Common.{[], Contains, contains_none}
 use Rattle.flow_law.proofs.FollowLemmas.{all_follow, all_open, sound_log, sound_run, passed_over-append}
 use Rattle.flow_law.proofs.StepLemmas.{one_follows, silent_follows}
 use Rattle.flow_law.proofs.law.interface.Goals as goal
-use Rattle.interface.proofs.lemmas.{contains_none}
 
 pub returns-clause-opening : goal.returns-clause-opening
 returns-clause-opening c = λ test hosts view o. all_open hosts view (λ f. Contains []) o (λ f. contains_none)

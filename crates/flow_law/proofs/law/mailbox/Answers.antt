@@ -1,12 +1,10 @@
-use Rattle.std.proofs.Common.{[]}
-use Rattle.std.specs.List.{Contains}
+use Rattle.flow_law.proofs.Common.{[], Contains, contains_none}
 use Rattle.flow_law.specs.Moves.{Makes, Either, view_moved}
 use Rattle.flow_law.specs.Runs.{ByTest}
 use Rattle.flow_law.proofs.Clauses.{invariant_less}
 use Rattle.flow_law.proofs.AllMoves.{invariant_after}
 use Rattle.flow_law.proofs.RunLemmas.{history_sound, opening_invariant}
 use Rattle.flow_law.proofs.law.mailbox.Goals as goal
-use Rattle.interface.proofs.lemmas.{contains_none}
 
 pub returns-clause-flow : goal.returns-clause-flow
 returns-clause-flow c = λ test start turns o h. (history_sound {Piece = ByTest test} start turns o h).run

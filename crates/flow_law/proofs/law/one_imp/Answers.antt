@@ -1,5 +1,4 @@
-use Rattle.std.proofs.Common.{refl}
-use Rattle.std.specs.List.{Contains}
+use Rattle.flow_law.proofs.Common.{refl, Contains}
 use Rattle.flow_law.proofs.LocalLemmas.{queued_awaited, queued_alone, take_here, stop_here, stop_itself_queued, stop_itself, start_itself}
 use Rattle.flow_law.proofs.StepLemmas.{down_shown, up_shown}
 use Rattle.flow_law.proofs.law.one_imp.Goals as goal
