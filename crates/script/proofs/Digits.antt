@@ -1,11 +1,10 @@
 -- Upper case hexadecimal digits.
+use Rattle.script.proofs.Common.{list_all, is_upper_digit}
 use Rattle.std.proofs.Common.{◌≡◌, ℕ, ◌<◌, ◌≤◌, ◌+◌, ◌-◌, ◌*◌, ◌/◌, ◌%◌, ◌&&◌, nat_le, true, List, [], ◌∷◌, ◌++◌, length, take, slice_index, slice_set, is_some, refl, sym, ap, ◌∙◌, arith, zero, suc, inl, inr}
 use Rattle.std.proofs.lemmas.Bool.{or_cases, and_parts, leb-true, cases_lt, false≢true}
-use Rattle.std.specs.List.{list_all}
 use Rattle.std.proofs.lemmas.List.{take_more, take_more_set, append_assoc, get_or_past}
 use Rattle.hex.specs.Hex.{encode_upper, encode_with, upper_digits, is_hex_digit, IsBytes}
 use Rattle.hex.proofs.HexLemmas.{IsDigits-upper_digits, length-encode_with}
-use Rattle.script.specs.Spelling.{is_upper_digit}
 
 -- the digits in their order
 pub record IsUpperAt (c : ℕ) : Type 0 where

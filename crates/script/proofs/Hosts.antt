@@ -1,14 +1,8 @@
 -- Hosts and flows as words.
+use Rattle.script.proofs.Common.{nat_tests, decimal_injective, All-append, All-cons, decimal, host_text, flow_text, Flow, ReadsFlow, Lacks}
 use Rattle.std.proofs.Common.{◌≡◌, ℕ, ◌<◌, ◌≤◌, ◌==◌, ◌&&◌, nat_le, Bool, true, false, List, ◌∷◌, ◌++◌, Option, Some, None, if◌then◌else◌, sym, ap, ◌∙◌, arith, subst, append_assoc, lit<}
-use Rattle.std.proofs.lemmas.Bool.Decides.{nat_tests}
-use Rattle.std.proofs.lemmas.Fmt.{decimal_injective}
-use Rattle.std.proofs.lemmas.List.Elements.{All-append, All-cons}
-use Rattle.std.specs.Fmt.{decimal}
 use Rattle.interface.specs.Host.{Host, host_at, is_imp}
-use Rattle.interface.specs.Printed.{host_text, flow_text}
-use Rattle.interface.specs.declared.address.Flow.{Flow}
 use Rattle.script.specs.Spelling.{ReadsAs, IsHost, IsFlow}
-use Rattle.script.specs.Steps.{ReadsFlow, Lacks}
 use Rattle.script.proofs.Numbers.{All-unmarked_decimal}
 use Rattle.script.proofs.Words.{SameCut, SameThree, same_three, same_cut}
 

@@ -1,20 +1,12 @@
 -- Events as lines: a keyword, and what follows it.
+use Rattle.script.proofs.Common.{All-nil, All-cons, decimal, list_any, Host, host_text, flow_text, Flow, Direction, HostMessage, RawEvent}
 use Rattle.std.proofs.Common.{◌≡◌, ◌≢◌, ℕ, ◌==◌, Bool, true, false, List, [], ◌∷◌, ◌++◌, codes, refl, sym, ap, ◌∙◌, subst, eqb, if◌then◌else◌}
 use Rattle.std.proofs.lemmas.Bool.{false≢true, or_parts, eq-eqb}
-use Rattle.std.proofs.lemmas.List.Elements.{All-nil, All-cons}
-use Rattle.std.specs.Fmt.{decimal}
-use Rattle.std.specs.List.{list_any}
 use Rattle.std.specs.Cmp.Lexicographic.{pointwise}
 use Rattle.std.specs.Prelude.{IsTrue, ◌↔◌}
 use Rattle.std.specs.Str.{bytes_eq}
-use Rattle.interface.specs.Host.{Host}
-use Rattle.interface.specs.Printed.{host_text, flow_text}
-use Rattle.interface.specs.declared.address.Flow.{Flow}
-use Rattle.interface.specs.declared.event.Direction.{Direction}
 use Rattle.interface.specs.declared.event.NetEvent.{NetEvent}
 use Rattle.interface.specs.declared.event.NetEvent.TheVariants as net
-use Rattle.interface.specs.declared.message.HostMessage.{HostMessage}
-use Rattle.script.specs.declared.event.RawEvent.{RawEvent}
 use Rattle.script.specs.declared.event.RawEvent.TheVariants as event
 use Rattle.script.specs.Spelling.{spelling, net_spelling, IsEvent, IsNetEvent, IsMessage, IsHost, IsFlow, IsImp, IsIndex, message_text}
 use Rattle.script.specs.Steps.{Lacks, IsOfHosts, IsOfImps, IsOfLines, frame_text, IsFrame, pair_text, IsEnd, AreImps}

@@ -1,12 +1,7 @@
 -- Messages as words.
+use Rattle.script.proofs.Common.{decimal_injective, decimal, host_text, HostMessage, Flow, ReadsFlow, Lacks}
 use Rattle.std.proofs.Common.{◌≡◌, ◌≢◌, ℕ, ◌<◌, ◌≤◌, List, ◌∷◌, ◌++◌, length, Some, None, refl, sym, ap, ◌∙◌, arith, lit<}
-use Rattle.std.proofs.lemmas.Fmt.{decimal_injective}
-use Rattle.std.specs.Fmt.{decimal}
-use Rattle.interface.specs.Printed.{host_text}
-use Rattle.interface.specs.declared.message.HostMessage.{HostMessage}
-use Rattle.interface.specs.declared.address.Flow.{Flow}
 use Rattle.script.specs.Spelling.{ReadsAs, IsHex, IsMessage, IsTextRead, message_text, octets_text}
-use Rattle.script.specs.Steps.{ReadsFlow, Lacks}
 use Rattle.script.proofs.Numbers.{All-unmarked_decimal}
 use Rattle.script.proofs.Words.{SameThree, same_three}
 use Rattle.script.proofs.Hosts.{host_unmarked, same_words}

@@ -1,26 +1,13 @@
 -- What is read is one thing: no two events are spelled alike, and an input is parted in one way.
+use Rattle.script.proofs.Common.{false≢true, nat_tests, decimal_injective, All-head, All-tail, decimal, All, flat_map, list_any, bits_of, octets_of, Host, flow_text, host_text, Flow, Direction, HostMessage, IsParted, ended_line, RawEvent}
 use Rattle.std.proofs.Common.{◌≡◌, ◌≢◌, ℕ, ◌<◌, ◌≤◌, Bool, List, [], ◌∷◌, ◌++◌, ◌+◌, ◌^◌, ◌==◌, ◌⊎◌, inl, inr, count_by, Ok, length, take, map, codes, refl, sym, ap, ap₂, ◌∙◌, arith, lit<, subst}
-use Rattle.std.proofs.lemmas.Bool.{false≢true}
-use Rattle.std.proofs.lemmas.Bool.Decides.{nat_tests}
-use Rattle.std.proofs.lemmas.Fmt.{decimal_injective}
-use Rattle.std.proofs.lemmas.List.Elements.{All-head, All-tail}
-use Rattle.std.specs.Fmt.{decimal}
 use Rattle.std.proofs.lemmas.List.Splits.{length-slice_split}
-use Rattle.std.specs.List.{All, flat_map, list_any}
 use Rattle.hex.proofs.HexLemmas.{decode_of-encode_upper}
 use Rattle.hex.specs.Hex.{decode_of}
-use Rattle.bit_messages.specs.Octets.{bits_of, octets_of}
-use Rattle.interface.specs.Host.{Host}
-use Rattle.interface.specs.Printed.{flow_text, host_text}
-use Rattle.interface.specs.declared.address.Flow.{Flow}
-use Rattle.interface.specs.declared.event.Direction.{Direction}
 use Rattle.interface.specs.declared.event.Direction.TheVariants as way
-use Rattle.interface.specs.declared.message.HostMessage.{HostMessage}
-use Rattle.script.specs.Input.{IsParted, ended_line}
 use Rattle.script.specs.Script.{AskFor, AskForAs, lines_of}
 use Rattle.script.specs.Spelling.{IsEvent, IsFlow, IsHost, IsImp, IsMessage, direction_text, message_text, octets_text, spelling}
 use Rattle.script.specs.Steps.{IsFrame, frame_text, pair_text}
-use Rattle.script.specs.declared.event.RawEvent.{RawEvent}
 use Rattle.script.proofs.Keywords.{unmarked_where, Kind, Messages, Hosts, Flows, Imps, Twos, Frames, Ends, Counts, OperandOf, text_of, IsMeant, keyword, made, operand, made_again, spelled, is_meant, plain}
 use Rattle.script.proofs.Places.{direction_unmarked, imp_small}
 use Rattle.script.proofs.Hosts.{front_unmarked, host_range, host_unmarked}

@@ -1,11 +1,9 @@
 -- Going through the lines of an input up to its mark.
+use Rattle.script.proofs.Common.{All-append, All-cons, All-nil, All, flat_map, ended_line, IsParted}
 use Rattle.std.proofs.Common.{◌≡◌, ◌≢◌, ℕ, ◌+◌, List, [], ◌∷◌, ◌++◌, length, take, codes, Option, Some, None, Bor, refl, sym, ap, ◌∙◌, inl, inr, MatchOption, ◌⊎◌}
 use Rattle.std.proofs.lemmas.List.{append_assoc, append-nil, take_at, length-append}
-use Rattle.std.proofs.lemmas.List.Elements.{All-append, All-cons, All-nil}
 use Rattle.std.proofs.lemmas.Grind.{flat_map-append}
-use Rattle.std.specs.List.{All, flat_map}
 use Rattle.script.specs.Script.{lines_of, lines_after}
-use Rattle.script.specs.Input.{ended_line, IsParted}
 
 -- what was passed of an input: whole lines that aren't the mark
 pub record Passed (input : List ℕ) (passed : ℕ) (rest : Option (Bor (List ℕ))) : Type 0 where

@@ -1,11 +1,7 @@
 -- IMPs, directions, frames and ends of lines as words.
+use Rattle.script.proofs.Common.{nat_tests, decimal_injective, All-nil, All-cons, decimal, Direction}
 use Rattle.std.proofs.Common.{◌≡◌, ◌≢◌, ℕ, ◌<◌, ◌≤◌, ◌^◌, ◌==◌, Bool, true, false, List, [], ◌∷◌, ◌++◌, if◌then◌else◌, Option, Some, None, refl, sym, ap, ◌∙◌, arith, subst, lit<}
-use Rattle.std.proofs.lemmas.Bool.Decides.{nat_tests}
-use Rattle.std.proofs.lemmas.Fmt.{decimal_injective}
-use Rattle.std.proofs.lemmas.List.Elements.{All-nil, All-cons}
-use Rattle.std.specs.Fmt.{decimal}
 use Rattle.interface.specs.Host.{imp_at, is_imp}
-use Rattle.interface.specs.declared.event.Direction.{Direction}
 use Rattle.interface.specs.declared.event.Direction.TheVariants as way
 use Rattle.script.specs.Spelling.{ReadsAs, IsImp, IsIndex, direction_text}
 use Rattle.script.specs.Steps.{Lacks, frame_text, IsFrame, pair_text, IsEnd, AreImps, IsDirection}

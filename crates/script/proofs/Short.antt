@@ -1,20 +1,12 @@
 -- Words of one and of two digits, and hosts, whose numbers have one digit.
+use Rattle.script.proofs.Common.{nat_tests, All-nil, All-cons, All-append, digit_value_digit, digit_value, decimal, IsInRange, All, host_text, begins_wrong, Lacks}
 use Rattle.std.proofs.Common.{◌≡◌, ◌≢◌, ℕ, ◌+◌, ◌-◌, ◌*◌, ◌^◌, ◌<◌, ◌≤◌, ◌==◌, ◌⊎◌, inl, inr, false, List, [], ◌∷◌, ◌++◌, Option, get_or, take, drop, length, refl, sym, ap, ◌∙◌, subst, arith, lit<}
-use Rattle.std.proofs.lemmas.Bool.Decides.{nat_tests}
 use Rattle.std.proofs.lemmas.Fmt.{decimal_is_IsNumeral, decimal_digit}
 use Rattle.std.proofs.lemmas.List.{take_more}
-use Rattle.std.proofs.lemmas.List.Elements.{All-nil, All-cons, All-append}
-use Rattle.std.proofs.lemmas.Str.{digit_value_digit}
 use Rattle.std.proofs.lemmas.Str.Parse.{digit_from_value}
-use Rattle.std.specs.Char.{digit_value}
-use Rattle.std.specs.Fmt.{decimal}
-use Rattle.std.specs.Int.{IsInRange}
-use Rattle.std.specs.List.{All}
 use Rattle.std.specs.Str.Parse.{AllDigits}
 use Rattle.interface.specs.Host.{Host, host_at}
-use Rattle.interface.specs.Printed.{host_text}
 use Rattle.script.specs.Spelling.{ReadsAs, IsHost}
-use Rattle.script.specs.Steps.{begins_wrong, Lacks}
 use Rattle.script.proofs.Hosts.{host_range, host_read}
 use Rattle.script.proofs.Numbers.{All-unmarked_decimal, begins_wrong-decimal, spelled_as}
 

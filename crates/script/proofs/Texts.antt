@@ -1,10 +1,8 @@
 -- Texts of messages as words.
+use Rattle.script.proofs.Common.{All-head, All-tail, false≢true, All, list_all}
 use Rattle.std.proofs.Common.{◌≡◌, ◌≢◌, ℕ, ◌<◌, ◌≤◌, ◌+◌, ◌*◌, ◌%◌, Bool, true, false, List, [], ◌∷◌, ◌++◌, length, take, replicate, get_or, subst, Result, Ok, refl, sym, ap, ◌∙◌, arith, length-append, lit<, zero, suc, IfErr, Err}
 use Rattle.std.proofs.lemmas.List.{take_at, length-take-le, length-replicate}
 use Rattle.std.proofs.lemmas.Grind.{get_or_default_zero}
-use Rattle.std.proofs.lemmas.List.Elements.{All-head, All-tail}
-use Rattle.std.proofs.lemmas.Bool.{false≢true}
-use Rattle.std.specs.List.{All}
 use Rattle.hex.specs.Hex.{encode_upper, upper_digits, decode_of, is_hex_digit, IsBytes}
 use Rattle.hex.proofs.HexLemmas.{decode_of-digits, decode_of-encode_upper, length-encode_with}
 use Rattle.bit_messages.specs.Octets.{octets_of, bits_of, spare_bits}
@@ -12,7 +10,6 @@ use Rattle.bit_messages.proofs.lemmas.{bits_again, length-bits_of, octets_below,
 use Rattle.bit_messages.specs.Packed.{Packs}
 use Rattle.script.specs.Spelling.{octets_text, IsHex, is_upper_digit, IsTextWord, IsWordOfText}
 use Rattle.script.proofs.Digits.{IsSpelled, spelled_octets, spelled_digits, spelled_even, upper_are_digits, digits_small}
-use Rattle.std.specs.List.{list_all}
 use Rattle.std.proofs.lemmas.List.Sums.{AllPass-from_list_all}
 
 -- the first bits of a text's octets are the text

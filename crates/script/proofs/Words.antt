@@ -1,10 +1,7 @@
 -- Cutting words apart.
+use Rattle.script.proofs.Common.{false≢true, nat_tests, All, Lacks}
 use Rattle.std.proofs.Common.{◌≡◌, ◌≢◌, ℕ, ◌==◌, true, false, List, [], ◌∷◌, ◌++◌, refl, sym, ap, ap₂, ◌∙◌, arith, subst}
-use Rattle.std.proofs.lemmas.Bool.{false≢true}
-use Rattle.std.proofs.lemmas.Bool.Decides.{nat_tests}
 use Rattle.std.proofs.lemmas.List.Elements.{All-head, All-tail, All-weaker}
-use Rattle.std.specs.List.{All}
-use Rattle.script.specs.Steps.{Lacks}
 use Rattle.script.proofs.Lines.{same_first}
 
 self_mark : (mark : ℕ) → (mark == mark) ≡ true

@@ -1,7 +1,6 @@
+use Rattle.script.proofs.Common.{list_all, is_upper_digit}
 use Rattle.std.proofs.Common.{◌&&◌, Bool, take, sym, ap, ◌∙◌}
 use Rattle.std.proofs.lemmas.List.Folds.{list_all_more}
-use Rattle.std.specs.List.{list_all}
-use Rattle.script.specs.Spelling.{is_upper_digit}
 use Rattle.script.proofs.hexadecimal.has_upper_digits.Goals as goal
 
 pub loop-octet-preserved : goal.loop-octet-preserved

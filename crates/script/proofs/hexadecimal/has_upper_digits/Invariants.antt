@@ -1,6 +1,5 @@
+use Rattle.script.proofs.Common.{list_all, is_upper_digit}
 use Rattle.std.proofs.Common.{◌≡◌, take}
-use Rattle.std.specs.List.{list_all}
-use Rattle.script.specs.Spelling.{is_upper_digit}
 use Rattle.script.proofs.hexadecimal.has_upper_digits.Given as goal
 
 -- the octets so far are digits

@@ -1,6 +1,5 @@
+use Rattle.script.proofs.Common.{list_all, encode_upper}
 use Rattle.std.proofs.Common.{◌≡◌, true, sym, ◌∙◌}
-use Rattle.std.specs.List.{list_all}
-use Rattle.hex.specs.Hex.{encode_upper}
 use Rattle.script.specs.Spelling.{IsHex, is_upper_digit}
 use Rattle.script.proofs.Texts.{on_error, upper_hex, decoded, odd_length, other_octet}
 use Rattle.script.proofs.hexadecimal.read_octets.Goals as goal

@@ -1,5 +1,5 @@
+use Rattle.script.proofs.Common.{false≢true}
 use Rattle.std.proofs.Common.{sym, ◌∙◌}
-use Rattle.std.proofs.lemmas.Bool.{false≢true}
 use Rattle.script.proofs.Parts.{pass_line}
 use Rattle.script.proofs.input.split_input.Goals as goal
 

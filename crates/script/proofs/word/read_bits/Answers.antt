@@ -1,6 +1,5 @@
+use Rattle.script.proofs.Common.{encode_upper, bits_of, octets_of}
 use Rattle.std.proofs.Common.{arith, ◌<◌, ◌*◌, ◌≡◌, sym, ap, ◌∙◌, length, take}
-use Rattle.hex.specs.Hex.{encode_upper}
-use Rattle.bit_messages.specs.Octets.{bits_of, octets_of}
 use Rattle.std.specs.Cmp.Lexicographic.{same_text, other_text}
 use Rattle.script.proofs.Texts.{no_octets, too_few, other_case, this_case}
 use Rattle.script.proofs.word.read_bits.Goals as goal
