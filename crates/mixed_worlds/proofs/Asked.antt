@@ -1,27 +1,17 @@
 -- Both requests of a life of a host that runs the program crossed at its stamps, and what is reported of data has just
 -- crossed, whatever its peer sends.
-use Rattle.mixed_worlds.proofs.Common.{◌≡◌, inl, inr, ℕ, ◌*◌, ◌<◌, Bool, true, false, if◌then◌else◌, zero, suc, List}
-use Rattle.mixed_worlds.proofs.Common.{[], ◌∷◌, ◌++◌, take, drop, length, Option, Some, None, refl, ap, sym, subst, ◌∙◌}
-use Rattle.mixed_worlds.proofs.Common.{arith, map, Contains, drop-append_seam, Host, Flow, Answer, Crossing}
-use Rattle.mixed_worlds.proofs.Common.{HostMessage, or_false, header_bits, is_receive_socket, is_send_socket, Command}
-use Rattle.mixed_worlds.proofs.Common.{Legal, Order, orders_of, is_ending, PairState, Parcel, Entry, Notice}
-use Rattle.mixed_worlds.proofs.Common.{CrossedAt, data_by, HasCrossed, going, control_flow, accepted, pair_with}
-use Rattle.mixed_worlds.proofs.Common.{AreInOrder, message_for, next_in, offered, next_pair, pair_range, offer_read}
-use Rattle.mixed_worlds.proofs.Common.{Asked, Crossed, Moment, places, program, crossings_of, host_in, notices_by}
-use Rattle.mixed_worlds.proofs.Common.{places_same, Begins, Each, Ends, Goes, Hears, IsOther, MayTell, Quiet, Rules}
-use Rattle.mixed_worlds.proofs.Common.{each_weaker, message_keeps, offer_keeps, request_told, IsMixed, Orders, Says}
-use Rattle.mixed_worlds.proofs.Common.{older, ordered, ReportsData, IsReadBack, even_odd, send_odd}
-use Rattle.host_pairs.specs.Entries.{has_cls}
-use Rattle.world_keeps_lives.proofs.lemmas.{Done, answer_keeps}
-use Rattle.std.proofs.Common.{slice_index_or}
-use Rattle.std.proofs.lemmas.Bool.{eqb-true}
-use Rattle.std.proofs.lemmas.Option.{same_Some}
+use Rattle.mixed_worlds.proofs.Common.{Contains, drop-append_seam, Host, Flow, Answer, Crossing, HostMessage, or_false, header_bits, is_receive_socket, is_send_socket, Command, Legal, Order, orders_of, PairState, Parcel, Entry, Notice, control_flow, accepted, pair_with, AreInOrder, message_for, next_in, offered, next_pair, pair_range, offer_read, Asked, Crossed, Moment, places, program, crossings_of, host_in, notices_by, places_same, IsMixed, IsReadBack, even_odd, send_odd, eqb-true, same_Some}
+use Rattle.std.proofs.Common.{◌≡◌, inl, inr, ℕ, ◌*◌, ◌<◌, Bool, true, false, if◌then◌else◌, zero, suc, List, [], ◌∷◌, ◌++◌, take, drop, length, Option, Some, None, refl, ap, sym, subst, ◌∙◌, arith, map, slice_index_or}
+use Rattle.host_pairs.specs.Entries.{is_ending, has_cls}
+use Rattle.promise.specs.Formed.{CrossedAt, data_by, HasCrossed, going, request, coming}
+use Rattle.world_keeps_lives.proofs.lemmas.{Begins, Each, Ends, Goes, Hears, IsOther, MayTell, Quiet, Rules, each_weaker, message_keeps, offer_keeps, request_told, Done, answer_keeps}
+use Rattle.mixed_worlds.proofs.Moments.{Orders, Says, older, ordered}
+use Rattle.mixed_worlds.specs.Toward.{ReportsData}
 use Rattle.interface.specs.declared.crossing.Crossing.TheVariants as crossing
 use Rattle.interface.specs.declared.crossing.Inbound.TheVariants as inbound
 use Rattle.ncp_control.specs.declared.command.Command.TheVariants as command
 use Rattle.host_pairs.specs.Parcels as parcel
 use Rattle.host_pairs.specs.declared.notice.Notice.TheVariants as notice
-use Rattle.promise.specs.Formed.{request, coming}
 use Rattle.mixed_worlds.proofs.EndMoments.{Moved, control_is, moved_ends, own_out}
 use Rattle.mixed_worlds.proofs.Sockets.{fit}
 

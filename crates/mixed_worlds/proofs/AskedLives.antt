@@ -1,12 +1,14 @@
 -- Each life of a network with strangers is of a host that runs the program, and both its requests crossed.
-use Rattle.mixed_worlds.proofs.Common.{◌≡◌, ℕ, Option, Bool, true, false, if◌then◌else◌, List, [], ◌∷◌, ◌++◌, is_some, refl, ap, sym, subst, ◌∙◌, is_send_socket, Contains, Host, Crossing, orders_of, Notice, Life, Request, Kept, all_told, book_told, carried, changed_when, life_ended, lives_asked, lives_at, lives_between, lives_crossed, lives_on, lives_told, lives_with, new_life, returned, where_it, Asked, Crossed, Moment, crossings_of, host_in, kept_by, notices_by, Each, each_in, IsMixed, Orders, older, crossed_only, mixed_kept, ReportsData, HasAsked}
+use Rattle.mixed_worlds.proofs.Common.{◌≡◌, ℕ, Option, Bool, true, false, if◌then◌else◌, List, [], ◌∷◌, ◌++◌, is_some, refl, ap, sym, subst, ◌∙◌, is_send_socket, Contains, Host, Crossing, orders_of, Notice, Life, Request, Asked, Crossed, Moment, crossings_of, host_in, kept_by, notices_by, IsMixed, crossed_only, mixed_kept}
+use Rattle.net_sim.specs.Book.{Kept, all_told, book_told, carried, changed_when, life_ended, lives_asked, lives_at, lives_between, lives_crossed, lives_on, lives_told, lives_with, new_life, returned, where_it, granted}
+use Rattle.world_keeps_lives.proofs.lemmas.{Each, each_in, Names, named_there, names_of}
+use Rattle.mixed_worlds.proofs.Moments.{Orders, older}
+use Rattle.mixed_worlds.specs.Toward.{ReportsData, HasAsked}
 use Rattle.std.specs.Prelude.{IsSome}
 use Rattle.promise.specs.Formed.{own_named, partner_named}
-use Rattle.net_sim.specs.Book.{granted}
 use Rattle.interface.specs.declared.crossing.Crossing.TheVariants as crossing
 use Rattle.host_pairs.specs.declared.notice.Notice.TheVariants as notice
 use Rattle.sockets.specs.declared.request.Request.TheVariants as request
-use Rattle.world_keeps_lives.proofs.lemmas.{Names, named_there, names_of}
 use Rattle.mixed_worlds.proofs.Asked.{Came, Linked, Tells, TellsOfOne, Went, came_still, linked_still, told, went_still}
 
 module _ (strange : Host → Bool) where

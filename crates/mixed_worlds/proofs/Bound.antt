@@ -1,7 +1,7 @@
 -- The end of a life keeps the link that it has, whatever its peer sends.
-use Rattle.mixed_worlds.proofs.Common.{◌≡◌, ℕ, ◌<◌, Bool, true, false, List, ◌∷◌, Option, Some, None, sym, ◌∙◌, arith}
-use Rattle.mixed_worlds.proofs.Common.{Host, Command, Order, orders_of, Entry, Life, Asked, Crossed, Moment, places}
-use Rattle.mixed_worlds.proofs.Common.{program, Ends, Goes, Hears, Quiet, Begins, IsMixed, Orders}
+use Rattle.mixed_worlds.proofs.Common.{◌≡◌, ℕ, ◌<◌, Bool, true, false, List, ◌∷◌, Option, Some, None, sym, ◌∙◌, arith, Host, Command, Order, orders_of, Entry, Life, Asked, Crossed, Moment, places, program, IsMixed}
+use Rattle.world_keeps_lives.proofs.lemmas.{Ends, Goes, Hears, Quiet, Begins}
+use Rattle.mixed_worlds.proofs.Moments.{Orders}
 use Rattle.interface.specs.declared.crossing.Crossing.TheVariants as crossing
 use Rattle.mixed_worlds.proofs.EndMoments.{Moved, moved_ends}
 

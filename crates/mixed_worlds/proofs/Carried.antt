@@ -1,7 +1,9 @@
 -- The bits of each life are those of messages on one link, in their order, whatever its peer sends.
-use Rattle.mixed_worlds.proofs.Common.{Some, ◌≡◌, ◌⊎◌, inl, inr, ℕ, ◌<◌, ◌==◌, Bool, true, false, if◌then◌else◌, List, [], ◌∷◌, ◌++◌, filter, length, Option, refl, ap, subst, ◌∙◌, arith, Contains, Host, same_host, Flow, Crossing, same_host-true, is_mine_on, Entry, Notice, both, CrossedAt, flow_of, receives, sends, Life, NcpState, pair_with, Request, Kept, all_told, book_told, changed_when, life_ended, lives_asked, lives_at, lives_between, lives_crossed, lives_on, lives_told, lives_with, new_life, returned, where_it, HasOpenEnd, Each, each_in, AreOf}
-use Rattle.net_sim.specs.Book.{granted}
-use Rattle.std.proofs.lemmas.Bool.{eqb-true}
+use Rattle.mixed_worlds.proofs.Common.{Contains, Host, same_host, Flow, Crossing, same_host-true, is_mine_on, Entry, Notice, both, receives, sends, Life, NcpState, pair_with, Request, HasOpenEnd, AreOf, eqb-true}
+use Rattle.std.proofs.Common.{Some, ◌≡◌, ◌⊎◌, inl, inr, ℕ, ◌<◌, ◌==◌, Bool, true, false, if◌then◌else◌, List, [], ◌∷◌, ◌++◌, filter, length, Option, refl, ap, subst, ◌∙◌, arith}
+use Rattle.promise.specs.Formed.{CrossedAt, flow_of}
+use Rattle.net_sim.specs.Book.{Kept, all_told, book_told, changed_when, life_ended, lives_asked, lives_at, lives_between, lives_crossed, lives_on, lives_told, lives_with, new_life, returned, where_it, granted}
+use Rattle.world_keeps_lives.proofs.lemmas.{Each, each_in}
 use Rattle.interface.specs.declared.crossing.Crossing.TheVariants as crossing
 use Rattle.host_pairs.specs.Parcels.{link_of}
 use Rattle.host_pairs.specs.declared.notice.Notice.TheVariants as notice

@@ -1,19 +1,21 @@
 -- The bits of each life of a network with strangers are those of messages on one link, in their order.
-use Rattle.mixed_worlds.proofs.Common.{◌≡◌, inl, inr, ℕ, ◌*◌, ◌<◌, ◌==◌, ◌&&◌, not, Bool, true, false, if◌then◌else◌, List, [], ◌∷◌, ◌++◌, drop, length, take, Option, Some, None, refl, ap, sym, subst, ◌∙◌, eq-eqb, Contains, drop-append_seam, Host, same_host, Flow, Command, Crossing, HostMessage, same_host-true, data_bits, header_bits, is_receive_socket, is_send_socket, data_of, is_mine_on, is_open, receives_on, is_receiving, PairState, Parcel, next_of, may_send_on, Entry, Notice, both, pair_range, data_by, flow_of, HasCrossed, going, receives, sends, Life, pair_with, message_for, next_in, next_pair, all_told, carried, changed_when, lives_at, where_it, Asked, Crossed, Moment, places, program, crossings_of, host_in, kept_by, notices_by, places_same, HasOpenEnd, Each, IsOther, MayTell, Rules, each_weaker, message_keeps, offer_keeps, request_told, each_in, each_of, IsMixed, Orders, Says, older, ordered, crossed_only, mixed_kept, AreOf, IsCarried, IsNamed, NamesItself, find_passes, even_odd}
-use Rattle.sockets.proofs.lemmas.{next_is}
-use Rattle.host_pairs.proofs.lemmas.{what_goes}
-use Rattle.std.proofs.lemmas.Bool.{eqb-true}
+use Rattle.mixed_worlds.proofs.Common.{◌≡◌, inl, inr, ℕ, ◌*◌, ◌<◌, ◌==◌, ◌&&◌, not, Bool, true, false, if◌then◌else◌, List, [], ◌∷◌, ◌++◌, drop, length, take, Option, Some, None, refl, ap, sym, subst, ◌∙◌, eq-eqb, arith, find, is_some, Contains, drop-append_seam, Host, same_host, Flow, Command, Crossing, HostMessage, data_bits, header_bits, is_receive_socket, is_send_socket, PairState, Entry, Notice, pair_range, receives, sends, Life, pair_with, message_for, next_in, Asked, Crossed, Moment, places, program, crossings_of, host_in, kept_by, notices_by, places_same, HasOpenEnd, IsMixed, crossed_only, mixed_kept, find_passes, even_odd, eqb-true}
+use Rattle.interface.proofs.lemmas.{same_host-true, not_true}
+use Rattle.host_pairs.specs.Data.{data_of}
+use Rattle.host_pairs.specs.Entries.{is_mine_on, is_open, receives_on, is_receiving, is_link}
+use Rattle.host_pairs.specs.Parcels.{Parcel, next_of, may_send_on, link_of}
+use Rattle.host_pairs.proofs.lemmas.{both, what_goes}
+use Rattle.promise.specs.Formed.{data_by, flow_of, HasCrossed, going, AreData}
+use Rattle.sockets.proofs.lemmas.{next_pair, next_is}
+use Rattle.net_sim.specs.Book.{all_told, carried, changed_when, lives_at, where_it}
+use Rattle.world_keeps_lives.proofs.lemmas.{Each, IsOther, MayTell, Rules, each_weaker, message_keeps, offer_keeps, request_told, each_in, each_of, answer_keeps, found_in, open_mine, live_end}
+use Rattle.mixed_worlds.proofs.Moments.{Orders, Says, older, ordered}
+use Rattle.mixed_worlds.specs.Toward.{AreOf, IsCarried, IsNamed, NamesItself, HasData, granted_to}
 use Rattle.interface.specs.declared.crossing.Crossing.TheVariants as crossing
 use Rattle.host_pairs.specs.Allowed.{MayGo}
-use Rattle.host_pairs.specs.Entries.{is_link}
 use Rattle.host_pairs.specs.Parcels as parcel
-use Rattle.host_pairs.specs.Parcels.{link_of}
 use Rattle.host_pairs.specs.declared.notice.Notice.TheVariants as notice
 use Rattle.host_keeps_streams.proofs.lemmas.Senders as senders
-use Rattle.promise.specs.Formed.{AreData}
-use Rattle.world_keeps_lives.proofs.lemmas.{answer_keeps, found_in, open_mine}
-use Rattle.world_keeps_lives.proofs.lemmas.{live_end}
-use Rattle.mixed_worlds.specs.Toward.{HasData}
 use Rattle.mixed_worlds.proofs.Asked.{Linked, Placed, linked_still, placed, rts_is}
 use Rattle.mixed_worlds.proofs.EndMoments.{own_out}
 use Rattle.mixed_worlds.proofs.AskedLives.{IsOwn, all_own}
@@ -22,12 +24,9 @@ use Rattle.mixed_worlds.proofs.Carried.{Counted, IsCalm, ItsEnd, Known, below_al
 use Rattle.mixed_worlds.proofs.Carried.{known_asked, known_crossed, none_of}
 use Rattle.mixed_worlds.proofs.Granted.{AreWithin, HasRoom, IsNew, always, no_less, sent, spent, stays}
 use Rattle.mixed_worlds.proofs.Rooms.{AtMost, link_is, one_passes}
-use Rattle.mixed_worlds.specs.Toward.{granted_to}
-use Rattle.mixed_worlds.proofs.Common.{arith, find, is_some}
 use Rattle.mixed_worlds.proofs.DataNotices.{TakesIf, bytes_told, message_takes}
 use Rattle.mixed_worlds.proofs.OwnLinks.{HasSaid, Said, said, said_still}
 use Rattle.mixed_worlds.proofs.Sockets.{fit, held}
-use Rattle.interface.proofs.lemmas.{not_true}
 
 -- ---- moments that report no data
 

@@ -1,10 +1,7 @@
 -- How far a life between hosts with programs is, by contacts among these hosts only.
-use Rattle.mixed_worlds.proofs.Common.{◌≡◌, ℕ, ◌==◌, ◌&&◌, ◌||◌, not, Bool, true, false, if◌then◌else◌, List, [], ◌∷◌, length, list_any, refl, ap, sym, subst, ◌∙◌, Crossing, Host, same_host, same_host-true, Life, Contains, contacts_among}
+use Rattle.mixed_worlds.proofs.Common.{list_any, Contains, Crossing, Host, same_host, same_host-true, Life, contacts_among, Called, Fate, AreOurs, Network, CountNothingLater}
+use Rattle.std.proofs.Common.{◌≡◌, ℕ, ◌==◌, ◌&&◌, ◌||◌, not, Bool, true, false, if◌then◌else◌, List, [], ◌∷◌, length, refl, ap, sym, subst, ◌∙◌}
 use Rattle.promise.specs.Ends.{AreLeft, Asking, Course, Dropped, Leaves, Stage, called, course, crosses, cut, ended_by, is_contact, stage}
-use Rattle.promise.specs.declared.book.Called.{Called}
-use Rattle.promise.specs.declared.life.Fate.{Fate}
-use Rattle.reset_law.specs.Network.{AreOurs, Network}
-use Rattle.world_keeps_streams.specs.Within.{CountNothingLater}
 
 module _ (hosts : Network) (x : Life) (ours : AreOurs hosts x.host x.peer) where
   -- a contact of its two hosts is among these

@@ -1,13 +1,18 @@
 -- What is reported of data that come in, and that go out.
-use Rattle.mixed_worlds.proofs.Common.{Host, PairState, bits_gone, changed_first, may_send_on, pair_after, parcel_gone}
-use Rattle.mixed_worlds.proofs.Common.{put, ◌≡◌, ◌⊎◌, inl, inr, ℕ, ◌*◌, ◌==◌, Bool, true, false, if◌then◌else◌, List, [], ◌∷◌, ◌++◌, find, take, Option, Some, None, refl, ap, sym, subst, ◌∙◌, same_host, HostMessage, data_bits, header_of, is_ready, ERRONEOUS, data_of, data_taken, arrived, arrived_if, data_found, is_acceptable, text_faulted, DeskState, desk_of, is_ending, is_open, receives_on, Parcel, TurnState, if_ready, message_taken, with_desk, Entry, Notice, after_turn, turn_of, NcpState, pair_with, next_in, offered_by, Peer, DataHeader, Ending, Open, Unconnected}
+use Rattle.mixed_worlds.proofs.Common.{Host, same_host, PairState, ◌≡◌, ◌⊎◌, inl, inr, ℕ, ◌*◌, ◌==◌, Bool, true, false, if◌then◌else◌, List, [], ◌∷◌, ◌++◌, find, take, Option, Some, None, refl, ap, sym, subst, ◌∙◌, HostMessage, data_bits, header_of, is_ready, DeskState, desk_of, Entry, Notice, NcpState, pair_with, Peer, DataHeader}
+use Rattle.host_pairs.specs.Parcels.{bits_gone, may_send_on, pair_after, parcel_gone, Parcel, link_of}
+use Rattle.host_pairs.specs.Entries.{changed_first, is_ending, is_open, receives_on}
+use Rattle.host_keeps_pairing.proofs.lemmas.{put}
+use Rattle.host_pairs.specs.Control.{ERRONEOUS}
+use Rattle.host_pairs.specs.Data.{data_of, data_taken, arrived, arrived_if, data_found, is_acceptable, text_faulted}
+use Rattle.host_pairs.specs.Turn.{TurnState, if_ready, message_taken, with_desk}
+use Rattle.sockets.specs.Accepting.{after_turn, turn_of, accepted}
+use Rattle.sockets.specs.Sending.{next_in, offered_by, offered}
+use Rattle.host_pairs.specs.Commands.{Ending, Open, Unconnected}
 use Rattle.interface.specs.declared.crossing.Inbound.TheVariants as inbound
 use Rattle.host_pairs.specs.Commands as commands
 use Rattle.host_pairs.specs.Parcels as parcel
-use Rattle.host_pairs.specs.Parcels.{link_of}
 use Rattle.host_pairs.specs.declared.notice.Notice.TheVariants as notice
-use Rattle.sockets.specs.Accepting.{accepted}
-use Rattle.sockets.specs.Sending.{offered}
 
 -- an open end has the link of what came, and one notice is of all its data
 pub record Takes (link : ℕ) (text : List Bool) (es : List Entry) (ns : List Notice) : Type 0 where

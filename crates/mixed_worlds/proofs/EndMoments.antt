@@ -1,20 +1,12 @@
 -- What holds of each end that a host's program has with a peer holds after the next moment, whatever that peer sends.
-use Rattle.mixed_worlds.proofs.Common.{◌≡◌, ◌==◌, ℕ, Bool, true, false, if◌then◌else◌, List, ◌∷◌, map, take, Some}
+use Rattle.mixed_worlds.proofs.Common.{◌≡◌, ◌==◌, ℕ, Bool, true, false, if◌then◌else◌, List, ◌∷◌, map, take, Some, refl, ap, sym, subst, ◌∙◌, Host, same_host, Flow, HostMessage, same_host-true, Command, Legal, orders_of, PairState, Parcel, Entry, Notice, control_flow, accepted, NcpState, opening_state, pair_with, served, message_for, next_in, offered, pair_range, offer_read, Asked, Crossed, Moment, places, program, IsMixed, IsReadBack, eqb-true}
 use Rattle.mixed_worlds.proofs.Moments.{says}
-use Rattle.mixed_worlds.proofs.Common.{refl, ap, sym, subst, ◌∙◌, Host, same_host, Flow, HostMessage, same_host-true, Command}
-use Rattle.mixed_worlds.proofs.Common.{Legal, orders_of, PairState, Parcel, Entry, Notice, control_flow, accepted}
-use Rattle.mixed_worlds.proofs.Common.{NcpState, opening_state, pair_with, served, message_for, next_in, offered}
-use Rattle.mixed_worlds.proofs.Common.{answer_leaves, message_leaves, next_pair, pair_range, offer_read}
-use Rattle.mixed_worlds.proofs.Common.{Asked, Crossed, Moment, places, program, Begins, Each, Ends, Goes, Hears}
-use Rattle.mixed_worlds.proofs.Common.{Quiet, Rules, message_keeps, IsMixed, Orders, Says, older}
-use Rattle.mixed_worlds.proofs.Common.{ordered, IsReadBack}
-use Rattle.sockets.proofs.lemmas.{offer_leaves}
-use Rattle.std.proofs.lemmas.Bool.{eqb-true}
+use Rattle.sockets.proofs.lemmas.{answer_leaves, message_leaves, next_pair, offer_leaves}
+use Rattle.world_keeps_lives.proofs.lemmas.{Begins, Each, Ends, Goes, Hears, Quiet, Rules, message_keeps, GoesAll, Leaves, MayGrant, MaySay, Starts, answer_passes, goes_all, leaves, may_grant, message_passes, offer_passes, request_passes, starts}
+use Rattle.mixed_worlds.proofs.Moments.{Orders, Says, older, ordered}
 use Rattle.interface.specs.declared.crossing.Crossing.TheVariants as crossing
 use Rattle.interface.specs.declared.crossing.Inbound.TheVariants as inbound
 use Rattle.host_pairs.specs.Parcels as parcel
-use Rattle.world_keeps_lives.proofs.lemmas.{GoesAll, Leaves, MayGrant, MaySay, Starts, answer_passes, goes_all}
-use Rattle.world_keeps_lives.proofs.lemmas.{leaves, may_grant, message_passes, offer_passes, request_passes, starts}
 use Rattle.mixed_worlds.proofs.Sockets.{fit}
 
 pub control_is : (f : Flow) (x y : Host) → x ≡ f.source → y ≡ f.destination → f.link.0 ≡ 0 → f ≡ control_flow x y

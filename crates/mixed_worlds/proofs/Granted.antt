@@ -1,31 +1,26 @@
 -- What each life that sends has sent, and what its end may still send, is within what its peer granted, from one moment
 -- to the next, whatever that sends.
-use Rattle.mixed_worlds.proofs.Common.{◌≡◌, ◌⊎◌, inl, inr, ℕ, ◌*◌, ◌+◌, ◌<◌, ◌&&◌, Bool, true, false, if◌then◌else◌}
-use Rattle.mixed_worlds.proofs.Common.{List, [], ◌∷◌, ◌++◌, find, length, take, Some, None, refl, ap, sym, subst}
-use Rattle.mixed_worlds.proofs.Common.{◌∙◌, arith, eq-eqb, Contains, Host, same_host, same_host-refl, Crossing}
-use Rattle.mixed_worlds.proofs.Common.{same_host-true, HostMessage, is_receive_socket, Command, Order, orders_of}
-use Rattle.mixed_worlds.proofs.Common.{is_mine_on, changed_first, bits_gone, may_send_on, Entry, sends, Life}
-use Rattle.mixed_worlds.proofs.Common.{control_flow, same_flow, carried, accepted, NcpState, pair_with, Request}
-use Rattle.mixed_worlds.proofs.Common.{next_in, offered, Peer, Asked, Crossed, Moment, places, program, crossings_of}
-use Rattle.mixed_worlds.proofs.Common.{places_same, Each, Ends, each_in, each_of, each_weaker, IsFreeSocket, IsOwned}
-use Rattle.mixed_worlds.proofs.Common.{IsMixed, Orders, older, mixed_kept, mine_on, Flow, not, ◌==◌}
+use Rattle.mixed_worlds.proofs.Common.{Contains, Host, same_host, Crossing, HostMessage, is_receive_socket, Command, Order, orders_of, Entry, sends, control_flow, Life, accepted, NcpState, pair_with, Request, next_in, offered, Peer, Asked, Crossed, Moment, places, program, crossings_of, places_same, IsMixed, mixed_kept, Flow, Allocation, Amount}
+use Rattle.std.proofs.Common.{◌≡◌, ◌⊎◌, inl, inr, ℕ, ◌*◌, ◌+◌, ◌<◌, ◌&&◌, Bool, true, false, if◌then◌else◌, List, [], ◌∷◌, ◌++◌, find, length, take, Some, None, refl, ap, sym, subst, ◌∙◌, arith, eq-eqb, not, ◌==◌}
+use Rattle.interface.proofs.lemmas.{same_host-refl, same_host-true, not_false, same_flow-refl}
+use Rattle.host_pairs.specs.Entries.{is_mine_on, changed_first}
+use Rattle.host_pairs.specs.Parcels.{bits_gone, may_send_on, link_of}
+use Rattle.interface.specs.Mailboxes.{same_flow}
+use Rattle.net_sim.specs.Book.{carried, nothing}
+use Rattle.world_keeps_lives.proofs.lemmas.{Each, Ends, each_in, each_of, each_weaker, MayGrant}
+use Rattle.world_keeps_lives.specs.Lives.{IsFreeSocket, IsOwned, mine_on}
+use Rattle.mixed_worlds.proofs.Moments.{Orders, older}
 use Rattle.std.specs.Prelude.{All, ◌≤◌, nat_le, nat_lt}
 use Rattle.std.proofs.lemmas.Bool.{le-leb, lt-ltb}
 use Rattle.std.proofs.lemmas.List.{length-append, length-take-le}
-use Rattle.interface.proofs.lemmas.{not_false, same_flow-refl}
 use Rattle.interface.specs.declared.crossing.Crossing.TheVariants as crossing
 use Rattle.interface.specs.declared.crossing.Inbound.TheVariants as inbound
 use Rattle.ncp_control.specs.Allocation as counters
-use Rattle.ncp_control.specs.declared.allocation.Allocation.{Allocation}
 use Rattle.host_pairs.specs.Allowed.{MaySend}
 use Rattle.host_pairs.specs.Parcels as parcel
-use Rattle.host_pairs.specs.Parcels.{link_of}
-use Rattle.promise.specs.declared.life.Amount.{Amount}
-use Rattle.net_sim.specs.Book.{nothing}
 use Rattle.sockets.specs.Requests.{refusal}
 use Rattle.sockets.specs.declared.request.Request.TheVariants as request
 use Rattle.sockets.proofs.lemmas.{not_first}
-use Rattle.world_keeps_lives.proofs.lemmas.{MayGrant}
 use Rattle.mixed_worlds.specs.Toward.{granted_at, granted_in, granted_to, may_grant}
 use Rattle.mixed_worlds.proofs.DataNotices.{bytes_left}
 use Rattle.mixed_worlds.proofs.EndMoments.{Moves, moves_ends}

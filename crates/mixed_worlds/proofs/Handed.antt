@@ -1,7 +1,8 @@
 -- What each life of a host that runs the program sent is a prefix of what was handed over in it, whatever its peer
 -- sends.
-use Rattle.mixed_worlds.proofs.Common.{◌≡◌, ◌⊎◌, inl, inr, ℕ, Bool, true, List, [], ◌∷◌, refl, ap, sym, subst, ◌∙◌, eq-eqb, Host, IsBeside, Life, NcpState, Kept, IsFreeSocket, IsOwned, Holds, same_host-refl, Contains, arith, suc}
-use Rattle.world_keeps_lives.specs.Lives.{IsSafe, NoneOf, EachOn, IsLifeOf, at_socket}
+use Rattle.mixed_worlds.proofs.Common.{Host, IsBeside, Life, NcpState, Kept, Holds, same_host-refl, Contains}
+use Rattle.std.proofs.Common.{◌≡◌, ◌⊎◌, inl, inr, ℕ, Bool, true, List, [], ◌∷◌, refl, ap, sym, subst, ◌∙◌, eq-eqb, arith, suc}
+use Rattle.world_keeps_lives.specs.Lives.{IsFreeSocket, IsOwned, IsSafe, NoneOf, EachOn, IsLifeOf, at_socket}
 
 -- a life of a socket, and what is beside it
 beside_safe : (a : Host) (k : ℕ) (P : Life → List Bool → Type 0) (lives : List Life) (handed : List (List Bool))

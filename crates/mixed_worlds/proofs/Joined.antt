@@ -1,17 +1,12 @@
 -- A finished initial connection among hosts with programs pairs the right four sockets.
-use Rattle.mixed_worlds.proofs.Common.{◌≡◌, Bool, false, true, List, subst, sym, Contains, Host, Crossing, Moment, IsMixed, Life, Match, lives_among, mixed_kept}
+use Rattle.mixed_worlds.proofs.Common.{◌≡◌, Bool, false, true, List, subst, sym, Contains, Host, Crossing, Moment, IsMixed, Life, Match, receives, sends, JoinedBook, IsBacked, AreOurs, Network, in_book}
+use Rattle.mixed_worlds.specs.Book.{lives_among, mixed_kept, book_among}
 use Rattle.std.specs.Prelude.{All}
 use Rattle.host_services.specs.declared.report.Reported.{Reported}
-use Rattle.promise.specs.Connections.{JoinedBook}
-use Rattle.net_sim.specs.Reports.{IsBacked}
-use Rattle.promise.specs.Safe.{receives, sends}
-use Rattle.reset_law.specs.Network.{AreOurs, Network}
 use Rattle.world_keeps_lives.proofs.lemmas.{kept_log}
 use Rattle.world_keeps_connections.proofs.lemmas as connections
 use Rattle.world_keeps_connections.proofs.lemmas.{live_match}
 use Rattle.world_keeps_connections.specs.Users.{AreOpposite}
-use Rattle.world_keeps_pairing.proofs.lemmas.{in_book}
-use Rattle.mixed_worlds.specs.Book.{book_among}
 
 -- ---- the four ends
 

@@ -1,11 +1,10 @@
 -- What a life that sends to a host with a program has sent is within what that granted on the link of the life.
-use Rattle.mixed_worlds.proofs.Common.{Bool, Command, Contains, Crossing, Host, IsCarried, IsMixed, IsNamed, Life, List, Moment, Orders, Some, crossings_of, each_in, is_receive_socket, lives_among, mixed_kept, receives, send_odd, sends, subst, sym, true, false, ap, if◌then◌else◌, going, HasCrossed, ℕ, ◌≡◌, ◌∙◌}
-use Rattle.promise.specs.Formed.{coming, link_of, request}
-use Rattle.reset_law.specs.Network.{AreOurs, Network}
-use Rattle.std.proofs.lemmas.Option.{same_Some}
-use Rattle.world_keeps_lives.proofs.lemmas.{HasRequests, str_foreign}
+use Rattle.mixed_worlds.proofs.Common.{Bool, List, Some, subst, sym, true, false, ap, if◌then◌else◌, ℕ, ◌≡◌, ◌∙◌, Command, Contains, Crossing, Host, IsMixed, Life, Moment, crossings_of, is_receive_socket, lives_among, mixed_kept, receives, sends, send_odd, in_book, AreOurs, Network, same_Some}
+use Rattle.mixed_worlds.specs.Toward.{IsCarried, IsNamed}
+use Rattle.mixed_worlds.proofs.Moments.{Orders}
+use Rattle.world_keeps_lives.proofs.lemmas.{each_in, HasRequests, str_foreign}
+use Rattle.promise.specs.Formed.{going, HasCrossed, coming, link_of, request}
 use Rattle.world_keeps_lives.proofs.lemmas.Formed.{link_is}
-use Rattle.world_keeps_pairing.proofs.lemmas.{in_book}
 use Rattle.world_keeps_streams.specs.Granted.{EachIsWithin, IsWithin}
 use Rattle.mixed_worlds.proofs.Asked.{rts_is}
 use Rattle.mixed_worlds.proofs.AskedLives.{IsOwn, all_own}

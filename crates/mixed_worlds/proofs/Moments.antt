@@ -1,22 +1,10 @@
 -- What a program says, and that its peers are in order, whatever strangers do.
-use Rattle.std.proofs.Common.{◌≡◌, ℕ, Bool, false, List, ◌∷◌, Option, Some, None, refl}
+use Rattle.mixed_worlds.proofs.Common.{◌≡◌, ℕ, Bool, false, List, ◌∷◌, Option, Some, None, refl, Flow, Answer, HostMessage, Parcel, accepted, NcpState, AreInOrder, served, Peer, Request, Asked, Crossed, Moment, program, IsMixed}
 use Rattle.interface.specs.Host.{Host, IsAddress}
-use Rattle.interface.specs.declared.address.Flow.{Flow}
-use Rattle.interface.specs.declared.crossing.Answer.{Answer}
 use Rattle.interface.specs.declared.crossing.Inbound.TheVariants as inbound
-use Rattle.interface.specs.declared.message.HostMessage.{HostMessage}
-use Rattle.host_pairs.specs.Parcels.{Parcel}
 use Rattle.host_services.specs.Named.{IsAddressed}
-use Rattle.sockets.specs.Accepting.{accepted}
-use Rattle.sockets.specs.Pairs.{NcpState}
-use Rattle.sockets.specs.Peers.{AreInOrder}
-use Rattle.sockets.specs.Requests.{served}
 use Rattle.sockets.specs.Sending.{message_for, message_of, next_in, next_out, offered}
-use Rattle.sockets.specs.declared.peer.Peer.{Peer}
-use Rattle.sockets.specs.declared.request.Request.{Request}
-use Rattle.net_sim.specs.Story.{Asked, Crossed, Moment, program}
 use Rattle.world_keeps_lives.proofs.lemmas.Sockets as sockets
-use Rattle.mixed_worlds.specs.Mixed.{IsMixed}
 
 pub record Says (s : NcpState) (m : HostMessage) : Type 0 where
   pub peer : Peer

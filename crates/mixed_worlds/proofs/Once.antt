@@ -1,21 +1,15 @@
 -- A message of a peer opens no end whose own request is that of a life already, whatever it says.
-use Rattle.mixed_worlds.proofs.Common.{◌≡◌, ◌⊎◌, inl, inr, ℕ, ◌<◌, ◌==◌, ◌&&◌, ◌||◌, eq-eqb, arith, Bool, false, not}
-use Rattle.mixed_worlds.proofs.Common.{if◌then◌else◌, List, [], ◌∷◌, ◌++◌, map, filter, find, Option, Some, None}
-use Rattle.mixed_worlds.proofs.Common.{is_some, refl, ap, sym, subst, ◌∙◌, Host, Command, DeskState, desk_told}
-use Rattle.mixed_worlds.proofs.Common.{listener_on, listens_on, is_ending, changed_at, changed_first, entry_at, is_at}
-use Rattle.mixed_worlds.proofs.Common.{opening_by, opening_notices, Entry, Notice, append-nil, append_assoc, All-append}
-use Rattle.mixed_worlds.proofs.Common.{All-cons, All-filter, All-head, All-map, All-nil, All-tail, All-weaker, End}
-use Rattle.mixed_worlds.proofs.Common.{Mark, changed, entry_joined, matched, Listener, Stand, Standing, at, standing}
-use Rattle.mixed_worlds.proofs.Common.{found_at, find_passes}
-use Rattle.host_pairs.specs.Desk.{without_listener}
-use Rattle.std.proofs.Common.{true}
+use Rattle.mixed_worlds.proofs.Common.{Host, Command, Entry, Notice, append-nil, append_assoc, End, Mark, Listener, Stand, Standing, at, standing, find_passes, eqb-true, same_Some}
+use Rattle.std.proofs.Common.{◌≡◌, ◌⊎◌, inl, inr, ℕ, ◌<◌, ◌==◌, ◌&&◌, ◌||◌, eq-eqb, arith, Bool, false, not, if◌then◌else◌, List, [], ◌∷◌, ◌++◌, map, filter, find, Option, Some, None, is_some, refl, ap, sym, subst, ◌∙◌, true}
+use Rattle.host_pairs.specs.Desk.{DeskState, desk_told, listener_on, listens_on, without_listener}
+use Rattle.host_pairs.specs.Entries.{is_ending, changed_at, changed_first, entry_at, is_at, opening_by, opening_notices}
+use Rattle.std.proofs.lemmas.List.Elements.{All-append, All-cons, All-filter, All-head, All-map, All-nil, All-tail, All-weaker}
+use Rattle.host_pairs.specs.Commands.{changed, entry_joined, matched}
+use Rattle.host_keeps_pairing.proofs.lemmas.{found_at, Found, at_one}
 use Rattle.host_pairs.proofs.lemmas.{both}
-use Rattle.std.proofs.lemmas.Bool.{eqb-true}
 use Rattle.std.specs.Prelude.{All}
-use Rattle.std.proofs.lemmas.Option.{same_Some}
 use Rattle.ncp_control.specs.declared.command.Command.TheVariants as command
 use Rattle.host_pairs.specs.declared.notice.Notice.TheVariants as notice
-use Rattle.host_keeps_pairing.proofs.lemmas.{Found, at_one}
 use Rattle.world_keeps_lives.proofs.lemmas.{SomeEnd}
 use Rattle.mixed_worlds.proofs.Steps.{IsBegun, IsHeard, IsSame, OpenNone, OpensNone, Steps}
 use Rattle.mixed_worlds.proofs.Waiting.{all_changed}

@@ -1,24 +1,18 @@
 -- A message of a host's own opens no end whose own request, or whose partner's, is that of a life already.
-use Rattle.mixed_worlds.proofs.Common.{◌≡◌, inl, inr, ℕ, ◌<◌, ◌*◌, ◌==◌, ◌&&◌, Bool, true, false, not, if◌then◌else◌}
-use Rattle.mixed_worlds.proofs.Common.{List, [], ◌∷◌, ◌++◌, filter, take, drop, Option, Some, None, is_some, refl, ap}
-use Rattle.mixed_worlds.proofs.Common.{sym, subst, ◌∙◌, arith, eq-eqb, Host, Command, DeskState, desk_of, desk_told}
-use Rattle.mixed_worlds.proofs.Common.{swept, is_ending, changed_at, changed_first, ending, entry_at, is_at, is_over}
-use Rattle.mixed_worlds.proofs.Common.{opening_by, opening_notices, PairState, Parcel, asked_at, bits_gone, cls_sent}
-use Rattle.mixed_worlds.proofs.Common.{command_gone, commands_gone, may_send_on, pair_after, parcel_gone, Entry, Notice}
-use Rattle.mixed_worlds.proofs.Common.{NcpState, pair_with, next_in, offered_by, next_pair, Peer, AreInOrder, HasSome}
-use Rattle.mixed_worlds.proofs.Common.{both, append-nil, append_assoc, All-append, All-cons, All-filter, All-nil}
-use Rattle.mixed_worlds.proofs.Common.{All-weaker, flat_map, End, Ask, Close, Mark, changed, Listener, Stand, Standing}
-use Rattle.mixed_worlds.proofs.Common.{at, standing, mark_of, marks, found_at, none_at, put, find_passes}
-use Rattle.std.proofs.lemmas.Bool.{eqb-true}
-use Rattle.std.proofs.lemmas.List.{take-append-drop}
-use Rattle.std.specs.Prelude.{All}
-use Rattle.std.proofs.lemmas.Option.{same_Some}
+use Rattle.mixed_worlds.proofs.Common.{Host, Command, PairState, Entry, Notice, NcpState, pair_with, next_pair, Peer, AreInOrder, HasSome, both, End, Ask, Close, Mark, Listener, Stand, Standing, at, standing, mark_of, marks, find_passes, eqb-true, same_Some}
+use Rattle.std.proofs.Common.{◌≡◌, inl, inr, ℕ, ◌<◌, ◌*◌, ◌==◌, ◌&&◌, Bool, true, false, not, if◌then◌else◌, List, [], ◌∷◌, ◌++◌, filter, take, drop, Option, Some, None, is_some, refl, ap, sym, subst, ◌∙◌, arith, eq-eqb}
+use Rattle.host_pairs.specs.Desk.{DeskState, desk_of, desk_told, swept}
+use Rattle.host_pairs.specs.Entries.{is_ending, changed_at, changed_first, ending, entry_at, is_at, is_over, opening_by, opening_notices}
+use Rattle.host_pairs.specs.Parcels.{Parcel, asked_at, bits_gone, cls_sent, command_gone, commands_gone, may_send_on, pair_after, parcel_gone, link_of, request_gone}
+use Rattle.sockets.specs.Sending.{next_in, offered_by, offered}
+use Rattle.std.proofs.lemmas.List.{append-nil, append_assoc, take-append-drop}
+use Rattle.std.proofs.lemmas.List.Elements.{All-append, All-cons, All-filter, All-nil, All-weaker}
+use Rattle.std.specs.Prelude.{flat_map, All}
+use Rattle.host_pairs.specs.Commands.{changed}
+use Rattle.host_keeps_pairing.proofs.lemmas.{found_at, none_at, put, Found, heads, marks_append, one_gone}
 use Rattle.ncp_control.specs.declared.command.Command.TheVariants as command
 use Rattle.host_pairs.specs.Parcels as parcel
-use Rattle.host_pairs.specs.Parcels.{link_of, request_gone}
 use Rattle.host_pairs.specs.declared.notice.Notice.TheVariants as notice
-use Rattle.host_keeps_pairing.proofs.lemmas.{Found, heads, marks_append, one_gone}
-use Rattle.sockets.specs.Sending.{offered}
 use Rattle.mixed_worlds.proofs.Once.{AreApart, Differ, IsBoth, IsDone, Opening, all_here, apart_more, at_two, both_same}
 use Rattle.mixed_worlds.proofs.Once.{changed_found, done_same, found_all, lone_by, none_opened, openings}
 use Rattle.mixed_worlds.proofs.Once.{openings_append}

@@ -1,26 +1,17 @@
 -- No two lives have the same own request, nor the same one of their partner, whatever peers send.
-use Rattle.mixed_worlds.proofs.Common.{◌≡◌, inl, inr, ℕ, ◌<◌, Bool, true, false, if◌then◌else◌, List, [], ◌∷◌, ◌++◌}
-use Rattle.mixed_worlds.proofs.Common.{length, map, Some, None, is_some, refl, ap, sym, subst, ◌∙◌, arith, eq-eqb}
-use Rattle.mixed_worlds.proofs.Common.{Contains, Host, same_host, Flow, Answer, Crossing, HostMessage, same_host-refl}
-use Rattle.mixed_worlds.proofs.Common.{Command, Order, orders_of, is_mine_on, Entry, Notice, CrossedAt, control_flow}
-use Rattle.mixed_worlds.proofs.Common.{AreTwo, Life, accepted, NcpState, pair_with, offered, Request, Kept, all_told}
-use Rattle.mixed_worlds.proofs.Common.{book_told, carried, changed_when, life_ended, lives_asked, lives_at}
-use Rattle.mixed_worlds.proofs.Common.{lives_between, lives_crossed, lives_on, lives_told, lives_with, new_life}
-use Rattle.mixed_worlds.proofs.Common.{returned, where_it, Asked, Crossed, Moment, places, program, crossings_of}
-use Rattle.mixed_worlds.proofs.Common.{host_in, kept_by, notices_by, places_same, Begins, Each, each_in, each_weaker}
-use Rattle.mixed_worlds.proofs.Common.{Ends, Goes, Hears, Quiet, each_of, mine_on, IsMixed, Orders, Says, older}
-use Rattle.mixed_worlds.proofs.Common.{ordered, crossed_only, mixed_kept, append-nil, append_assoc, All-append}
-use Rattle.mixed_worlds.proofs.Common.{All-cons, All-head, All-nil, All-tail, All-weaker, listens_on, is_ready, Name}
-use Rattle.net_sim.specs.Book.{granted}
-use Rattle.std.proofs.lemmas.List.{map-append}
+use Rattle.mixed_worlds.proofs.Common.{◌≡◌, inl, inr, ℕ, ◌<◌, Bool, true, false, if◌then◌else◌, List, [], ◌∷◌, ◌++◌, length, map, Some, None, is_some, refl, ap, sym, subst, ◌∙◌, arith, eq-eqb, Contains, Host, same_host, Flow, Answer, Crossing, HostMessage, same_host-refl, Command, Order, orders_of, is_mine_on, Entry, Notice, CrossedAt, Life, accepted, NcpState, pair_with, offered, Request, Asked, Crossed, Moment, places, program, crossings_of, host_in, kept_by, notices_by, places_same, mine_on, IsMixed, crossed_only, mixed_kept, listens_on, is_ready, same_Some}
+use Rattle.promise.specs.Safe.{control_flow, AreTwo, Name, own_request}
+use Rattle.net_sim.specs.Book.{Kept, all_told, book_told, carried, changed_when, life_ended, lives_asked, lives_at, lives_between, lives_crossed, lives_on, lives_told, lives_with, new_life, returned, where_it, granted}
+use Rattle.world_keeps_lives.proofs.lemmas.{Begins, Each, each_in, each_weaker, Ends, Goes, Hears, Quiet, each_of}
+use Rattle.mixed_worlds.proofs.Moments.{Orders, Says, older, ordered}
+use Rattle.std.proofs.lemmas.List.{append-nil, append_assoc, map-append}
+use Rattle.std.proofs.lemmas.List.Elements.{All-append, All-cons, All-head, All-nil, All-tail, All-weaker}
 use Rattle.std.specs.Prelude.{All}
-use Rattle.std.proofs.lemmas.Option.{same_Some}
 use Rattle.interface.specs.declared.crossing.Crossing.TheVariants as crossing
 use Rattle.interface.specs.declared.crossing.Inbound.TheVariants as inbound
 use Rattle.host_pairs.specs.declared.notice.Notice.TheVariants as notice
 use Rattle.sockets.specs.Requests.{served_notices}
 use Rattle.sockets.specs.declared.request.Request.TheVariants as request
-use Rattle.promise.specs.Safe.{own_request}
 use Rattle.mixed_worlds.specs.Toward.{taken_request}
 use Rattle.mixed_worlds.proofs.EndMoments.{Moved, moved_ends, own_out}
 use Rattle.mixed_worlds.proofs.AskedLives.{IsOwn, all_own}

@@ -1,31 +1,23 @@
 -- What the laws of lives say of hosts with programs is so of the book of a network, in which strangers report nothing.
-use Rattle.mixed_worlds.proofs.Common.{◌≡◌, ℕ, ◌==◌, ◌&&◌, not, Bool, true, false, if◌then◌else◌, inl, inr, List, [], ◌∷◌, ◌++◌, length, Option, Some, None, refl, ap, sym, subst, ◌∙◌, Contains, Crossing, Fate, Flow, Host, IsBeside, Kept, Life, Match, ClosesWhole, Moment, AreTwo, HasOpenEnd, beside_among, contacts_among, crossings_of, is_among, kept_in, lives_among, mixed_kept, program, receives, sends, is_receive_socket, is_send_socket, send_odd}
+use Rattle.mixed_worlds.proofs.Common.{◌≡◌, ℕ, ◌==◌, ◌&&◌, not, Bool, true, false, if◌then◌else◌, inl, inr, List, [], ◌∷◌, ◌++◌, length, Option, Some, None, refl, ap, sym, subst, ◌∙◌, Contains, Crossing, Fate, Flow, Host, IsBeside, ClosesWhole, AreFated, Kept, Life, Moment, program, HasOpenEnd, beside_among, contacts_among, is_among, lives_among, mixed_kept, crossings_of, contacts_of, kept_in, is_receive_socket, is_send_socket, AreOurs, Network, safe_messages, same_Some, EachWasSent, CountNothingLater, ArrivedAmong}
+use Rattle.promise.specs.Safe.{Match, AreTwo, receives, sends, SafeBook, Source}
+use Rattle.world_keeps_pairing.proofs.lemmas.{send_odd, in_book, served_in, two_in_book, two_left, two_right}
 use Rattle.std.specs.Prelude.{option_map}
 use Rattle.interface.specs.Mailboxes as mail
 use Rattle.interface.specs.declared.crossing.Answer.TheVariants as answer
 use Rattle.interface.specs.declared.crossing.Crossing.TheVariants as crossing
 use Rattle.promise.specs.Arrived.{HasArrived, IsCounted}
 use Rattle.promise.specs.Ends.{AreLeft, Going, Leaves, Over, Stage, stage}
-use Rattle.promise.specs.Fates.{AreFated}
 use Rattle.promise.specs.Formed.{flow_of, link_of}
-use Rattle.promise.specs.Safe.{SafeBook, Source}
 use Rattle.promise.specs.declared.life.Fate.TheVariants as fate
-use Rattle.reset_law.specs.Network.{AreOurs, Network}
 use Rattle.net_sim.proofs.lemmas.{Coupled, coupled, kept_fated}
 use Rattle.net_sim.specs.Clean.{HaveAddresses}
 use Rattle.net_sim.specs.Mixed.{Happened}
-use Rattle.net_sim.specs.Timeline.{contacts_of}
-use Rattle.interface.proofs.lemmas.{safe_messages}
-use Rattle.std.proofs.lemmas.Option.{same_Some}
 use Rattle.world_keeps_pairing.proofs.lemmas as pairing
-use Rattle.world_keeps_pairing.proofs.lemmas.{in_book, served_in, two_in_book, two_left, two_right}
 use Rattle.world_keeps_lives.proofs.lemmas.{handed_among}
 use Rattle.world_keeps_lives.proofs.lemmas.Laws as laws
 use Rattle.world_keeps_streams.proofs.lemmas.{among_there, in_beside, took_all}
 use Rattle.world_keeps_streams.specs.Laws as streams
-use Rattle.world_keeps_streams.specs.Sent.{EachWasSent}
-use Rattle.world_keeps_streams.specs.Within.{CountNothingLater}
-use Rattle.mixed_worlds.specs.Arrived.{ArrivedAmong}
 use Rattle.mixed_worlds.proofs.Contacts.{same_course, same_stage}
 use Rattle.mixed_worlds.proofs.SameBooks.{same_fates, same_handed, same_lives}
 

@@ -1,15 +1,11 @@
 -- The RTS of an end that receives named its link in the message that went out at its place, whatever its peer sends.
-use Rattle.mixed_worlds.proofs.Common.{◌≡◌, inl, inr, ℕ, Bool, true, false, if◌then◌else◌, List, [], ◌∷◌, map, take}
-use Rattle.mixed_worlds.proofs.Common.{Option, Some, None, refl, ap, sym, subst, ◌∙◌, Contains, Host, same_host}
-use Rattle.mixed_worlds.proofs.Common.{Crossing, HostMessage, same_host-true, is_receive_socket, Command, Legal, Order}
-use Rattle.mixed_worlds.proofs.Common.{orders_of, Entry, CrossedAt, HasCrossed, going, control_flow, accepted, NcpState}
-use Rattle.mixed_worlds.proofs.Common.{opening_state, pair_with, served, offered, message_leaves, Asked, Crossed}
-use Rattle.mixed_worlds.proofs.Common.{Moment, places, program, crossings_of, places_same, Begins, Each, Ends, Goes}
-use Rattle.mixed_worlds.proofs.Common.{Hears, Quiet, each_weaker, IsMixed, Orders, Says, older, ordered, All-contains}
-use Rattle.mixed_worlds.proofs.Common.{All-head, All-nil, All-tail, even_odd}
-use Rattle.std.proofs.lemmas.List.Elements.{All-take}
+use Rattle.mixed_worlds.proofs.Common.{◌≡◌, inl, inr, ℕ, Bool, true, false, if◌then◌else◌, List, [], ◌∷◌, map, take, Option, Some, None, refl, ap, sym, subst, ◌∙◌, Contains, Host, same_host, Crossing, HostMessage, same_host-true, is_receive_socket, Command, Legal, Order, orders_of, Entry, control_flow, accepted, NcpState, opening_state, pair_with, served, offered, Asked, Crossed, Moment, places, program, crossings_of, places_same, IsMixed, even_odd, same_Some}
+use Rattle.promise.specs.Formed.{CrossedAt, HasCrossed, going}
+use Rattle.sockets.proofs.lemmas.{message_leaves}
+use Rattle.world_keeps_lives.proofs.lemmas.{Begins, Each, Ends, Goes, Hears, Quiet, each_weaker}
+use Rattle.mixed_worlds.proofs.Moments.{Orders, Says, older, ordered}
+use Rattle.std.proofs.lemmas.List.Elements.{All-contains, All-head, All-nil, All-tail, All-take}
 use Rattle.std.specs.Prelude.{All}
-use Rattle.std.proofs.lemmas.Option.{same_Some}
 use Rattle.interface.specs.declared.crossing.Crossing.TheVariants as crossing
 use Rattle.interface.specs.declared.crossing.Inbound.TheVariants as inbound
 use Rattle.ncp_control.specs.declared.command.Command.TheVariants as command

@@ -1,39 +1,26 @@
 -- What an end that sends may still send is, with what its life sent, within what its peer granted, whatever that sends.
-use Rattle.mixed_worlds.proofs.Common.{◌≡◌, ◌⊎◌, inl, inr, ℕ, zero, suc, ◌+◌, ◌<◌, ◌==◌, ◌&&◌, Bool, true, false}
-use Rattle.mixed_worlds.proofs.Common.{if◌then◌else◌, List, [], ◌∷◌, ◌++◌, map, filter, find, take, Option, Some, None}
-use Rattle.mixed_worlds.proofs.Common.{is_some, refl, ap, sym, subst, ◌∙◌, arith, eq-eqb, Contains, Host, HostMessage}
-use Rattle.mixed_worlds.proofs.Common.{is_receive_socket, is_send_socket, is_ready, Command, Legal, Order, orders_of}
-use Rattle.mixed_worlds.proofs.Common.{asked_on_link, desk_taken, Ending, Open, Unconnected, desk_of}
-use Rattle.mixed_worlds.proofs.Common.{not, is_at, is_ending, is_open, is_receiving, sends_on}
-use Rattle.mixed_worlds.proofs.Common.{closed_by_partner, PairState, TurnState}
-use Rattle.mixed_worlds.proofs.Common.{order_taken, orders_taken, message_taken, with_desk, Entry, Notice, both}
-use Rattle.mixed_worlds.proofs.Common.{asked_at, cls_sent, accepted, turn_of, NcpState, pair_with, HasSome, Each, Ends}
-use Rattle.mixed_worlds.proofs.Common.{Quiet, each_in, each_of, each_weaker, End, Ask, Close, Mark, mark_of, marks}
-use Rattle.mixed_worlds.proofs.Common.{Stand, standing, even_odd, All-cons, All-contains, All-nil}
-use Rattle.mixed_worlds.proofs.Common.{All-weaker}
+use Rattle.mixed_worlds.proofs.Common.{Contains, Host, HostMessage, is_receive_socket, is_send_socket, is_ready, Command, Legal, Order, orders_of, desk_of, PairState, Entry, Notice, both, NcpState, pair_with, HasSome, End, Ask, Close, Mark, mark_of, marks, even_odd, eqb-true, Allocation, AreOrders, IsOrder, text_good, Amount, same_Some}
+use Rattle.std.proofs.Common.{◌≡◌, ◌⊎◌, inl, inr, ℕ, zero, suc, ◌+◌, ◌<◌, ◌==◌, ◌&&◌, Bool, true, false, if◌then◌else◌, List, [], ◌∷◌, ◌++◌, map, filter, find, take, Option, Some, None, is_some, refl, ap, sym, subst, ◌∙◌, arith, eq-eqb, not}
+use Rattle.host_pairs.specs.Commands.{asked_on_link, desk_taken, Ending, Open, Unconnected}
+use Rattle.host_pairs.specs.Entries.{is_at, is_ending, is_open, is_receiving, sends_on, closed_by_partner, is_link, refused_end}
+use Rattle.host_pairs.specs.Turn.{TurnState, order_taken, orders_taken, message_taken, with_desk}
+use Rattle.host_pairs.specs.Parcels.{asked_at, cls_sent}
+use Rattle.sockets.specs.Accepting.{accepted, turn_of}
+use Rattle.world_keeps_lives.proofs.lemmas.{Each, Ends, Quiet, each_in, each_of, each_weaker, GoesAll, HearsAll, IsNoMore, Leaves, Starts, each_first, no_more, quiet_off, quiet_sent, turn_order, turn_passes}
+use Rattle.host_keeps_pairing.specs.Ends.{Stand, standing, close_waits, due, request_due}
+use Rattle.std.proofs.lemmas.List.Elements.{All-cons, All-contains, All-nil, All-weaker, All-take}
 use Rattle.std.specs.Prelude.{All, ◌≤◌}
 use Rattle.std.proofs.Math.Nat.{min-le_left}
-use Rattle.std.proofs.lemmas.Bool.{eqb-true}
-use Rattle.std.proofs.lemmas.List.Elements.{All-take}
 use Rattle.interface.specs.declared.crossing.Inbound.TheVariants as inbound
 use Rattle.ncp_control.specs.Allocation as counters
-use Rattle.ncp_control.specs.declared.allocation.Allocation.{Allocation}
 use Rattle.ncp_control.specs.declared.command.Command.TheVariants as command
 use Rattle.interface.proofs.lemmas.{contains_head}
 use Rattle.host_pairs.specs.Commands as commands
-use Rattle.host_pairs.specs.Entries.{is_link, refused_end}
 use Rattle.host_pairs.specs.declared.entry.Closing.{Closing}
 use Rattle.host_pairs.specs.declared.entry.Closing.TheVariants as closing
-use Rattle.host_keeps_pairing.specs.Ends.{close_waits, due, request_due}
-use Rattle.host_keeps_ranges.specs.Ranges.{AreOrders, IsOrder}
-use Rattle.host_keeps_ranges.proofs.lemmas.{text_good}
 use Rattle.host_keeps_streams.specs.Ends.{has_opened}
-use Rattle.promise.specs.declared.life.Amount.{Amount}
 use Rattle.net_sim.specs.Book.{more}
-use Rattle.world_keeps_lives.proofs.lemmas.{GoesAll, HearsAll, IsNoMore, Leaves, Starts, each_first}
-use Rattle.world_keeps_lives.proofs.lemmas.{no_more, quiet_off, quiet_sent, turn_order, turn_passes}
 use Rattle.mixed_worlds.specs.Toward.{granted_in}
-use Rattle.std.proofs.lemmas.Option.{same_Some}
 use Rattle.mixed_worlds.proofs.EndMoments.{Free}
 
 -- a life's socket and stamps, and what it has sent

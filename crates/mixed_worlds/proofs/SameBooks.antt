@@ -1,17 +1,14 @@
 -- The book of a network, in which strangers report nothing, has the same lives among hosts with programs as what is kept
 -- where each host reports what its program would.
-use Rattle.mixed_worlds.proofs.Common.{◌≡◌, ◌⊎◌, inl, inr, ℕ, ◌==◌, ◌&&◌, not, Bool, true, false, List, [], ◌∷◌, ◌++◌, length, Some, refl, ap, sym, subst, ◌∙◌, eq-eqb, if◌then◌else◌, Host, same_host, Crossing, Notice, both, Fate, Life, Request, Kept, all_told, book_told, carried, life_ended, lives_at, lives_between, lives_on, lives_with, new_life, returned, where_it, same_host-sym, Each, beside_among, is_among, lives_among, Asked, Crossed, Moment, host_in, kept_by, kept_in, notices_by, mixed_kept, crossed_only, same_host-true}
-use Rattle.net_sim.specs.Book.{fates_where, granted, handed_to, opening_kept, asked, crossed}
+use Rattle.mixed_worlds.proofs.Common.{◌≡◌, ◌⊎◌, inl, inr, ℕ, ◌==◌, ◌&&◌, not, Bool, true, false, List, [], ◌∷◌, ◌++◌, length, Some, refl, ap, sym, subst, ◌∙◌, eq-eqb, if◌then◌else◌, Host, same_host, Crossing, Notice, Fate, Life, Request, same_host-sym, beside_among, is_among, lives_among, mixed_kept, crossed_only, Asked, Crossed, Moment, host_in, kept_by, kept_in, notices_by, same_host-true}
+use Rattle.host_pairs.proofs.lemmas.{both, not_is}
+use Rattle.net_sim.specs.Book.{Kept, all_told, book_told, carried, life_ended, lives_at, lives_between, lives_on, lives_with, new_life, returned, where_it, fates_where, granted, handed_to, opening_kept, asked, crossed, closing, over_by_cls}
+use Rattle.world_keeps_lives.proofs.lemmas.{Each}
 use Rattle.interface.specs.declared.crossing.Crossing.TheVariants as crossing
 use Rattle.host_pairs.specs.declared.notice.Notice.TheVariants as notice
-use Rattle.host_pairs.proofs.lemmas.{not_is}
 use Rattle.promise.specs.declared.life.Fate.TheVariants as fate
 use Rattle.sockets.specs.declared.request.Request.TheVariants as request
-use Rattle.net_sim.specs.Book.{closing}
-use Rattle.net_sim.specs.Book.{over_by_cls}
-use Rattle.world_keeps_lives.proofs.lemmas.Among.{NoneOf, among_more, among_other, among_where, beside_fates, beside_handed}
-use Rattle.world_keeps_lives.proofs.lemmas.Among.{beside_more, beside_other, beside_where, fates_length, fates_none}
-use Rattle.world_keeps_lives.proofs.lemmas.Among.{handed_length, handed_none, one_longer, where_length, where_none}
+use Rattle.world_keeps_lives.proofs.lemmas.Among.{NoneOf, among_more, among_other, among_where, beside_fates, beside_handed, beside_more, beside_other, beside_where, fates_length, fates_none, handed_length, handed_none, one_longer, where_length, where_none}
 
 -- a notice that opens no life with a stranger
 abbrev pub OpensAmong : (Host → Bool) → Notice → Type 0

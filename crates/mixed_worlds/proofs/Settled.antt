@@ -1,10 +1,9 @@
 -- Where nothing is left to be done among hosts with programs, all their lives agree.
-use Rattle.mixed_worlds.proofs.Common.{◌≡◌, ℕ, Bool, true, false, if◌then◌else◌, not, find, List, [], ◌∷◌, Option, None, refl, ap, sym, subst, ◌∙◌, Contains, Host, same_host, same_host-true, Life, Match, NcpState, opening_state, pair_with, Moment, program, crossings_of, without_strangers, IsMixed, HasOpenEnd, mine_on, next_of, kept_in, lives_among, mixed_kept, Peer}
+use Rattle.mixed_worlds.proofs.Common.{◌≡◌, ℕ, Bool, true, false, if◌then◌else◌, not, find, List, [], ◌∷◌, Option, None, refl, ap, sym, subst, ◌∙◌, Contains, Host, same_host, same_host-true, Life, Match, NcpState, opening_state, pair_with, Moment, program, crossings_of, without_strangers, lives_among, mixed_kept, IsMixed, HasOpenEnd, mine_on, kept_in, Peer, AreOurs, Network, in_book}
+use Rattle.host_pairs.specs.Parcels.{next_of}
 use Rattle.std.specs.Prelude.{filter}
 use Rattle.interface.specs.Mailboxes as mail
 use Rattle.sockets.specs.Sending.{next_out}
-use Rattle.reset_law.specs.Network.{AreOurs, Network}
-use Rattle.world_keeps_pairing.proofs.lemmas.{in_book}
 use Rattle.world_keeps_streams.proofs.lemmas.{done, silent_next}
 use Rattle.mixed_worlds.specs.Laws.{AgreeAmong, HaveSettled}
 use Rattle.mixed_worlds.proofs.SameBooks.{other_host, same_lives}

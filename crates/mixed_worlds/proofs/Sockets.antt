@@ -1,8 +1,7 @@
 -- One socket of a host that runs the program, whatever strangers do.
-use Rattle.mixed_worlds.proofs.Common.{◌≡◌, ℕ, Bool, true, false, List, ◌∷◌, Host, same_host, opening_state, Request, Asked, Moment, program, crossings_of, IsMixed, Holds, mixed_kept}
+use Rattle.mixed_worlds.proofs.Common.{◌≡◌, ℕ, Bool, true, false, List, ◌∷◌, Host, same_host, opening_state, Request, Asked, Moment, program, IsMixed, Holds, mixed_kept, Network}
+use Rattle.net_sim.specs.Timeline.{crossings_of, Happens}
 use Rattle.interface.specs.Mailboxes as mail
-use Rattle.net_sim.specs.Timeline.{Happens}
-use Rattle.reset_law.specs.Network.{Network}
 pub use Rattle.world_keeps_lives.proofs.lemmas.{IsFit}
 use Rattle.world_keeps_lives.proofs.lemmas.Sockets as sockets
 

@@ -1,42 +1,26 @@
 -- What a peer's message does to the connections of a pair, in steps: for what holds of ends, of what waits and of what
 -- is reported together, whatever the peer says.
-use Rattle.mixed_worlds.proofs.Common.{◌≡◌, ℕ, ◌==◌, ◌||◌, Bool, true, false, not, if◌then◌else◌, List, [], ◌∷◌, ◌++◌}
-use Rattle.mixed_worlds.proofs.Common.{map, filter, Option, Some, None, is_some, refl, ap, sym, subst, ◌∙◌, list_any}
-use Rattle.mixed_worlds.proofs.Common.{Host, same_host, Flow, Answer, HostMessage, is_receive_socket, is_ready}
-use Rattle.mixed_worlds.proofs.Common.{data_bits, header_of, Command, ERRONEOUS, Legal, Order, orders_of}
-use Rattle.mixed_worlds.proofs.Common.{data_of, data_taken, arrived, arrived_if, data_found}
-use Rattle.mixed_worlds.proofs.Common.{is_acceptable, text_faulted, DeskState, desk_of, desk_told}
-use Rattle.mixed_worlds.proofs.Common.{listener_on, swept, receives_on, changed_first, closed_by_partner}
-use Rattle.mixed_worlds.proofs.Common.{ending, entry_at, free_link, is_at, is_over, opening_notices, receiving_end}
-use Rattle.mixed_worlds.proofs.Common.{sending_end, sends_on, PairState, TurnState, if_ready, message_taken, with_desk}
-use Rattle.mixed_worlds.proofs.Common.{order_taken, orders_taken, Entry, Notice, both, after_turn}
-use Rattle.mixed_worlds.proofs.Common.{turn_of, NcpState, pair_with, HasSome, append-nil, append_assoc, flat_map}
-use Rattle.mixed_worlds.proofs.Common.{DataHeader, Ending, Open, Unconnected, asked_on_link}
-use Rattle.mixed_worlds.proofs.Common.{changed, desk_taken, entry_joined, matched}
-use Rattle.mixed_worlds.proofs.Common.{Listener, Stand, Standing, marks, none_at, put}
-use Rattle.mixed_worlds.proofs.Common.{send_odd}
+use Rattle.mixed_worlds.proofs.Common.{list_any, Host, same_host, Flow, Answer, HostMessage, is_receive_socket, data_bits, header_of, Command, PairState, Entry, Notice, both, NcpState, pair_with, HasSome, append-nil, append_assoc, DataHeader, Listener, Stand, Standing, marks, send_odd, eqb-true, AreOrders, IsOrder, text_good}
+use Rattle.std.proofs.Common.{◌≡◌, ℕ, ◌==◌, ◌||◌, Bool, true, false, not, if◌then◌else◌, List, [], ◌∷◌, ◌++◌, map, filter, Option, Some, None, is_some, refl, ap, sym, subst, ◌∙◌}
+use Rattle.ncp_control.specs.Phases.{is_ready, rfnm_phase}
+use Rattle.host_pairs.specs.Control.{ERRONEOUS, Legal, Order, orders_of, error, Wrong, NO_SOCKET, NOT_CONNECTED}
+use Rattle.host_pairs.specs.Data.{data_of, data_taken, arrived, arrived_if, data_found, is_acceptable, text_faulted, spent}
+use Rattle.host_pairs.specs.Desk.{DeskState, desk_of, desk_told, listener_on, swept, settled, command_queued}
+use Rattle.host_pairs.specs.Entries.{receives_on, changed_first, closed_by_partner, ending, entry_at, free_link, is_at, is_over, opening_notices, receiving_end, sending_end, sends_on, closed_when, cls_of, is_busy, must_close, refused_end}
+use Rattle.host_pairs.specs.Turn.{TurnState, if_ready, message_taken, with_desk, order_taken, orders_taken, command_taken, answered_turn, failed, failed_by, freed, is_gone, reply_notices, reset_notices, settled_turn}
+use Rattle.sockets.specs.Accepting.{after_turn, turn_of, accepted}
+use Rattle.std.specs.Prelude.{flat_map}
+use Rattle.host_pairs.specs.Commands.{Ending, Open, Unconnected, asked_on_link, changed, desk_taken, entry_joined, matched, str_taken_by, rts_taken_by, matched_once, faulted, cls_taken_by, asked_with_size, answered_on, Found, all_taken, at_end, gvb_taken, interrupted, receiver_on, ret_taken, rts_heard, sender_on, str_heard, str_linked}
+use Rattle.host_keeps_pairing.proofs.lemmas.{none_at, put}
 use Rattle.ncp_control.specs.Command.{spelling}
-use Rattle.host_pairs.specs.Desk.{settled, command_queued}
-use Rattle.host_pairs.specs.Commands.{str_taken_by, rts_taken_by, matched_once, faulted, cls_taken_by, asked_with_size, answered_on, Found, all_taken, at_end, gvb_taken, interrupted, receiver_on}
-use Rattle.host_pairs.specs.Commands.{ret_taken, rts_heard, sender_on, str_heard, str_linked}
-use Rattle.std.proofs.lemmas.Bool.{eqb-true}
 use Rattle.bit_messages.specs.Octets.{octets_of}
 use Rattle.interface.specs.declared.crossing.Answer.TheVariants as answer
 use Rattle.interface.specs.declared.crossing.Inbound.TheVariants as inbound
-use Rattle.ncp_control.specs.Phases.{rfnm_phase}
 use Rattle.ncp_control.specs.declared.phase.Phase.{Phase}
 use Rattle.ncp_control.specs.declared.command.Command.TheVariants as command
 use Rattle.ncp_control.specs.declared.phase.Phase.TheVariants as phase
 use Rattle.host_pairs.specs.Commands as commands
-use Rattle.host_pairs.specs.Control.{error, Wrong, NO_SOCKET, NOT_CONNECTED}
-use Rattle.host_pairs.specs.Data.{spent}
-use Rattle.host_pairs.specs.Entries.{closed_when, cls_of, is_busy, must_close, refused_end}
-use Rattle.host_pairs.specs.Turn.{command_taken, answered_turn, failed, failed_by, freed, is_gone, reply_notices, reset_notices}
-use Rattle.host_pairs.specs.Turn.{settled_turn}
 use Rattle.host_pairs.specs.declared.notice.Notice.TheVariants as notice
-use Rattle.sockets.specs.Accepting.{accepted}
-use Rattle.host_keeps_ranges.specs.Ranges.{AreOrders, IsOrder}
-use Rattle.host_keeps_ranges.proofs.lemmas.{text_good}
 use Rattle.world_keeps_lives.proofs.lemmas.{SomeEnd, one_order}
 
 -- ---- what a step leaves

@@ -1,31 +1,20 @@
 -- An RTS that waits to go out names the link of its end, whatever the peer says.
-use Rattle.mixed_worlds.proofs.Common.{◌≡◌, ℕ, ◌*◌, ◌==◌, ◌&&◌, Bool, true, false, not, if◌then◌else◌, List, [], ◌∷◌}
-use Rattle.mixed_worlds.proofs.Common.{◌++◌, map, take, drop, Option, Some, None, is_some, refl, ap, sym, subst, ◌∙◌}
-use Rattle.mixed_worlds.proofs.Common.{eq-eqb, Host, same_host, Flow, Answer, same_host-true, or_false}
-use Rattle.mixed_worlds.proofs.Common.{is_receive_socket, is_send_socket, is_ready, Command, DeskState, desk_of}
-use Rattle.mixed_worlds.proofs.Common.{listens_on, is_mine_on, changed_first, entry_at, free_link, is_at, is_receiving}
-use Rattle.mixed_worlds.proofs.Common.{receiving_end, sending_end, PairState, Parcel, asked_at, bits_gone, cls_sent}
-use Rattle.mixed_worlds.proofs.Common.{command_gone, commands_gone, may_send_on, pair_after, parcel_gone, Entry}
-use Rattle.mixed_worlds.proofs.Common.{NcpState, pair_with, next_in, offered_by, Peer, Request, HasSome}
-use Rattle.mixed_worlds.proofs.Common.{All-append, All-cons, All-filter, All-head, All-map, All-nil, All-tail}
-use Rattle.mixed_worlds.proofs.Common.{All-weaker, Ask, Mark, changed, Listener, mark_of, marks, accepted}
-use Rattle.mixed_worlds.proofs.Common.{answer_leaves, next_pair, AreInOrder}
-use Rattle.std.proofs.lemmas.List.Elements.{All-drop}
+use Rattle.mixed_worlds.proofs.Common.{◌≡◌, ℕ, ◌*◌, ◌==◌, ◌&&◌, Bool, true, false, not, if◌then◌else◌, List, [], ◌∷◌, ◌++◌, map, take, drop, Option, Some, None, is_some, refl, ap, sym, subst, ◌∙◌, eq-eqb, Host, same_host, Flow, Answer, same_host-true, or_false, is_receive_socket, is_send_socket, is_ready, Command, DeskState, desk_of, listens_on, PairState, Entry, Peer, Request, HasSome, Ask, Mark, Listener, mark_of, marks, accepted, AreInOrder}
+use Rattle.host_pairs.specs.Entries.{is_mine_on, changed_first, entry_at, free_link, is_at, is_receiving, receiving_end, sending_end, called_off}
+use Rattle.host_pairs.specs.Parcels.{Parcel, asked_at, bits_gone, cls_sent, command_gone, commands_gone, may_send_on, pair_after, parcel_gone, link_of}
+use Rattle.sockets.specs.Pairs.{NcpState, pair_with, with_pair, owner_of}
+use Rattle.sockets.specs.Sending.{next_in, offered_by, offered}
+use Rattle.std.proofs.lemmas.List.Elements.{All-append, All-cons, All-filter, All-head, All-map, All-nil, All-tail, All-weaker, All-drop}
+use Rattle.host_pairs.specs.Commands.{changed, granted}
+use Rattle.sockets.proofs.lemmas.{answer_leaves, next_pair, not_first, others_stay}
 use Rattle.std.specs.Prelude.{All}
 use Rattle.interface.specs.declared.crossing.Inbound.TheVariants as inbound
 use Rattle.ncp_control.specs.declared.command.Command.TheVariants as command
-use Rattle.host_pairs.specs.Asked.{closed_end, commanded, contacted, interrupt_of, receiver_requested, requested}
-use Rattle.host_pairs.specs.Asked.{with_end, with_more_bits}
-use Rattle.host_pairs.specs.Commands.{granted}
-use Rattle.host_pairs.specs.Entries.{called_off}
+use Rattle.host_pairs.specs.Asked.{closed_end, commanded, contacted, interrupt_of, receiver_requested, requested, with_end, with_more_bits}
 use Rattle.host_pairs.specs.Parcels as parcel
-use Rattle.host_pairs.specs.Parcels.{link_of}
 use Rattle.host_keeps_pairing.proofs.lemmas.{peer_here}
-use Rattle.sockets.specs.Pairs.{with_pair, owner_of}
 use Rattle.sockets.specs.Requests.{at_owner, closed_socket, is_taken, is_used, refusal, served}
 use Rattle.sockets.specs.declared.request.Request.TheVariants as request
-use Rattle.sockets.proofs.lemmas.{not_first, others_stay}
-use Rattle.sockets.specs.Sending.{offered}
 use Rattle.mixed_worlds.proofs.Steps.{AreMute, IsMute, IsSame, Steps, answer_step, no_words, settles, sweeps}
 
 -- ---- what waits of an end

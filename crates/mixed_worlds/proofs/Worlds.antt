@@ -1,28 +1,20 @@
 -- The book of a world with strangers.
-use Rattle.mixed_worlds.proofs.Common.{◌≡◌, Bool, true, false, List, length, subst, sym, Contains, Host, Crossing, safe_messages, ClosesWhole, IsBeside, receives, sends, Life, IsMixed, Kept, Moment, crossings_of, beside_among, contacts_among, lives_among, mixed_kept, HasAsked, IsCarried}
+use Rattle.mixed_worlds.proofs.Common.{Contains, Host, Crossing, ClosesWhole, IsBeside, AreFated, Life, IsMixed, Kept, Moment, crossings_of, contacts_of, beside_among, contacts_among, lives_among, mixed_kept, JoinedBook, IsBacked, Called, EachWasSent, CountNothingLater, ArrivedAmong}
+use Rattle.std.proofs.Common.{◌≡◌, Bool, true, false, List, length, subst, sym, All}
+use Rattle.interface.proofs.lemmas.{safe_messages, run_below}
+use Rattle.promise.specs.Safe.{receives, sends, IsGranted, IsPrefix, SafeBook}
+use Rattle.mixed_worlds.specs.Toward.{HasAsked, IsCarried, AreOnce}
 use Rattle.promise.specs.Formed.{FormedBook}
 use Rattle.interface.specs.Mailboxes.{IsRun}
 use Rattle.mixed_worlds.specs.Told.{ToldAmong}
-use Rattle.promise.specs.Connections.{JoinedBook}
-use Rattle.net_sim.specs.Reports.{IsBacked}
-use Rattle.interface.proofs.lemmas.{run_below}
 use Rattle.interface.specs.Calls.{Seen}
 use Rattle.promise.specs.Ends.{AreContacts, AreLeft}
-use Rattle.promise.specs.Fates.{AreFated}
-use Rattle.promise.specs.Safe.{IsGranted, IsPrefix, SafeBook}
-use Rattle.promise.specs.declared.book.Called.{Called}
 use Rattle.net_sim.specs.MixedWorlds.{IsLawfulAmong}
-use Rattle.std.proofs.Common.{All}
-use Rattle.net_sim.specs.Timeline.{contacts_of}
 use Rattle.net_sim.specs.Told.{without_reports}
 use Rattle.net_sim.specs.World.{WorldState}
 use Rattle.world_keeps_lives.specs.Lives.{IsBounded}
 use Rattle.world_keeps_streams.specs.Granted.{EachIsWithin}
-use Rattle.world_keeps_streams.specs.Sent.{EachWasSent}
-use Rattle.world_keeps_streams.specs.Within.{CountNothingLater}
-use Rattle.mixed_worlds.specs.Arrived.{ArrivedAmong}
 use Rattle.mixed_worlds.specs.Laws.{Among, KeepsAmong, KeepsToward, Toward}
-use Rattle.mixed_worlds.specs.Toward.{AreOnce}
 
 module _ {C : Type 0} (strange : Host → Bool) (seen : C → Seen) (hosts : List Host) (w : WorldState C)
     (lawful : IsLawfulAmong strange seen hosts w) where

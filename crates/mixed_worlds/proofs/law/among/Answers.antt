@@ -1,6 +1,5 @@
-use Rattle.std.proofs.Common.{◌≡◌, List}
-use Rattle.reset_law.specs.Network.{Network}
-use Rattle.mixed_worlds.proofs.Common.{Orders}
+use Rattle.mixed_worlds.proofs.Common.{◌≡◌, List, Network}
+use Rattle.mixed_worlds.proofs.Moments.{Orders}
 use Rattle.mixed_worlds.proofs.Joined.{joins}
 use Rattle.mixed_worlds.proofs.LinkGrants.{granted}
 use Rattle.mixed_worlds.proofs.Ours.{arrived, fated, over, safe, sent, whole, within}

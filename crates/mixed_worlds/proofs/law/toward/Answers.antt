@@ -1,11 +1,11 @@
-use Rattle.mixed_worlds.proofs.Common.{◌≡◌, Bool, true, false, List, ◌∷◌, if◌then◌else◌, refl, Host, same_host, HostMessage, Moment, Crossed, places, program, safe_messages, accepted, pair_with, message_leaves, crossings_of, Orders, mixed_kept}
-use Rattle.sockets.proofs.lemmas.{message_about}
+use Rattle.mixed_worlds.proofs.Common.{◌≡◌, Bool, true, false, List, ◌∷◌, if◌then◌else◌, refl, Host, same_host, HostMessage, Moment, Crossed, places, program, safe_messages, accepted, pair_with, crossings_of, mixed_kept}
+use Rattle.sockets.proofs.lemmas.{message_leaves, message_about}
+use Rattle.mixed_worlds.proofs.Moments.{Orders}
 use Rattle.interface.specs.declared.crossing.Crossing.TheVariants as crossing
 use Rattle.interface.specs.declared.crossing.Inbound.TheVariants as inbound
-use Rattle.world_keeps_lives.proofs.lemmas.{live_end, safe_life}
+use Rattle.world_keeps_lives.proofs.lemmas.{live_end, safe_life, any_message}
 use Rattle.mixed_worlds.proofs.AskedLives.{data_reported, has_asked, plain_owner}
 use Rattle.mixed_worlds.proofs.CarriedLives.{is_carried}
-use Rattle.world_keeps_lives.proofs.lemmas.{any_message}
 use Rattle.mixed_worlds.proofs.Handed.{beside_in, safe_beside}
 use Rattle.mixed_worlds.proofs.OnceLives.{own_once, partner_once}
 use Rattle.mixed_worlds.proofs.Sockets.{held}

@@ -1,9 +1,7 @@
-use Rattle.mixed_worlds.proofs.Common.{◌≡◌, true, false, List, [], ◌∷◌, ◌++◌, refl, ap, ◌∙◌, arith, Flow, Crossing, on_link, second, third}
+use Rattle.mixed_worlds.proofs.Common.{◌≡◌, true, false, List, [], ◌∷◌, ◌++◌, refl, ap, ◌∙◌, arith, Flow, Crossing, on_link, second, third, first, ArrivedAmong}
 use Rattle.interface.specs.declared.crossing.Answer.TheVariants as answer
 use Rattle.interface.specs.declared.crossing.Crossing.TheVariants as crossing
-use Rattle.sockets.specs.Worked.{first}
 use Rattle.mixed_worlds.specs.Worked.{is_third}
-use Rattle.mixed_worlds.specs.Arrived.{ArrivedAmong}
 use Rattle.mixed_worlds.proofs.law.worked_arrived.Goals as goal
 
 -- RFNM of this flow is all that crossed

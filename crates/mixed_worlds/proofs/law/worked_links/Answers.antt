@@ -1,13 +1,14 @@
-use Rattle.mixed_worlds.proofs.Common.{◌≡◌, ◌<◌, ℕ, inl, inr, zero, suc, List, ◌∷◌, refl, true, false, ap, sym, subst, arith, Contains, Crossing, HostMessage, CrossedAt, crossings_of, on_link, second, third, control, Legal, Order, listener_taken, IsNamed, sending_life}
+use Rattle.mixed_worlds.proofs.Common.{Contains, Crossing, HostMessage, CrossedAt, crossings_of}
+use Rattle.std.proofs.Common.{◌≡◌, ◌<◌, ℕ, inl, inr, zero, suc, List, ◌∷◌, refl, true, false, ap, sym, subst, arith}
+use Rattle.sockets.specs.Worked.{on_link, second, third, control, STR}
+use Rattle.host_pairs.specs.Control.{Legal, Order, orders_of}
+use Rattle.mixed_worlds.specs.Worked.{listener_taken, sending_life, stranger_asks, stranger_ready, stranger_opened}
+use Rattle.mixed_worlds.specs.Toward.{IsNamed}
 use Rattle.bit_messages.specs.Octets.{octets_of}
 use Rattle.interface.specs.declared.crossing.Crossing.TheVariants as crossing
-use Rattle.host_pairs.specs.Control.{orders_of}
 use Rattle.ncp_control.specs.Packing.{packed_count}
 use Rattle.ncp_control.specs.Reading.{command_of, read_of}
 use Rattle.ncp_control.specs.declared.command.Command.TheVariants as command
-use Rattle.mixed_worlds.specs.Worked.{stranger_asks, stranger_ready}
-use Rattle.sockets.specs.Worked.{STR}
-use Rattle.mixed_worlds.specs.Worked.{stranger_opened}
 use Rattle.mixed_worlds.proofs.Carried.{below_all, none_of}
 use Rattle.mixed_worlds.proofs.law.worked_links.Goals as goal
 

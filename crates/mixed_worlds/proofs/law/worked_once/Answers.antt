@@ -1,6 +1,7 @@
-use Rattle.mixed_worlds.proofs.Common.{◌≡◌, List, [], ◌∷◌, ◌++◌, refl, ap, sym, ◌∙◌, arith, Life, new_life, second}
-use Rattle.mixed_worlds.proofs.Common.{third, sending_life, AreTwo, Name}
-use Rattle.mixed_worlds.specs.Worked.{receiving_life}
+use Rattle.mixed_worlds.proofs.Common.{◌≡◌, List, [], ◌∷◌, ◌++◌, refl, ap, sym, ◌∙◌, arith, Life, second, third}
+use Rattle.net_sim.specs.Book.{new_life}
+use Rattle.mixed_worlds.specs.Worked.{sending_life, receiving_life}
+use Rattle.promise.specs.Safe.{AreTwo, Name}
 use Rattle.mixed_worlds.proofs.law.worked_once.Goals as goal
 
 pub returns-clause-own : goal.returns-clause-own

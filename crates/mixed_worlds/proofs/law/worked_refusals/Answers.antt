@@ -1,9 +1,8 @@
-use Rattle.mixed_worlds.proofs.Common.{◌≡◌, ℕ, inl, inr, ◌<◌, ◌∷◌, [], refl, true, false, ap, sym, arith, Crossing}
-use Rattle.mixed_worlds.proofs.Common.{HostMessage, CrossedAt, crossings_of, on_link}
-use Rattle.mixed_worlds.proofs.Common.{second, third, control, listener_taken}
-use Rattle.std.proofs.Common.{drop, ◌≤◌, ◌∙◌}
+use Rattle.mixed_worlds.proofs.Common.{Crossing, HostMessage, CrossedAt, crossings_of, Flow, eight, AreOf}
+use Rattle.std.proofs.Common.{◌≡◌, ℕ, inl, inr, ◌<◌, ◌∷◌, [], refl, true, false, ap, sym, arith, drop, ◌≤◌, ◌∙◌}
+use Rattle.sockets.specs.Worked.{on_link, second, third, control, STR, message}
+use Rattle.mixed_worlds.specs.Worked.{listener_taken, granted_beside, odd_size, stranger_opened}
 use Rattle.bit_messages.specs.Octets.{octets_of}
-use Rattle.interface.specs.declared.address.Flow.{Flow}
 use Rattle.interface.specs.declared.crossing.Crossing.TheVariants as crossing
 use Rattle.host_pairs.specs.Control.{orders_of}
 use Rattle.ncp_control.specs.Packing.{packed_count}
@@ -11,10 +10,6 @@ use Rattle.ncp_control.specs.Reading.{command_of, read_of}
 use Rattle.sockets.specs.Accepting.{accepted}
 use Rattle.sockets.specs.Requests.{refusal, served, served_notices}
 use Rattle.sockets.specs.Sending.{next_out, offered}
-use Rattle.net_sim.specs.Worked.{eight}
-use Rattle.sockets.specs.Worked.{STR, message}
-use Rattle.mixed_worlds.specs.Toward.{AreOf}
-use Rattle.mixed_worlds.specs.Worked.{granted_beside, odd_size, stranger_opened}
 use Rattle.mixed_worlds.proofs.Carried.{below_all}
 use Rattle.mixed_worlds.proofs.law.worked_refusals.Goals as goal
 

@@ -1,15 +1,14 @@
-use Rattle.mixed_worlds.proofs.Common.{◌≡◌, Bool, true, false, None, refl, ap, sym, subst, ◌∙◌, Host, same_host, same_flow, Flow, same_host-true, on_link, second, third, program, crossings_of, same_host-sym, without_strangers, listener_taken}
+use Rattle.mixed_worlds.proofs.Common.{◌≡◌, Bool, true, false, None, refl, ap, sym, subst, ◌∙◌, Host, same_host, Flow, on_link, second, third, first, program, crossings_of, same_host-sym, without_strangers}
+use Rattle.interface.specs.Mailboxes.{same_flow, Empty, box_of}
+use Rattle.interface.proofs.lemmas.{same_host-true, same_flow-true}
+use Rattle.mixed_worlds.specs.Worked.{listener_taken, is_third}
 use Rattle.bit_messages.specs.Octets.{octets_of}
-use Rattle.interface.specs.Mailboxes.{Empty, box_of}
 use Rattle.ncp_control.specs.Packing.{packed_count}
 use Rattle.ncp_control.specs.Reading.{command_of, read_of}
 use Rattle.host_pairs.specs.Control.{orders_of}
 use Rattle.sockets.specs.Accepting.{accepted}
 use Rattle.sockets.specs.Requests.{refusal, served, served_notices}
 use Rattle.sockets.specs.Sending.{next_out, offered}
-use Rattle.sockets.specs.Worked.{first}
-use Rattle.mixed_worlds.specs.Worked.{is_third}
-use Rattle.interface.proofs.lemmas.{same_flow-true}
 use Rattle.mixed_worlds.proofs.law.worked_settled.Goals as goal
 
 pub returns-clause-waits : goal.returns-clause-waits

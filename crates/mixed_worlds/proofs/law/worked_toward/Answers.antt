@@ -1,18 +1,16 @@
-use Rattle.mixed_worlds.proofs.Common.{◌≡◌, ℕ, inl, inr, ◌<◌, zero, suc, [], Some, refl, ap, sym, subst, drop, false}
-use Rattle.mixed_worlds.proofs.Common.{true, arith, Contains, Crossing, HostMessage, CrossedAt, on_link, second, third}
-use Rattle.mixed_worlds.proofs.Common.{control, crossings_of, Legal, Order, NamesItself}
-use Rattle.std.proofs.Common.{replicate}
+use Rattle.mixed_worlds.proofs.Common.{Contains, Crossing, HostMessage, CrossedAt, crossings_of, eight}
+use Rattle.std.proofs.Common.{◌≡◌, ℕ, inl, inr, ◌<◌, zero, suc, [], Some, refl, ap, sym, subst, drop, false, true, arith, replicate}
+use Rattle.sockets.specs.Worked.{on_link, second, third, control, RTS}
+use Rattle.host_pairs.specs.Control.{Legal, Order, orders_of}
+use Rattle.mixed_worlds.specs.Toward.{NamesItself}
 use Rattle.bit_messages.specs.Octets.{octets_of}
 use Rattle.ncp_control.specs.Packing.{packed_count}
 use Rattle.ncp_control.specs.Reading.{command_of, read_of}
 use Rattle.interface.specs.declared.crossing.Crossing.TheVariants as crossing
 use Rattle.ncp_control.specs.declared.command.Command.TheVariants as command
-use Rattle.host_pairs.specs.Control.{orders_of}
-use Rattle.sockets.specs.Worked.{RTS}
 use Rattle.sockets.specs.Accepting.{accepted}
 use Rattle.sockets.specs.Requests.{refusal, served, served_notices}
 use Rattle.sockets.specs.Sending.{next_out, offered}
-use Rattle.net_sim.specs.Worked.{eight}
 use Rattle.mixed_worlds.specs.Worked.{eight_waits, odd_life, odd_size}
 use Rattle.mixed_worlds.proofs.Carried.{below_all, none_of}
 use Rattle.mixed_worlds.proofs.law.worked_toward.Goals as goal
