@@ -1,5 +1,6 @@
 -- Events in turn, repeated, and of a round, in two accounts: where each of them shows lines as it shows others, all of them do.
-use Rattle.world_replay.proofs.Common.{◌≡◌, ℕ, zero, suc, Bool, true, false, List, [], ◌∷◌, ◌++◌, refl, sym, subst, MatchBool, WorldState, Event, Happening, InTurn, Again, Repeated, RoundOf, crosses, turns_in}
+use Rattle.world_replay.proofs.Common.{◌≡◌, ℕ, zero, suc, Bool, true, false, List, [], ◌∷◌, ◌++◌, refl, sym, subst, MatchBool, WorldState, Event, Happening, InTurn}
+use Rattle.world_replay.specs.Rounds.{Again, Repeated, RoundOf, crosses, turns_in}
 
 -- what happens and shows these lines also happens as in another account, and what that shows is to them as is said
 abbrev pub ShowsAs : {S E L M : Type 0} → Happening S E L → Happening S E M → (List L → List M → Type 0) → Type 0

@@ -1,13 +1,13 @@
 -- An event at one host leaves all others as they are, and one of a calm by which nothing crosses leaves all hosts so.
-use Rattle.world_replay.proofs.Common.{◌≡◌, inl, inr, ℕ, zero, suc, Bool, false, List, [], ◌∷◌, Option, Some, None, Result, Ok, Err, length, refl, ap, sym, subst, ◌∙◌, arith, Notice, ServiceDeskState, ServicesState, opening_desk, line_bits, Calls, crossing_of, Host, Crossing, all_told, asked, crossed, shown, AskGives, AtSeat, Does, DoesOrHalts, OfferEnds, OfferGives, Passes, QuietEnds, StepGives, TakeEnds, TakeGives, TypeGives, WorldState, noticed, seat_of, served_at, services_of, stops, with_carrier, with_server, with_user, world_moved, Event, Ask, Net, Offer, Out, Quiet, Server, Take, Typed, User, WorldFault, Seat, ServiceSeat, accepted, NcpState, refusal, served, served_notices, next_out, offered, NcpFault, Request, IsOfCalm, same_host}
-use Rattle.std.proofs.Common.{slice_get}
+use Rattle.world_replay.proofs.Common.{Notice, ServiceDeskState, ServicesState, opening_desk, line_bits, Calls, crossing_of, Host, same_host, Crossing, all_told, asked, crossed, shown, Event, Ask, Net, Offer, Out, Quiet, Server, Take, Typed, User, WorldFault, Seat, ServiceSeat, accepted, NcpState, refusal, served, served_notices, next_out, offered, NcpFault, Request, IsOfCalm}
+use Rattle.std.proofs.Common.{◌≡◌, inl, inr, ℕ, zero, suc, Bool, false, List, [], ◌∷◌, Option, Some, None, Result, Ok, Err, length, refl, ap, sym, subst, ◌∙◌, arith, slice_get}
+use Rattle.net_sim.specs.World.{AskGives, AtSeat, Does, DoesOrHalts, OfferEnds, OfferGives, Passes, QuietEnds, StepGives, TakeEnds, TakeGives, TypeGives, WorldState, noticed, seat_of, served_at, services_of, stops, with_carrier, with_server, with_user, world_moved, EventGives, seated, serviced, tended, turn_of, with_program, with_services, world_heard}
 use Rattle.std.proofs.lemmas.List.{length-map}
 use Rattle.host_services.specs.Turns as services
 use Rattle.interface.specs.declared.CarrierFault.{CarrierFault}
 use Rattle.interface.specs.declared.HostMessage.{HostMessage}
 use Rattle.interface.specs.declared.Inbound.{Inbound}
 use Rattle.interface.specs.declared.crossing.Crossing.TheVariants as crossing
-use Rattle.net_sim.specs.World.{EventGives, seated, serviced, tended, turn_of, with_program, with_services, world_heard}
 use Rattle.sockets.specs.declared.request.Request.TheVariants as request
 use Rattle.world_replay.specs.Apart.{IsAt, OthersStay, SameHosts}
 use Rattle.world_replay.proofs.Driven.{moved_log, step_runs}

@@ -1,20 +1,15 @@
 -- The replay of events over any kind of world of which what a replay needs is known.
-use Rattle.world_replay.proofs.Common.{◌≡◌, ℕ, ◌+◌, ◌-◌, ◌<◌, ◌≤◌, zero, suc, Bool, true, false, List, [], ◌∷◌, ◌++◌, length}
-use Rattle.world_replay.proofs.Common.{Option, None, Some, Result, Ok, Err, refl, ap, ap₂, sym, subst, ◌∙◌, arith}
-use Rattle.world_replay.proofs.Common.{append-nil, Appends, Appends-nil, Appends-trans, Detail, Gains, Writes, output}
-use Rattle.world_replay.proofs.Common.{EventEnds, WorldFault, gained, HappensBy, StopsBy, shown_refusal, stops}
-use Rattle.world_replay.proofs.Common.{Calm, IsReplayable, WorldEvent}
-use Rattle.world_script.specs.declared.event.WorldEvent.TheVariants.{Happen}
-use Rattle.std.proofs.Common.{OnOk}
+use Rattle.world_replay.proofs.Common.{Appends, Appends-nil, Appends-trans, Detail, Gains, gained, WorldFault, stops, Calm, Happen, WorldEvent}
+use Rattle.std.proofs.Common.{◌≡◌, ℕ, ◌+◌, ◌-◌, ◌<◌, ◌≤◌, zero, suc, Bool, true, false, List, [], ◌∷◌, ◌++◌, length, Option, None, Some, Result, Ok, Err, refl, ap, ap₂, sym, subst, ◌∙◌, arith, OnOk}
+use Rattle.std.proofs.lemmas.List.{append-nil, append_assoc}
+use Rattle.world_replay.specs.Output.{Writes, output, shown_refusal, Shown, shown_text}
+use Rattle.world_replay.specs.Steps.{EventEnds, IsReplayable, OneEnds}
+use Rattle.world_replay.specs.Kinds.{HappensBy, StopsBy, Begins, Kind, rounds_in}
 use Rattle.replay.proofs.lemmas.{one_written, seen_written}
 use Rattle.replay.specs.declared.events.ReplayFault.{ReplayFault}
-use Rattle.world_replay.specs.Steps.{OneEnds}
-use Rattle.std.proofs.lemmas.List.{append_assoc}
 use Rattle.replay.specs.declared.events.ReplayFault.TheVariants as fault
-use Rattle.world_replay.specs.Kinds.{Begins, Kind, rounds_in}
 use Rattle.replay.specs.Seen.{IsSeen}
 use Rattle.world_replay.specs.Seen.{AreSeenBy, CalmHandsOn}
-use Rattle.world_replay.specs.Output.{Shown, shown_text}
 use Rattle.world_replay.proofs.News.{output-append}
 use Rattle.world_replay.proofs.Grown.{gains_none}
 use Rattle.world_replay.proofs.Replays.{News, news_is}

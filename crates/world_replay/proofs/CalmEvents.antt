@@ -1,7 +1,9 @@
 -- A calm is its events, one after another.
-use Rattle.world_replay.proofs.Common.{◌≡◌, ℕ, zero, suc, Bool, true, false, List, [], ◌∷◌, ◌++◌, Result, Ok, refl, ap, sym, subst, ◌∙◌, length, nat_lt, false≢true, All-cons, All-nil, MatchBool, All, Calls, Host, Calms, Does, Repeats, StepGives, TurnsOf, WorldState, stops, up_in, Event, Offer, Quiet, Take, WorldFault, InTurn, HappensInCalm, IsOfCalm, gained}
+use Rattle.world_replay.proofs.Common.{false≢true, MatchBool, All, Calls, Host, Calms, Does, Repeats, StepGives, TurnsOf, WorldState, stops, up_in, Event, Offer, Quiet, Take, WorldFault, InTurn, gained}
+use Rattle.std.proofs.Common.{◌≡◌, ℕ, zero, suc, Bool, true, false, List, [], ◌∷◌, ◌++◌, Result, Ok, refl, ap, sym, subst, ◌∙◌, length, nat_lt}
+use Rattle.std.proofs.lemmas.List.Elements.{All-cons, All-nil}
+use Rattle.world_replay.specs.Replay.{HappensInCalm, IsOfCalm, Happens, quiet_rounds}
 use Rattle.world_replay.specs.Output.{Shown}
-use Rattle.world_replay.specs.Replay.{Happens, quiet_rounds}
 use Rattle.world_replay.proofs.CalmRounds.{Gained, calm_gained, more_gained, none_gained, runs_at}
 use Rattle.world_replay.proofs.Grown.{Grew, begins, step_grows}
 use Rattle.world_replay.proofs.Replays.{gains_once, same_news}

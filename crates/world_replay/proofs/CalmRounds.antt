@@ -1,8 +1,8 @@
 -- A calm is its rounds, one after another.
-use Rattle.world_replay.proofs.Common.{◌≡◌, ℕ, zero, suc, Bool, true, false, List, [], ◌++◌, Result, Ok, refl, ap, ap₂, sym, subst, ◌∙◌, append-nil, false≢true, MatchBool, Calms, CalmGives, Refuses, StepGives, TurnsOf, WorldState, stops, up_in, Quiet, WorldFault, Carrier, Calls, Replays, gained}
+use Rattle.world_replay.proofs.Common.{◌≡◌, ℕ, zero, suc, Bool, true, false, List, [], ◌++◌, Result, Ok, refl, ap, ap₂, sym, subst, ◌∙◌, append-nil, false≢true, MatchBool, Calms, CalmGives, Refuses, StepGives, TurnsOf, WorldState, stops, up_in, Quiet, WorldFault, Carrier, Calls, gained}
+use Rattle.world_replay.specs.Replay.{Replays, Happens, rounds_of}
 use Rattle.interface.specs.declared.carrier.CarrierFault.TheVariants as carrier
 use Rattle.world_replay.specs.Output.{Shown, shown_refusal}
-use Rattle.world_replay.specs.Replay.{Happens, rounds_of}
 use Rattle.world_replay.proofs.Grown.{Grew, grew_more, grew_none}
 use Rattle.world_replay.proofs.Replays.{calm_grows, gained_more, gains_once, same_news}
 use Rattle.world_replay.proofs.Rounds.{calm_one, done_runs, is_false, is_true, when_false}

@@ -3,15 +3,15 @@ pub use Rattle.host_pairs.specs.declared.notice.Notice.{Notice}
 pub use Rattle.host_services.specs.Services.{ServiceDeskState, ServicesState, opening_desk}
 pub use Rattle.host_services.specs.TypedLines.{line_bits}
 pub use Rattle.host_services.specs.declared.report.Reported.{Reported}
-pub use Rattle.interface.specs.Calls.{Calls, Seen, crossing_of, is_memory, step_crossings}
+pub use Rattle.interface.specs.Calls.{Calls, crossing_of}
 pub use Rattle.interface.specs.Host.{Host, same_host}
 pub use Rattle.interface.specs.declared.crossing.Crossing.{Crossing}
 pub use Rattle.net_sim.proofs.lemmas.{calm_keeps}
 pub use Rattle.net_sim.specs.Book.{Kept, all_asked, all_crossed, all_told, asked, book_told, crossed}
 pub use Rattle.net_sim.specs.Carriers.{shown}
-pub use Rattle.net_sim.specs.MixedWorlds.{FetchEnds, OutEnds}
-pub use Rattle.net_sim.specs.Worked.{any_carrier, fresh, message}
-pub use Rattle.net_sim.specs.World.{AskGives, AtProgram, AtSeat, CalmGives, Calms, Does, DoesOrHalts, Halts, NetEnds, OfferEnds, OfferGives, Passes, QuietEnds, Refuses, Repeats, StepGives, TakeEnds, TakeGives, TurnsOf, TypeGives, WorldState, changed, done_by, noticed, seat_of, served_at, services_of, stops, up_in, with_carrier, with_server, with_user, world_moved}
+pub use Rattle.net_sim.specs.Worked.{any_carrier, message}
+pub use Rattle.net_sim.specs.WorkedMixed.{beside_third}
+pub use Rattle.net_sim.specs.World.{CalmGives, Calms, Does, QuietEnds, Refuses, Repeats, StepGives, TurnsOf, WorldState, stops, up_in, with_carrier}
 pub use Rattle.net_sim.specs.declared.event.Event.{Event}
 pub use Rattle.net_sim.specs.declared.event.Event.TheVariants.{Ask, Net, Offer, Out, Quiet, Server, Take, Typed, User}
 pub use Rattle.net_sim.specs.declared.event.WorldFault.{WorldFault}
@@ -19,11 +19,9 @@ pub use Rattle.net_sim.specs.declared.event.WorldFault.TheVariants.{Carrier, Has
 pub use Rattle.net_sim.specs.declared.seat.Seat.{Seat}
 pub use Rattle.net_sim.specs.declared.seat.ServiceSeat.{ServiceSeat}
 pub use Rattle.promise.specs.declared.book.Told.{Told}
-pub use Rattle.replay.proofs.lemmas.{grown_more, in_turn_once}
+pub use Rattle.replay.proofs.lemmas.{ends_front, in_turn_once}
 pub use Rattle.replay.specs.InTurn.{Happening, HappensOnce, InTurn, ShowsFront, text_of}
 pub use Rattle.replay.specs.Output.{crossing_line}
-pub use Rattle.replay.specs.Replay.{GoesOn}
-pub use Rattle.replay.specs.Settled.{AreSettled}
 pub use Rattle.replay.specs.declared.print.Detail.{Detail}
 pub use Rattle.script.specs.Input.{ended_line}
 pub use Rattle.sockets.specs.Accepting.{accepted}
@@ -33,22 +31,19 @@ pub use Rattle.sockets.specs.Sending.{next_out, offered}
 pub use Rattle.sockets.specs.Worked.{first, second, third}
 pub use Rattle.sockets.specs.declared.fault.NcpFault.{NcpFault}
 pub use Rattle.sockets.specs.declared.request.Request.{Request}
-pub use Rattle.std.proofs.Common.{Bool, Err, List, None, Ok, Option, Result, Some, [], ap, ap₂, arith, drop, false, if◌then◌else◌, inl, inr, length, min, nat_lt, refl, reverse, rules, subst, suc, sym, take, true, zero, ℕ, ◌++◌, ◌+◌, ◌-◌, ◌<◌, ◌∙◌, ◌∷◌, ◌≡◌, ◌≤◌, ◌⊎◌}
+pub use Rattle.std.proofs.Common.{Bool, Err, List, None, Ok, Option, Result, Some, [], ap, ap₂, arith, drop, false, inl, inr, length, refl, reverse, rules, subst, suc, sym, take, true, zero, ℕ, ◌++◌, ◌+◌, ◌∙◌, ◌∷◌, ◌≡◌, ◌≤◌}
 pub use Rattle.std.proofs.KnownBytes.{Appends-nil, Appends-trans}
 pub use Rattle.std.proofs.lemmas.Bool.{false≢true}
-pub use Rattle.std.proofs.lemmas.List.{append-nil, length-append, length-reverse, reverse-append, reverse-reverse, take_all}
-pub use Rattle.std.proofs.lemmas.List.Elements.{All-cons, All-nil}
-pub use Rattle.std.proofs.lemmas.Result.{on_ok_weaker}
+pub use Rattle.std.proofs.lemmas.List.{append-nil, length-reverse, take_all}
 pub use Rattle.std.specs.Bool.{MatchBool}
 pub use Rattle.std.specs.Io.KnownBytes.{Appends}
 pub use Rattle.std.specs.List.{All}
-pub use Rattle.world_replay.specs.Driven.{Brings, Drive, Drives, Goes, IsCall, IsDriven, IsDrivenIn, IsShown, Raw, Round}
 pub use Rattle.world_replay.specs.Gains.{Gains, gained}
-pub use Rattle.world_replay.specs.Kinds.{HappensBy, StopsBy, mixed_kind}
-pub use Rattle.world_replay.specs.Output.{Noticed, Writes, notices_of, output, reports_of, shown_in_turn, shown_notices, shown_refusal, shown_text, told_in_turn}
-pub use Rattle.world_replay.specs.Replay.{HappensInCalm, IsOfCalm, Replays}
-pub use Rattle.world_replay.specs.Rounds.{Again, EndsAgain, EndsRepeated, Repeated, RoundOf, crosses, turns_in}
-pub use Rattle.world_replay.specs.Steps.{EventEnds, Fronts, IsReplayable}
-pub use Rattle.world_replay.specs.Worked.{after, booked, tally}
+pub use Rattle.world_replay.specs.Kinds.{HappensBy, mixed_kind}
+pub use Rattle.world_replay.specs.Output.{shown_notices}
+pub use Rattle.world_replay.specs.Replay.{IsOfCalm}
+pub use Rattle.world_replay.specs.Seen.{RoundPrints}
+pub use Rattle.world_replay.specs.Steps.{EventEnds, Fronts}
+pub use Rattle.world_replay.specs.Worked.{tally}
 pub use Rattle.world_script.specs.declared.event.WorldEvent.{WorldEvent}
-pub use Rattle.world_script.specs.declared.event.WorldEvent.TheVariants.{Calm}
+pub use Rattle.world_script.specs.declared.event.WorldEvent.TheVariants.{Calm, Happen}

@@ -1,15 +1,14 @@
 -- Worlds over a carrier that counts its calls.
-use Rattle.world_replay.proofs.Common.{◌≡◌, ℕ, ◌+◌, zero, suc, Bool, true, false, List, [], ◌∷◌, length, Result, Ok, Err, refl, ap, sym, subst, ◌∙◌, arith, MatchBool, Calms, QuietEnds, StepGives, TurnsOf, WorldState, stops, up_in, with_carrier, Kept, Quiet, Take, WorldFault, Carrier, first, Gains, HappensInCalm, Again, Repeated, crosses, after, WorldEvent, Calm, gained}
-use Rattle.world_replay.specs.Replay.{MayDo}
-use Rattle.world_script.specs.declared.event.WorldEvent.TheVariants.{Happen}
-use Rattle.std.proofs.Common.{add-zero}
+use Rattle.world_replay.proofs.Common.{MatchBool, Calms, QuietEnds, StepGives, TurnsOf, WorldState, stops, up_in, with_carrier, Kept, Quiet, Take, WorldFault, Carrier, first, Gains, gained, WorldEvent, Calm, Happen}
+use Rattle.std.proofs.Common.{◌≡◌, ℕ, ◌+◌, zero, suc, Bool, true, false, List, [], ◌∷◌, length, Result, Ok, Err, refl, ap, sym, subst, ◌∙◌, arith, add-zero}
+use Rattle.world_replay.specs.Replay.{HappensInCalm, MayDo, EventGives}
+use Rattle.world_replay.specs.Rounds.{Again, Repeated, crosses}
+use Rattle.world_replay.specs.Worked.{after, counting}
 use Rattle.interface.specs.declared.carrier.CarrierFault.{CarrierFault}
 use Rattle.interface.specs.declared.carrier.CarrierFault.TheVariants as fault
 use Rattle.world_replay.proofs.Replays.{gains_once, same_news}
 use Rattle.world_replay.specs.Output.{Shown}
 use Rattle.world_replay.specs.Kinds.{Begins}
-use Rattle.world_replay.specs.Replay.{EventGives}
-use Rattle.world_replay.specs.Worked.{counting}
 
 -- a quiet round is one call, and succeeds
 record Counts (n : ℕ) (r : Result (Unit {0}) WorldFault) (new : WorldState ℕ) : Type 0 where

@@ -1,27 +1,28 @@
 -- Each event of a world drives its carrier by the call that it makes.
-use Rattle.world_replay.proofs.Common.{◌≡◌, ◌⊎◌, inr, ℕ, Bool, true, false, List, [], ◌∷◌, ◌++◌, length, Option, Some, None, Result, Ok, Err, reverse, refl, ap, sym, subst, ◌∙◌, false≢true, append-nil, reverse-reverse, All-cons, All-nil, MatchBool, All, Notice, ServiceDeskState, opening_desk, line_bits, Calls, Seen, crossing_of, is_memory, step_crossings, Host, Crossing, Kept, all_asked, all_crossed, all_told, asked, book_told, crossed, shown, AskGives, AtProgram, AtSeat, DoesOrHalts, NetEnds, OfferEnds, OfferGives, Passes, QuietEnds, Refuses, StepGives, TakeEnds, TakeGives, TypeGives, WorldState, changed, done_by, noticed, seat_of, served_at, services_of, stops, with_carrier, with_server, with_user, world_moved, Event, Ask, Net, Offer, Out, Quiet, Server, Take, Typed, User, WorldFault, Carrier, Seat, Happening, InTurn, GoesOn, grown_more, accepted, NcpState, refusal, served, served_notices, next_out, offered, NcpFault, Request, Brings, Drive, Drives, Goes, IsCall, IsDriven, IsDrivenIn, IsShown, Raw, Round, HappensInCalm, Replays, WorldEvent, if◌then◌else◌}
-use Rattle.std.proofs.Common.{inl}
-use Rattle.std.proofs.lemmas.List.{append_assoc}
-use Rattle.std.proofs.lemmas.List.Elements.{All-append}
+use Rattle.world_replay.proofs.Common.{false≢true, MatchBool, All, Notice, ServiceDeskState, opening_desk, line_bits, Host, Crossing, Kept, all_asked, all_crossed, all_told, asked, book_told, crossed, shown, Event, Ask, Net, Offer, Out, Quiet, Server, Take, Typed, User, WorldFault, Carrier, Seat, Happening, InTurn, accepted, NcpState, refusal, served, served_notices, next_out, offered, NcpFault, Request, WorldEvent}
+use Rattle.std.proofs.Common.{◌≡◌, ◌⊎◌, inr, ℕ, Bool, true, false, List, [], ◌∷◌, ◌++◌, length, Option, Some, None, Result, Ok, Err, reverse, refl, ap, sym, subst, ◌∙◌, if◌then◌else◌, inl}
+use Rattle.std.proofs.lemmas.List.{append-nil, reverse-reverse, append_assoc}
+use Rattle.std.proofs.lemmas.List.Elements.{All-cons, All-nil, All-append}
+use Rattle.interface.specs.Calls.{Calls, Seen, crossing_of, is_memory, step_crossings, ShowsCrossings, ShowsOffer, ShowsRefusal, ShowsStep, ShowsTake, halted}
+use Rattle.net_sim.specs.World.{AskGives, AtProgram, AtSeat, DoesOrHalts, NetEnds, OfferEnds, OfferGives, Passes, QuietEnds, Refuses, StepGives, TakeEnds, TakeGives, TypeGives, WorldState, changed, done_by, noticed, seat_of, served_at, services_of, stops, with_carrier, with_server, with_user, world_moved, EventGives, turn_of}
+use Rattle.replay.specs.Replay.{GoesOn, Happens, IsOneCall}
+use Rattle.replay.proofs.lemmas.{grown_more, crossings_shown}
+use Rattle.world_replay.specs.Driven.{Brings, Drive, Drives, Goes, IsCall, IsDriven, IsDrivenIn, IsShown, Raw, Round, call_of, program_of}
+use Rattle.world_replay.specs.Replay.{HappensInCalm, Replays}
 use Rattle.std.specs.Option.{option_and_then, option_map, option_to_list}
 use Rattle.host_services.specs.Turns as services
-use Rattle.interface.specs.Calls.{ShowsCrossings, ShowsOffer, ShowsRefusal, ShowsStep, ShowsTake, halted}
 use Rattle.interface.specs.declared.CarrierFault.{CarrierFault}
 use Rattle.interface.specs.declared.CarrierFault.TheVariants as fault
 use Rattle.interface.specs.declared.HostMessage.{HostMessage}
 use Rattle.interface.specs.declared.Inbound.{Inbound}
 use Rattle.interface.specs.declared.NetEvent.{NetEvent}
 use Rattle.interface.specs.declared.crossing.Crossing.TheVariants as crossing
-use Rattle.net_sim.specs.World.{EventGives, turn_of}
 use Rattle.replay.specs.Output.{Crossed, Refused, crossings_of, shown_crossings, shown_refusal}
 use Rattle.replay.specs.Output as raw_output
-use Rattle.replay.specs.Replay.{Happens, IsOneCall}
 use Rattle.replay.specs.Replay as raw_replay
-use Rattle.replay.proofs.lemmas.{crossings_shown}
 use Rattle.script.specs.declared.event.RawEvent.{RawEvent}
 use Rattle.script.specs.declared.event.RawEvent.TheVariants as raw
 use Rattle.sockets.specs.declared.request.Request.TheVariants as request
-use Rattle.world_replay.specs.Driven.{call_of, program_of}
 use Rattle.world_replay.specs.Output.{Shown}
 use Rattle.world_replay.specs.Replay as world_replay
 use Rattle.world_replay.proofs.CalmEvents.{calm_events}

@@ -1,8 +1,10 @@
 -- What crosses by calls of small carriers.
-use Rattle.world_replay.proofs.Common.{◌≡◌, inl, inr, ℕ, suc, List, [], ◌∷◌, ◌++◌, length, None, Ok, reverse, refl, ap, subst, ◌∙◌, arith, All-cons, All-nil, All, Seen, crossing_of, Host, fresh, message, WorldState, Event, InTurn, first, second, Brings, Drive, Drives, Goes, IsCall, IsDriven, IsDrivenIn, IsShown, Raw, Round, IsOfCalm, after, booked, Calm, any_carrier}
-use Rattle.world_script.specs.declared.event.WorldEvent.TheVariants.{Happen}
-use Rattle.std.proofs.lemmas.List.Elements.{All-head, All-tail}
-use Rattle.interface.specs.Calls.{IsFor}
+use Rattle.world_replay.proofs.Common.{◌≡◌, inl, inr, ℕ, suc, List, [], ◌∷◌, ◌++◌, length, None, Ok, reverse, refl, ap, subst, ◌∙◌, arith, All, Host, WorldState, Event, InTurn, first, second, IsOfCalm, Calm, Happen}
+use Rattle.std.proofs.lemmas.List.Elements.{All-cons, All-nil, All-head, All-tail}
+use Rattle.interface.specs.Calls.{Seen, crossing_of, IsFor}
+use Rattle.net_sim.specs.Worked.{fresh, message, any_carrier}
+use Rattle.world_replay.specs.Driven.{Brings, Drive, Drives, Goes, IsCall, IsDriven, IsDrivenIn, IsShown, Raw, Round}
+use Rattle.world_replay.specs.Worked.{after, booked, came, went}
 use Rattle.interface.specs.declared.HostMessage.{HostMessage}
 use Rattle.interface.specs.declared.Inbound.{Inbound}
 use Rattle.interface.specs.declared.crossing.Inbound.TheVariants as inbound
@@ -11,7 +13,6 @@ use Rattle.net_sim.specs.declared.event.Event.TheVariants as event
 use Rattle.replay.specs.Output.{Crossed, Shown, crossings_of, shown_crossings, shown_refusal}
 use Rattle.replay.specs.Worked.{counting}
 use Rattle.script.specs.declared.event.RawEvent.TheVariants as raw
-use Rattle.world_replay.specs.Worked.{came, went}
 
 -- ---- messages
 

@@ -1,10 +1,9 @@
 -- What is shown has all that a book gained, in any kind of world.
-use Rattle.world_replay.proofs.Common.{◌≡◌, ℕ, List, [], ◌∷◌, ◌++◌, length, reverse, Result, Ok, Err, refl, ap, sym}
-use Rattle.world_replay.proofs.Common.{subst, ◌∙◌, append-nil, Kept, grown_more, WorldFault, Gains, gained}
-use Rattle.world_replay.proofs.Common.{HappensBy, StopsBy, WorldEvent, notices_of, reports_of, shown_refusal}
-use Rattle.std.proofs.lemmas.List.{append_assoc}
-use Rattle.world_replay.specs.Kinds.{Kind, ReplaysBy, RunsOutBy}
-use Rattle.world_replay.specs.Output.{Shown, crossings_of}
+use Rattle.world_replay.proofs.Common.{◌≡◌, ℕ, List, [], ◌∷◌, ◌++◌, length, reverse, Result, Ok, Err, refl, ap, sym, subst, ◌∙◌, Kept, WorldFault, Gains, gained, WorldEvent}
+use Rattle.std.proofs.lemmas.List.{append-nil, append_assoc}
+use Rattle.replay.proofs.lemmas.{grown_more}
+use Rattle.world_replay.specs.Kinds.{HappensBy, StopsBy, Kind, ReplaysBy, RunsOutBy}
+use Rattle.world_replay.specs.Output.{notices_of, reports_of, shown_refusal, Shown, crossings_of}
 use Rattle.world_replay.proofs.News.{crossings_in_turn, crossings_of-append, notices_in_turn, notices_of-append}
 use Rattle.world_replay.proofs.News.{reports_in_turn, reports_of-append}
 

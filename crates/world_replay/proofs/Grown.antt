@@ -1,7 +1,10 @@
 -- What a book gains, event by event.
-use Rattle.world_replay.proofs.Common.{◌≡◌, inr, ℕ, suc, ◌+◌, ◌≤◌, Bool, true, false, List, [], ◌∷◌, ◌++◌, length, Option, Some, None, Result, Ok, Err, reverse, refl, ap, sym, subst, ◌∙◌, arith, append-nil, length-append, reverse-append, false≢true, MatchBool, Calls, crossing_of, step_crossings, Host, Crossing, ServiceDeskState, ServicesState, opening_desk, NcpState, refusal, served, served_notices, next_out, offered, accepted, NcpFault, Notice, Request, Kept, crossed, all_crossed, book_told, all_told, asked, all_asked, WorldFault, Carrier, Event, Net, Quiet, Offer, Out, Take, Ask, Server, User, Typed, Seat, WorldState, seat_of, services_of, noticed, done_by, with_carrier, world_moved, changed, served_at, with_server, with_user, TypeGives, DoesOrHalts, Refuses, Does, Halts, Passes, OfferEnds, OfferGives, TakeEnds, TakeGives, NetEnds, QuietEnds, AskGives, AtProgram, AtSeat, StepGives, stops, line_bits, Gains}
-use Rattle.std.proofs.Common.{inl}
-use Rattle.std.proofs.lemmas.List.{append_assoc}
+use Rattle.world_replay.proofs.Common.{false≢true, MatchBool, Host, Crossing, ServiceDeskState, ServicesState, opening_desk, NcpState, refusal, served, served_notices, next_out, offered, accepted, NcpFault, Notice, Request, Kept, crossed, all_crossed, book_told, all_told, asked, all_asked, WorldFault, Event, Net, Quiet, Offer, Out, Take, Ask, Server, User, Typed, Seat, line_bits, Gains}
+use Rattle.std.proofs.Common.{◌≡◌, inr, ℕ, suc, ◌+◌, ◌≤◌, Bool, true, false, List, [], ◌∷◌, ◌++◌, length, Option, Some, None, Result, Ok, Err, reverse, refl, ap, sym, subst, ◌∙◌, arith, inl}
+use Rattle.std.proofs.lemmas.List.{append-nil, length-append, reverse-append, append_assoc}
+use Rattle.interface.specs.Calls.{Calls, crossing_of, step_crossings}
+use Rattle.net_sim.specs.declared.event.WorldFault.TheVariants.{Carrier, Program}
+use Rattle.net_sim.specs.World.{WorldState, seat_of, services_of, noticed, done_by, with_carrier, world_moved, changed, served_at, with_server, with_user, TypeGives, DoesOrHalts, Refuses, Does, Halts, Passes, OfferEnds, OfferGives, TakeEnds, TakeGives, NetEnds, QuietEnds, AskGives, AtProgram, AtSeat, StepGives, stops, turn_of, EventGives}
 use Rattle.interface.specs.declared.carrier.CarrierFault.{CarrierFault}
 use Rattle.interface.specs.declared.carrier.CarrierFault.TheVariants as fault
 use Rattle.interface.specs.declared.crossing.Crossing.TheVariants as crossing
@@ -10,8 +13,6 @@ use Rattle.interface.specs.declared.event.NetEvent.{NetEvent}
 use Rattle.interface.specs.declared.message.HostMessage.{HostMessage}
 use Rattle.host_services.specs.Turns as services
 use Rattle.sockets.specs.declared.fault.NcpFault.TheVariants as problem
-use Rattle.net_sim.specs.World.{turn_of, EventGives}
-use Rattle.net_sim.specs.declared.event.WorldFault.TheVariants.{Program}
 use Rattle.sockets.specs.declared.request.Request.TheVariants as request
 use Rattle.net_sim.proofs.lemmas.{step_stands}
 use Rattle.world_replay.proofs.News.{AreAbout, AreBetween, between_append, between_wider}

@@ -1,11 +1,12 @@
 -- What a book gains where strangers speak and take.
-use Rattle.world_replay.proofs.Common.{inl, inr, [], ◌∷◌, Option, None, Some, Result, Ok, Err, ap, Calls, crossing_of, WorldState, changed, with_carrier, Event, Take, WorldFault, Gains, FetchEnds, OutEnds, Refuses, Out, NoProgram, Carrier, WorldEvent}
+use Rattle.world_replay.proofs.Common.{inl, inr, [], ◌∷◌, Option, None, Some, Result, Ok, Err, ap, Calls, crossing_of, Event, Take, Out, WorldFault, Gains, NoProgram, Carrier, WorldEvent}
+use Rattle.net_sim.specs.World.{WorldState, changed, with_carrier, Refuses}
+use Rattle.net_sim.specs.MixedWorlds.{FetchEnds, OutEnds, AmongGives, AskedGives, asked_at, is_strange, strange_in}
 use Rattle.interface.specs.declared.carrier.CarrierFault.{CarrierFault}
 use Rattle.interface.specs.declared.carrier.CarrierFault.TheVariants as fault
 use Rattle.interface.specs.declared.crossing.Crossing.TheVariants as crossing
 use Rattle.interface.specs.declared.crossing.Inbound.{Inbound}
 use Rattle.interface.specs.declared.message.HostMessage.{HostMessage}
-use Rattle.net_sim.specs.MixedWorlds.{AmongGives, AskedGives, asked_at, is_strange, strange_in}
 use Rattle.world_replay.proofs.Grown.{Grew, does_grow, gains_same, grew_all_crossed, grew_none, halts_grow, passes_grow, step_gains}
 use Rattle.world_replay.proofs.Replays.{calm_grows}
 use Rattle.world_replay.proofs.Steady.{on_either}

@@ -1,21 +1,15 @@
 -- Strangers leave a replay no choice either.
-use Rattle.world_replay.proofs.Common.{◌≡◌, inl, inr, Bool, true, false, List, ◌++◌, Option, Some, None, Result, Ok, Err}
-use Rattle.world_replay.proofs.Common.{ap, sym, ◌∙◌, refl, MatchBool, Calls, Host, Kept, WorldState, stops}
-use Rattle.world_replay.proofs.Common.{StepGives, CalmGives, Event, Take, WorldFault, Carrier, AreSettled, shown}
-use Rattle.world_replay.proofs.Common.{FetchEnds, OutEnds, Refuses, Out, NoProgram, WorldEvent}
-use Rattle.world_replay.proofs.Common.{HappensBy, StopsBy, mixed_kind, shown_refusal, Gains, gained, HappensOnce}
-use Rattle.world_replay.proofs.Common.{ShowsFront, in_turn_once}
+use Rattle.world_replay.proofs.Common.{◌≡◌, inl, inr, Bool, true, false, List, ◌++◌, Option, Some, None, Result, Ok, Err, ap, sym, ◌∙◌, refl, MatchBool, Calls, Host, Kept, WorldState, stops, StepGives, CalmGives, Refuses, Event, Take, Out, WorldFault, Carrier, NoProgram, shown, WorldEvent, Gains, gained, HappensOnce, ShowsFront, in_turn_once, ends_front}
+use Rattle.replay.specs.Settled.{AreSettled}
+use Rattle.net_sim.specs.MixedWorlds.{FetchEnds, OutEnds, AmongGives, AskedGives, FetchGives, MixedStepGives, OutGives, asked_at, is_strange, strange_in}
+use Rattle.world_replay.specs.Kinds.{HappensBy, StopsBy, mixed_kind, EventGivesAmong, ReplaysBy, RunsOutBy}
+use Rattle.world_replay.specs.Output.{shown_refusal, Shown}
 use Rattle.interface.specs.declared.carrier.CarrierFault.{CarrierFault}
 use Rattle.interface.specs.declared.carrier.CarrierFault.TheVariants as fault
 use Rattle.interface.specs.declared.crossing.Inbound.{Inbound}
 use Rattle.interface.specs.declared.message.HostMessage.{HostMessage}
-use Rattle.net_sim.specs.MixedWorlds.{AmongGives, AskedGives, FetchGives, MixedStepGives, OutGives}
-use Rattle.net_sim.specs.MixedWorlds.{asked_at, is_strange, strange_in}
-use Rattle.replay.proofs.lemmas.{ends_front}
 use Rattle.std.proofs.lemmas.List.{append_assoc}
 use Rattle.world_script.specs.declared.event.WorldEvent.TheVariants as script
-use Rattle.world_replay.specs.Kinds.{EventGivesAmong, ReplaysBy, RunsOutBy}
-use Rattle.world_replay.specs.Output.{Shown}
 use Rattle.world_replay.proofs.Grown.{Grew, gains_none, grew_more, step_kept}
 use Rattle.world_replay.proofs.Replays.{SameGains, gained_more, gains_once, same_news, shown_settled}
 use Rattle.world_replay.proofs.Steady.{Steady, fetch_once, no_stop, out_once, steady_calm, step_once}

@@ -1,10 +1,10 @@
 -- The lines of a book's news.
-use Rattle.world_replay.proofs.Common.{arith, ◌≡◌, ℕ, ◌+◌, ◌-◌, ◌<◌, ◌≤◌, zero, suc, List, [], ◌∷◌, ◌++◌, take, drop, length, min, Option, refl, ap, sym, subst, ◌∙◌, append-nil, Appends, Appends-nil, Appends-trans, Reported, Crossing, text_of, crossing_line, Detail, ended_line, notices_of, reports_of, shown_text, output, shown_in_turn, shown_notices, told_in_turn, Fronts, Told, Noticed}
-use Rattle.std.proofs.Common.{get_or, max}
-use Rattle.std.proofs.lemmas.List.{append_assoc, drop_all, drop_more, drop_min, drop-append-le, length-drop, take_min, take_more, take-append-drop, take-append-le}
+use Rattle.world_replay.proofs.Common.{Appends, Appends-nil, Appends-trans, Reported, Crossing, text_of, crossing_line, Detail, ended_line, Fronts, Told}
+use Rattle.std.proofs.Common.{arith, ◌≡◌, ℕ, ◌+◌, ◌-◌, ◌<◌, ◌≤◌, zero, suc, List, [], ◌∷◌, ◌++◌, take, drop, length, min, Option, refl, ap, sym, subst, ◌∙◌, get_or, max}
+use Rattle.std.proofs.lemmas.List.{append-nil, append_assoc, drop_all, drop_more, drop_min, drop-append-le, length-drop, take_min, take_more, take-append-drop, take-append-le}
+use Rattle.world_replay.specs.Output.{notices_of, reports_of, shown_text, output, shown_in_turn, shown_notices, told_in_turn, Noticed, Shown, Crossed, Said, Refused, crossings_of, place_of, shown_crossings}
 use Rattle.std.proofs.Math.Seq.{drop-append-add, take-append-add}
 use Rattle.replay.proofs.lemmas.{text_of-append}
-use Rattle.world_replay.specs.Output.{Shown, Crossed, Said, Refused, crossings_of, place_of, shown_crossings}
 use Rattle.world_replay.specs.Printed.{reported_text, told_text}
 
 pub output-append : (detail : Detail) (xs ys : List Shown) → output detail (xs ++ ys) ≡ output detail xs ++ output detail ys

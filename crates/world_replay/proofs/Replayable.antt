@@ -1,8 +1,8 @@
 -- What a replay needs of worlds, of those with strangers as well.
-use Rattle.world_replay.proofs.Common.{◌≡◌, ℕ, ◌+◌, zero, suc, Bool, true, false, List, ◌++◌, Result, Ok, refl, ap₂, subst, ◌∙◌, arith, Calls, CalmGives, Calms, WorldState, stops, WorldFault, Gains, gained, mixed_kind, IsReplayable}
+use Rattle.world_replay.proofs.Common.{◌≡◌, ℕ, ◌+◌, zero, suc, Bool, true, false, List, ◌++◌, Result, Ok, refl, ap₂, subst, ◌∙◌, arith, Calls, CalmGives, Calms, WorldState, stops, WorldFault, Gains, gained, mixed_kind}
+use Rattle.world_replay.specs.Steps.{IsReplayable}
 use Rattle.world_replay.specs.Replay.{world_kind}
 use Rattle.world_replay.specs.Output.{Shown}
-use Rattle.world_replay.specs.Replay.{world_kind}
 use Rattle.world_replay.proofs.CalmRounds.{in_rounds, parted}
 use Rattle.world_replay.proofs.Grown.{Grew, grew_more}
 use Rattle.world_replay.proofs.Mixed.{mixed_event_gains}

@@ -1,13 +1,11 @@
 -- One event of a world's script, and what it shows.
-use Rattle.world_replay.proofs.Common.{◌≡◌, ℕ, ◌+◌, true, false, List, ◌++◌, drop, length, reverse, Option, Result, refl, ap, sym, subst, ◌∙◌, arith, length-append, length-reverse, reverse-append, reverse-reverse, Appends, Kept, shown, CalmGives, StepGives, WorldState, stops, Event, Calls, WorldFault, HappensOnce, ShowsFront, in_turn_once, AreSettled, WorldEvent, Gains, Writes, output, shown_in_turn, told_in_turn, HappensInCalm, Replays, Detail, gained, calm_keeps}
-use Rattle.world_replay.specs.Replay.{StopsIn}
-use Rattle.std.proofs.lemmas.List.{append_assoc, append_cancel_left, append_cancel_right, drop_at}
-use Rattle.replay.proofs.lemmas.{ends_front}
-use Rattle.replay.specs.Settled.{Grows}
+use Rattle.world_replay.proofs.Common.{◌≡◌, ℕ, ◌+◌, true, false, List, ◌++◌, drop, length, reverse, Option, Result, refl, ap, sym, subst, ◌∙◌, arith, Appends, Kept, shown, CalmGives, StepGives, WorldState, stops, Event, Calls, WorldFault, HappensOnce, ShowsFront, in_turn_once, ends_front, WorldEvent, Detail, calm_keeps}
+use Rattle.std.proofs.lemmas.List.{length-append, length-reverse, reverse-append, reverse-reverse, append_assoc, append_cancel_left, append_cancel_right, drop_at}
+use Rattle.replay.specs.Settled.{AreSettled, Grows}
+use Rattle.world_replay.specs.Gains.{Gains, gained, news}
+use Rattle.world_replay.specs.Output.{Writes, output, shown_in_turn, told_in_turn, Shown, shown_refusal}
+use Rattle.world_replay.specs.Replay.{HappensInCalm, Replays, StopsIn, EndsIn, EventGives, Happens}
 use Rattle.world_script.specs.declared.event.WorldEvent.TheVariants as event
-use Rattle.world_replay.specs.Gains.{news}
-use Rattle.world_replay.specs.Output.{Shown, shown_refusal}
-use Rattle.world_replay.specs.Replay.{EndsIn, EventGives, Happens}
 use Rattle.world_replay.proofs.Grown.{Grew, begins, gains_none, grew_more, grew_none, step_gains, step_grows, step_kept}
 use Rattle.world_replay.proofs.News.{news_later, told_begin, told_later, told_want}
 use Rattle.world_replay.proofs.Steady.{Steady, steady_calm, step_once}

@@ -1,7 +1,8 @@
 -- Which notices the reports of services are about.
-use Rattle.world_replay.proofs.Common.{◌≡◌, ℕ, ◌+◌, ◌<◌, ◌≤◌, List, [], ◌∷◌, ◌++◌, length, Option, Some, None, refl, ap, sym, subst, ◌∙◌, arith, append-nil, ServiceDeskState, ServicesState, Reported, Notice, refusal, NcpFault, Request}
-use Rattle.std.proofs.lemmas.List.{append_assoc}
-use Rattle.host_services.specs.Services.{noticing, reporting, serving, typing_on}
+use Rattle.world_replay.proofs.Common.{Reported, Notice, refusal, NcpFault, Request}
+use Rattle.std.proofs.Common.{◌≡◌, ℕ, ◌+◌, ◌<◌, ◌≤◌, List, [], ◌∷◌, ◌++◌, length, Option, Some, None, refl, ap, sym, subst, ◌∙◌, arith}
+use Rattle.std.proofs.lemmas.List.{append-nil, append_assoc}
+use Rattle.host_services.specs.Services.{ServiceDeskState, ServicesState, noticing, reporting, serving, typing_on}
 use Rattle.host_services.specs.Turns.{all_heard, asked_by, asks, became, notice_heard, heard_by, line_told, lines_told, server_asked, server_asks, server_ends, services_told, tried, tried_by, tries, user_asked, user_asks, user_ends}
 use Rattle.host_services.specs.declared.report.Report.{Report}
 use Rattle.host_services.specs.declared.report.Report.TheVariants as report

@@ -1,18 +1,18 @@
 -- A settled carrier leaves a world no choice.
-use Rattle.world_replay.proofs.Common.{FetchEnds, OutEnds, ◌≡◌, inl, inr, ℕ, zero, suc, Bool, true, false, List, [], ◌∷◌, length, nat_lt, Option, Some, None, Result, Ok, Err, refl, sym, ap, subst, ◌∙◌, false≢true, MatchBool, Calls, crossing_of, step_crossings, is_memory, Host, Kept, WorldState, seat_of, services_of, up_in, with_carrier, world_moved, changed, with_server, with_user, TypeGives, DoesOrHalts, stops, Refuses, Does, Halts, Passes, OfferEnds, OfferGives, TakeEnds, TakeGives, NetEnds, QuietEnds, AskGives, AtProgram, AtSeat, StepGives, Repeats, TurnsOf, Calms, CalmGives, Event, Net, Quiet, Offer, Out, Take, Ask, Server, User, Typed, WorldFault, Carrier, Seat, GoesOn, AreSettled, accepted, NcpState, refusal, next_out, offered, NcpFault, Request, line_bits}
-use Rattle.replay.specs.Replay.{outcome_of}
-use Rattle.std.proofs.Common.{◌||◌}
-use Rattle.interface.specs.Calls.{is_halt}
+use Rattle.world_replay.proofs.Common.{false≢true, MatchBool, Host, Kept, Event, Net, Quiet, Offer, Out, Take, Ask, Server, User, Typed, WorldFault, Carrier, Seat, accepted, NcpState, refusal, next_out, offered, NcpFault, Request, line_bits}
+use Rattle.net_sim.specs.MixedWorlds.{FetchEnds, OutEnds, FetchGives, OutGives}
+use Rattle.std.proofs.Common.{◌≡◌, inl, inr, ℕ, zero, suc, Bool, true, false, List, [], ◌∷◌, length, nat_lt, Option, Some, None, Result, Ok, Err, refl, sym, ap, subst, ◌∙◌, ◌||◌}
+use Rattle.interface.specs.Calls.{Calls, crossing_of, step_crossings, is_memory, is_halt}
+use Rattle.net_sim.specs.World.{WorldState, seat_of, services_of, up_in, with_carrier, world_moved, changed, with_server, with_user, TypeGives, DoesOrHalts, stops, Refuses, Does, Halts, Passes, OfferEnds, OfferGives, TakeEnds, TakeGives, NetEnds, QuietEnds, AskGives, AtProgram, AtSeat, StepGives, Repeats, TurnsOf, Calms, CalmGives, EventGives}
+use Rattle.replay.specs.Replay.{GoesOn, outcome_of}
+use Rattle.replay.specs.Settled.{AreSettled, SameEnd}
 use Rattle.interface.specs.declared.carrier.CarrierFault.{CarrierFault}
 use Rattle.interface.specs.declared.carrier.CarrierFault.TheVariants as fault
 use Rattle.interface.specs.declared.crossing.Crossing.TheVariants as crossing
 use Rattle.interface.specs.declared.crossing.Inbound.{Inbound}
 use Rattle.interface.specs.declared.event.NetEvent.{NetEvent}
 use Rattle.interface.specs.declared.message.HostMessage.{HostMessage}
-use Rattle.net_sim.specs.MixedWorlds.{FetchGives, OutGives}
 use Rattle.net_sim.proofs.lemmas.{memory_stops}
-use Rattle.net_sim.specs.World.{EventGives}
-use Rattle.replay.specs.Settled.{SameEnd}
 use Rattle.sockets.specs.declared.request.Request.TheVariants as request
 use Rattle.world_replay.proofs.Grown.{Grew, begins, grew_more, grew_same, step_grows, step_kept}
 

@@ -1,11 +1,16 @@
 -- What is shown of a stranger in a small world.
-use Rattle.world_replay.proofs.Common.{◌≡◌, inl, inr, ℕ, Bool, true, false, List, [], ◌∷◌, ◌++◌, Option, None, Some, Result, Ok, Err, refl, ap, sym, subst, ◌∙◌, append-nil, Calls, Seen, crossing_of, Host, Crossing, StepGives, WorldState, AtProgram, AtSeat, OfferGives, QuietEnds, TakeEnds, TakeGives, changed, stops, seat_of, world_moved, Event, Ask, Net, Offer, Quiet, Server, Take, Typed, User, WorldFault, Kept, crossed, Gains, NcpState, first, second, message, Seat, IsOfCalm, if◌then◌else◌, same_host, calm_keeps, FetchEnds, OutEnds, Refuses, Out, any_carrier, Told, opening_state, third, gained, HappensBy, mixed_kind, Noticed, shown_refusal, WorldEvent}
+use Rattle.world_replay.proofs.Common.{append-nil, Host, same_host, Crossing, Event, Ask, Net, Offer, Quiet, Server, Take, Typed, User, Out, WorldFault, Kept, crossed, Gains, gained, NcpState, opening_state, first, second, third, Seat, IsOfCalm, calm_keeps, Told, HappensBy, mixed_kind, WorldEvent}
+use Rattle.std.proofs.Common.{◌≡◌, inl, inr, ℕ, Bool, true, false, List, [], ◌∷◌, ◌++◌, Option, None, Some, Result, Ok, Err, refl, ap, sym, subst, ◌∙◌, if◌then◌else◌}
+use Rattle.interface.specs.Calls.{Calls, Seen, crossing_of, grown}
+use Rattle.net_sim.specs.World.{StepGives, WorldState, AtProgram, AtSeat, OfferGives, QuietEnds, TakeEnds, TakeGives, changed, stops, seat_of, world_moved, Refuses, EventGives, opening_seats}
+use Rattle.net_sim.specs.Worked.{message, any_carrier, accepting_carrier}
+use Rattle.net_sim.specs.MixedWorlds.{FetchEnds, OutEnds}
+use Rattle.world_replay.specs.Output.{Noticed, shown_refusal, Crossed, Refused, Shown}
 use Rattle.bit_messages.specs.Octets.{octets_of}
 use Rattle.host_pairs.specs.Control.{orders_of}
 use Rattle.host_pairs.specs.declared.notice.Notice.TheVariants as notice
 use Rattle.host_services.specs.Turns as services
 use Rattle.interface.proofs.lemmas.{same_host-true}
-use Rattle.interface.specs.Calls.{grown}
 use Rattle.interface.specs.declared.carrier.CarrierFault.{CarrierFault}
 use Rattle.interface.specs.declared.crossing.Answer.TheVariants as answer
 use Rattle.interface.specs.declared.crossing.Crossing.TheVariants as crossing
@@ -14,9 +19,7 @@ use Rattle.interface.specs.declared.crossing.Inbound.TheVariants as inbound
 use Rattle.interface.specs.declared.message.HostMessage.{HostMessage}
 use Rattle.ncp_control.specs.Packing.{packed_count}
 use Rattle.ncp_control.specs.Reading.{command_of, read_of}
-use Rattle.net_sim.specs.Worked.{accepting_carrier}
 use Rattle.net_sim.specs.WorkedMixed.{beside_third, three_seen, waiting_carrier}
-use Rattle.net_sim.specs.World.{EventGives, opening_seats}
 use Rattle.sockets.specs.Accepting.{accepted}
 use Rattle.sockets.specs.Sending.{next_out}
 use Rattle.world_replay.proofs.Grown.{at_seat, gains_none, if_stopped}
@@ -24,7 +27,6 @@ use Rattle.world_replay.proofs.Replayable.{mixed_replayable}
 use Rattle.world_replay.proofs.Replays.{gains_once, same_news}
 use Rattle.world_replay.proofs.Rounds.{is_false}
 use Rattle.world_replay.proofs.Steady.{halts_stop}
-use Rattle.world_replay.specs.Output.{Crossed, Refused, Shown}
 use Rattle.world_replay.specs.WorkedMixed.{MayShow, hail, hailed}
 use Rattle.world_script.specs.declared.event.WorldEvent.TheVariants as script
 

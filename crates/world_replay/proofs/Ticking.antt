@@ -1,10 +1,10 @@
 -- Events by which something crosses until two messages have.
-use Rattle.world_replay.proofs.Common.{◌≡◌, ◌⊎◌, ℕ, zero, suc, ◌<◌, List, [], ◌∷◌, ◌++◌, length, refl, ap, sym, subst, ◌∙◌, arith, false≢true, WorldState, Event, Offer, Quiet, Take, Happening, HappensOnce, InTurn, in_turn_once, first, Again, EndsAgain, EndsRepeated, Repeated, RoundOf, crosses, turns_in, tally}
-use Rattle.std.proofs.Common.{inl, inr}
+use Rattle.world_replay.proofs.Common.{false≢true, WorldState, Event, Offer, Quiet, Take, in_turn_once, first}
+use Rattle.std.proofs.Common.{◌≡◌, ◌⊎◌, ℕ, zero, suc, ◌<◌, List, [], ◌∷◌, ◌++◌, length, refl, ap, sym, subst, ◌∙◌, arith, inl, inr}
+use Rattle.replay.specs.InTurn.{Happening, HappensOnce, InTurn, EndsInTurn}
+use Rattle.world_replay.specs.Rounds.{Again, EndsAgain, EndsRepeated, Repeated, RoundOf, crosses, turns_in, EndsRound}
+use Rattle.world_replay.specs.Worked.{tally, Fails, Ticks}
 use Rattle.std.proofs.lemmas.List.{append_assoc}
-use Rattle.replay.specs.InTurn.{EndsInTurn}
-use Rattle.world_replay.specs.Rounds.{EndsRound}
-use Rattle.world_replay.specs.Worked.{Fails, Ticks}
 use Rattle.world_replay.proofs.Turns.{again_once, repeated_once}
 
 ticks_once : HappensOnce Ticks

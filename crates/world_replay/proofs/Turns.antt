@@ -1,12 +1,12 @@
 -- A round of a calm is its events in their order.
-use Rattle.world_replay.proofs.Common.{◌≡◌, inl, inr, ℕ, zero, suc, Bool, true, false, List, [], ◌∷◌, ◌++◌, Result, Ok, Err, refl, ap, ap₂, sym, subst, ◌∙◌, false≢true, append-nil, MatchBool, Calls, Host, Calms, Does, QuietEnds, Refuses, Repeats, StepGives, TurnsOf, WorldState, stops, up_in, Event, Offer, Quiet, Take, WorldFault, Carrier, Seat, Happening, HappensOnce, InTurn, ShowsFront, HappensInCalm, Again, EndsAgain, EndsRepeated, Repeated, RoundOf, crosses, gained}
-use Rattle.std.proofs.lemmas.List.{append_assoc}
+use Rattle.world_replay.proofs.Common.{◌≡◌, inl, inr, ℕ, zero, suc, Bool, true, false, List, [], ◌∷◌, ◌++◌, Result, Ok, Err, refl, ap, ap₂, sym, subst, ◌∙◌, false≢true, MatchBool, Calls, Host, Calms, Does, QuietEnds, Refuses, Repeats, StepGives, TurnsOf, WorldState, stops, up_in, Event, Offer, Quiet, Take, WorldFault, Carrier, Seat, Happening, HappensOnce, InTurn, ShowsFront, gained}
+use Rattle.std.proofs.lemmas.List.{append-nil, append_assoc}
+use Rattle.world_replay.specs.Replay.{HappensInCalm, Happens}
+use Rattle.world_replay.specs.Rounds.{Again, EndsAgain, EndsRepeated, Repeated, RoundOf, crosses, turn_of}
 use Rattle.std.specs.List.{flat_map}
 use Rattle.interface.specs.declared.carrier.CarrierFault.{CarrierFault}
 use Rattle.interface.specs.declared.carrier.CarrierFault.TheVariants as fault
 use Rattle.world_replay.specs.Output.{Shown}
-use Rattle.world_replay.specs.Replay.{Happens}
-use Rattle.world_replay.specs.Rounds.{turn_of}
 use Rattle.world_replay.proofs.CalmRounds.{Gained, calm_gained, more_gained, none_gained, runs_at, steps_run}
 use Rattle.world_replay.proofs.Grown.{Grew, begins, step_grows}
 use Rattle.world_replay.proofs.Replays.{gains_once, same_news}

@@ -1,6 +1,6 @@
-use Rattle.world_replay.proofs.Common.{◌≡◌, ◌+◌, ◌-◌, true, Err, inl, inr, refl, rules, subst, sym, arith, Calm, EventEnds}
+use Rattle.world_replay.proofs.Common.{Calm, EventEnds, RoundPrints}
+use Rattle.std.proofs.Common.{◌≡◌, ◌+◌, ◌-◌, true, Err, inl, inr, refl, rules, subst, sym, arith}
 use Rattle.replay.proofs.lemmas.{one_round_seen}
-use Rattle.world_replay.specs.Seen.{RoundPrints}
 use Rattle.world_replay.proofs.ByKind.{all_passed, no_rounds, round_ends_so, round_more, rounds_end}
 use Rattle.world_replay.proofs.events.replay_calm.Goals as goal
 

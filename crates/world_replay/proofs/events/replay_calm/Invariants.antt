@@ -1,7 +1,6 @@
-use Rattle.std.proofs.Common.{◌≡◌, ◌≤◌, false, true}
+use Rattle.world_replay.proofs.Common.{◌≡◌, ◌≤◌, false, true, RoundPrints}
 use Rattle.world_replay.proofs.ByKind.{HaveRounds}
 use Rattle.replay.specs.Seen.{RoundsPass}
-use Rattle.world_replay.specs.Seen.{RoundPrints}
 use Rattle.world_replay.proofs.events.replay_calm.Given as goal
 
 -- this many rounds have passed, what they showed is written, and each after the 64th was seen; no write has failed

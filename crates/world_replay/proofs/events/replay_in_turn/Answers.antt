@@ -1,9 +1,9 @@
-use Rattle.world_replay.proofs.Common.{◌≡◌, ◌∷◌, [], ◌++◌, Err, rules, ap, sym, subst, ◌∙◌, shown_text, EventEnds}
-use Rattle.world_replay.proofs.Common.{HappensBy, StopsBy}
+use Rattle.world_replay.proofs.Common.{◌≡◌, ◌∷◌, [], ◌++◌, Err, rules, ap, sym, subst, ◌∙◌, EventEnds}
+use Rattle.world_replay.specs.Output.{shown_text}
+use Rattle.world_replay.specs.Kinds.{HappensBy, StopsBy, MayDoBy}
 use Rattle.std.proofs.lemmas.List.{append_assoc}
 use Rattle.replay.proofs.lemmas.{last_shown, last_written, one_written}
 use Rattle.replay.specs.declared.events.ReplayFault.TheVariants as fault
-use Rattle.world_replay.specs.Kinds.{MayDoBy}
 use Rattle.world_replay.proofs.ByKind.{one_seen}
 use Rattle.world_replay.proofs.events.replay_in_turn.Goals as goal
 

@@ -1,4 +1,5 @@
-use Rattle.world_replay.proofs.Common.{◌≡◌, ◌++◌, false, Writes}
+use Rattle.std.proofs.Common.{◌≡◌, ◌++◌, false}
+use Rattle.world_replay.specs.Output.{Writes}
 use Rattle.world_replay.specs.Kinds.{ReplaysBy}
 use Rattle.world_replay.specs.Seen.{AreSeenBy}
 use Rattle.world_replay.proofs.events.replay_in_turn.Given as goal

@@ -1,5 +1,4 @@
-use Rattle.world_replay.proofs.Common.{◌≡◌, ◌≤◌, true, length, ap, rules, subst, ◌∙◌, arith, length-reverse, Kept}
-use Rattle.world_replay.proofs.Common.{shown, stops, Calls, Gains}
+use Rattle.world_replay.proofs.Common.{◌≡◌, ◌≤◌, true, length, ap, rules, subst, ◌∙◌, arith, length-reverse, Kept, shown, stops, Calls, Gains}
 use Rattle.replay.proofs.lemmas.{on_ok}
 use Rattle.world_replay.proofs.Grown.{longer, more_notices, more_reports, step_gains}
 use Rattle.world_replay.proofs.Replays.{News, calm_shown, calm_stopped}

@@ -1,4 +1,6 @@
-use Rattle.world_replay.proofs.Common.{◌≡◌, ap, drop, reverse, subst, ◌∙◌, Appends, output, shown_in_turn, told_in_turn, on_ok_weaker}
+use Rattle.world_replay.proofs.Common.{◌≡◌, ap, drop, reverse, subst, ◌∙◌, Appends}
+use Rattle.world_replay.specs.Output.{output, shown_in_turn, told_in_turn}
+use Rattle.std.proofs.lemmas.Result.{on_ok_weaker}
 use Rattle.world_replay.proofs.News.{all_fronts}
 use Rattle.world_replay.proofs.print.print_news.Goals as goal
 

@@ -1,4 +1,5 @@
-use Rattle.world_replay.proofs.Common.{◌≡◌, ◌+◌, ◌-◌, length, min, rules, subst, sym, on_ok_weaker}
+use Rattle.std.proofs.Common.{◌≡◌, ◌+◌, ◌-◌, length, min, rules, subst, sym}
+use Rattle.std.proofs.lemmas.Result.{on_ok_weaker}
 use Rattle.world_replay.proofs.News.{Reports, all_reports, no_reports, one_report}
 use Rattle.world_replay.proofs.print.print_told.Goals as goal
 

@@ -1,8 +1,9 @@
-use Rattle.world_replay.proofs.Common.{◌≡◌, ℕ, Bool, true, false, length, Option, Some, None, arith, refl, ap, false≢true, fresh, with_carrier, Seat, ServiceSeat, NcpState, first, second, booked, opening_state}
-use Rattle.std.proofs.Common.{is_some}
+use Rattle.world_replay.proofs.Common.{false≢true, with_carrier, Seat, ServiceSeat, NcpState, opening_state, first, second}
+use Rattle.std.proofs.Common.{◌≡◌, ℕ, Bool, true, false, length, Option, Some, None, arith, refl, ap, is_some}
+use Rattle.net_sim.specs.Worked.{fresh, down}
+use Rattle.world_replay.specs.Worked.{booked}
 use Rattle.host_services.specs.Services.{no_services}
 use Rattle.host_services.specs.Turns as turns
-use Rattle.net_sim.specs.Worked.{down}
 use Rattle.sockets.specs.Requests.{served, served_notices}
 use Rattle.sockets.specs.declared.request.Request.TheVariants as request
 use Rattle.world_replay.proofs.AtHosts.{others_same, others_served, serviced_elsewhere}

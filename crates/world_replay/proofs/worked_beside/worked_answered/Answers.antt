@@ -1,11 +1,10 @@
-use Rattle.world_replay.proofs.Common.{◌≡◌, [], ◌∷◌, Option, None, Some, Result, Ok, Err, refl, subst, sym, Seen}
-use Rattle.world_replay.proofs.Common.{MatchBool, WorldFault, WorldState, FetchEnds, OutEnds, Passes}
-use Rattle.world_replay.proofs.Common.{NoProgram, Carrier, Offer, third, stops}
+use Rattle.world_replay.proofs.Common.{◌≡◌, [], ◌∷◌, Option, None, Some, Result, Ok, Err, refl, subst, sym, MatchBool, WorldFault, NoProgram, Carrier, Offer, third, beside_third}
+use Rattle.interface.specs.Calls.{Seen}
+use Rattle.net_sim.specs.World.{WorldState, Passes, stops}
+use Rattle.net_sim.specs.MixedWorlds.{FetchEnds, OutEnds, MixedRuns}
 use Rattle.interface.specs.declared.carrier.CarrierFault.{CarrierFault}
 use Rattle.interface.specs.declared.carrier.CarrierFault.TheVariants as fault
 use Rattle.interface.specs.declared.crossing.Inbound.{Inbound}
-use Rattle.net_sim.specs.MixedWorlds.{MixedRuns}
-use Rattle.net_sim.specs.WorkedMixed.{beside_third}
 use Rattle.world_replay.specs.WorkedBeside.{closed_carrier, tired_carrier}
 use Rattle.world_replay.specs.WorkedMixed.{hail}
 use Rattle.world_replay.proofs.worked_beside.worked_answered.Goals as goal

@@ -1,8 +1,5 @@
-use Rattle.world_replay.proofs.Common.{[], ◌∷◌, Err, refl, NoProgram, HasProgram, any_carrier}
-use Rattle.world_replay.proofs.Common.{WorldFault, WorldEvent, HappensBy, mixed_kind, first, second}
-use Rattle.world_replay.proofs.Common.{third, message, Offer, Server, Typed, User}
+use Rattle.world_replay.proofs.Common.{[], ◌∷◌, Err, refl, NoProgram, HasProgram, any_carrier, message, WorldFault, WorldEvent, HappensBy, mixed_kind, first, second, third, Offer, Server, Typed, User, beside_third}
 use Rattle.interface.specs.declared.crossing.Crossing.TheVariants as crossing
-use Rattle.net_sim.specs.WorkedMixed.{beside_third}
 use Rattle.world_replay.specs.Output.{Crossed, Refused}
 use Rattle.world_replay.specs.WorkedBeside.{event, saying}
 use Rattle.world_replay.specs.WorkedMixed.{MayShow, hail}

@@ -1,8 +1,7 @@
 use Rattle.interface.specs.declared.carrier.CarrierFault.TheVariants as fault
-use Rattle.world_replay.proofs.Common.{Out, HasProgram, NoProgram, any_carrier, message, Ask, Offer, Carrier, first, second, third}
+use Rattle.world_replay.proofs.Common.{Out, Ask, Offer, HasProgram, NoProgram, Carrier, any_carrier, message, first, second, third, Happen}
 use Rattle.net_sim.specs.WorkedMixed.{fourth}
 use Rattle.sockets.specs.declared.request.Request.TheVariants as request
-use Rattle.world_script.specs.declared.event.WorldEvent.TheVariants.{Happen}
 use Rattle.world_replay.proofs.Strangers.{is_hailed, refused_only, says_only, takes_only, waits}
 use Rattle.world_replay.proofs.worked_mixed.worked_strangers.Goals as goal
 
