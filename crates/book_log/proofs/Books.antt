@@ -1,16 +1,11 @@
 -- The lines of a book, in their order, and the first bad one.
-use Rattle.book_log.proofs.Common.{◌≡◌, ℕ, ◌<◌, ◌≤◌, ◌==◌, ◌&&◌, Bool, true, false, suc, List, [], ◌∷◌, ◌++◌, Some}
-use Rattle.book_log.proofs.Common.{None, codes, length, map, refl, sym, ap, ap₂, ◌∙◌, arith, subst, append_assoc}
-use Rattle.book_log.proofs.Common.{append-nil, if◌then◌else◌, eqb-true, false≢true, map-append, All-append, All-cons}
-use Rattle.book_log.proofs.Common.{All-head, All-nil, All-tail, All-weaker, flat_map-append, All, zip, Crossing, Fate}
-use Rattle.book_log.proofs.Common.{Life, ended_line, Lacks, SameCut, same_cut, Book, IsBadBookLine, IsBook, IsCrossing}
-use Rattle.book_log.proofs.Common.{IsHanded, IsLived, IsBookText, log_lines, text_of_lines, IsLine, added, is_bare}
-use Rattle.book_log.proofs.Common.{line_text, Line}
-use Rattle.std.proofs.lemmas.List.Elements.{All-map}
-use Rattle.std.proofs.lemmas.Bool.{and_parts}
+use Rattle.book_log.proofs.Common.{flat_map-append, All, zip, Crossing, Fate, Life, ended_line, Lacks, SameCut, same_cut, uncut, IsBadBookLine, IsBookText, IsLine, added, is_bare, line_text, BeginsBook, Line}
+use Rattle.std.proofs.Common.{◌≡◌, ℕ, ◌<◌, ◌≤◌, ◌==◌, ◌&&◌, Bool, true, false, suc, List, [], ◌∷◌, ◌++◌, Some, None, codes, length, map, refl, sym, ap, ap₂, ◌∙◌, arith, subst, append_assoc, append-nil, if◌then◌else◌}
+use Rattle.std.proofs.lemmas.Bool.{eqb-true, false≢true, and_parts}
+use Rattle.std.proofs.lemmas.List.{map-append}
+use Rattle.std.proofs.lemmas.List.Elements.{All-append, All-cons, All-head, All-nil, All-tail, All-weaker, All-map}
+use Rattle.book_log.specs.Log.{Book, IsBook, IsCrossing, IsHanded, IsLived, log_lines, text_of_lines}
 use Rattle.interface.specs.declared.crossing.Crossing.TheVariants as crossing
-use Rattle.script.proofs.lemmas.{uncut}
-use Rattle.book_log.specs.Steps.{BeginsBook}
 use Rattle.book_log.specs.declared.lines.Line.TheVariants as line
 use Rattle.book_log.proofs.Keywords.{line_ends}
 use Rattle.book_log.proofs.Cuts.{first_same, rest_same}

@@ -1,16 +1,13 @@
 -- Words of a line: where it is cut, and what no word of a log has in it.
-use Rattle.book_log.proofs.Common.{◌+◌, ◌≡◌, ℕ, ◌<◌, ◌/◌, ◌%◌, ◌==◌, zero, suc, Bool, true, false, List, [], ◌∷◌, ◌++◌}
-use Rattle.book_log.proofs.Common.{Option, Some, None, codes, length, slice_index, refl, sym, ap, ◌∙◌, arith, lit<}
-use Rattle.book_log.proofs.Common.{All-append, All-cons, All-head, All-nil, All-tail, All, join_with_byte, encode_upper}
-use Rattle.book_log.proofs.Common.{upper_digits, Host, host_text, IsHost, octets_text, Lacks, unmarked_where, words_in}
-use Rattle.std.proofs.Common.{count_by}
+use Rattle.book_log.proofs.Common.{All-append, All-cons, All-head, All-nil, All-tail, All, join_with_byte, Host, host_text, IsHost, octets_text, Lacks}
+use Rattle.std.proofs.Common.{◌+◌, ◌≡◌, ℕ, ◌<◌, ◌/◌, ◌%◌, ◌==◌, zero, suc, Bool, true, false, List, [], ◌∷◌, ◌++◌, Option, Some, None, codes, length, slice_index, refl, sym, ap, ◌∙◌, arith, lit<, count_by}
+use Rattle.hex.specs.Hex.{encode_upper, upper_digits, encode_with}
+use Rattle.script.proofs.lemmas.{unmarked_where, host_unmarked}
+use Rattle.book_log.specs.Steps.{words_in, is_over, words_behind}
 use Rattle.std.proofs.lemmas.List.Splits.{join_with_byte-slice_split, length-slice_split, slice_split_at, slice_split_none}
 use Rattle.bit_messages.specs.Octets.{octets_of}
 use Rattle.bit_messages.proofs.lemmas.{octets_below}
-use Rattle.hex.specs.Hex.{encode_with}
-use Rattle.script.proofs.lemmas.{host_unmarked}
 use Rattle.std.specs.Borrow.{Bor}
-use Rattle.book_log.specs.Steps.{is_over, words_behind}
 
 -- ---- what no word has in it: a space, and a line feed
 

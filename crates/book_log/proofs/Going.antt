@@ -1,10 +1,9 @@
 -- Going through the lines of a log.
-use Rattle.book_log.proofs.Common.{◌≡◌, ◌≢◌, ℕ, ◌<◌, ◌≤◌, ◌+◌, ◌==◌, ◌&&◌, Bool, true, false, List, [], ◌∷◌, ◌++◌, Some}
-use Rattle.book_log.proofs.Common.{None, codes, length, map, refl, sym, ap, ap₂, ◌∙◌, arith, subst, append-nil}
-use Rattle.book_log.proofs.Common.{if◌then◌else◌, eqb-true, false≢true, map-append, All-cons, All-head, All-nil}
-use Rattle.book_log.proofs.Common.{All-tail, All, Fate, Life, Lacks, Book, IsBadBookLine, IsBook, IsBookText}
-use Rattle.book_log.proofs.Common.{text_of_lines, IsLine, added, is_bare, line_text, Line}
-use Rattle.std.proofs.lemmas.List.{length-append}
+use Rattle.book_log.proofs.Common.{All-cons, All-head, All-nil, All-tail, All, Fate, Life, Lacks, IsBadBookLine, IsBookText, IsLine, added, is_bare, line_text, Line}
+use Rattle.std.proofs.Common.{◌≡◌, ◌≢◌, ℕ, ◌<◌, ◌≤◌, ◌+◌, ◌==◌, ◌&&◌, Bool, true, false, List, [], ◌∷◌, ◌++◌, Some, None, codes, length, map, refl, sym, ap, ap₂, ◌∙◌, arith, subst, append-nil, if◌then◌else◌}
+use Rattle.std.proofs.lemmas.Bool.{eqb-true, false≢true}
+use Rattle.std.proofs.lemmas.List.{map-append, length-append}
+use Rattle.book_log.specs.Log.{Book, IsBook, text_of_lines}
 use Rattle.book_log.specs.declared.lines.Line.TheVariants as line
 use Rattle.book_log.proofs.Books.{Added, Follows, Next, bad_line, begins_all, begins_told, last_line, lived, middle_of, next, no_end, not_whole, rank, rank_is, text_of_lines_more, text_rank, texts, this_line, told, was_added}
 use Rattle.book_log.proofs.Books.{front_of}

@@ -1,11 +1,13 @@
 -- Lines as words: a keyword, and what follows it.
-use Rattle.book_log.proofs.Common.{◌≡◌, ◌≢◌, ℕ, ◌<◌, ◌≤◌, ◌^◌, ◌==◌, ◌%◌, Bool, true, false, List, [], ◌∷◌, ◌++◌, Option, Some, None, codes, length, refl, sym, ap, ◌∙◌, arith, subst, append_assoc, append-nil, if◌then◌else◌, decimal, join_with_byte, bytes_eq, Host, host_text, Flow, Answer, HostMessage, Fate, Life, IsFlow, IsHost, IsMessage, ReadsAs, octets_text, Lacks, unmarked_where, kind_text, IsHanded, IsLived, answer_name, fate_name, IsLine, flow_words, handed_words, life_words, line_text, message_words, words_in, Line}
-use Rattle.interface.specs.Printed.{crossing_text, flow_text}
+use Rattle.book_log.proofs.Common.{decimal, join_with_byte, bytes_eq, Host, Flow, Answer, HostMessage, Fate, Life, IsFlow, IsHost, IsMessage, ReadsAs, octets_text, Lacks, unmarked_where, Line}
+use Rattle.std.proofs.Common.{◌≡◌, ◌≢◌, ℕ, ◌<◌, ◌≤◌, ◌^◌, ◌==◌, ◌%◌, Bool, true, false, List, [], ◌∷◌, ◌++◌, Option, Some, None, codes, length, refl, sym, ap, ◌∙◌, arith, subst, append_assoc, append-nil, if◌then◌else◌}
+use Rattle.interface.specs.Printed.{host_text, crossing_text, flow_text}
+use Rattle.world_replay.specs.Printed.{kind_text, words}
+use Rattle.book_log.specs.Log.{IsHanded, IsLived, answer_name, fate_name}
+use Rattle.book_log.specs.Steps.{IsLine, flow_words, handed_words, life_words, line_text, message_words, words_in, IsAnswer, IsShort, ReadsShort, answer_words, host_words, line_words}
 use Rattle.interface.specs.declared.crossing.Answer.TheVariants as answer
 use Rattle.interface.specs.declared.crossing.Crossing.TheVariants as crossing
 use Rattle.promise.specs.declared.life.Fate.TheVariants as fate
-use Rattle.world_replay.specs.Printed.{words}
-use Rattle.book_log.specs.Steps.{IsAnswer, IsShort, ReadsShort, answer_words, host_words, line_words}
 use Rattle.book_log.specs.declared.lines.Line.TheVariants as line
 use Rattle.book_log.proofs.Numbers.{number_word}
 use Rattle.book_log.proofs.Cuts.{AreWords, IsWord, cut_again, first_same, host_word, joined_again, joined_ends, octets_word, rest_same}

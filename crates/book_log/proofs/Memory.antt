@@ -1,9 +1,8 @@
 -- Where memory may run out as a log is read.
-use Rattle.book_log.proofs.Common.{◌≡◌, ℕ, true, List, [], ◌∷◌, ◌++◌, refl, sym, ap, ◌∙◌, subst, All-cons, All-nil, Book}
-use Rattle.book_log.proofs.Common.{IsBook, IsCrossing, IsHanded, IsLine, IsLived, Line, line_text, text_of_lines, ended_line}
-use Rattle.std.proofs.Common.{◌⊎◌, Err, IfErr, Ok, Result}
-use Rattle.book_log.specs.Log.{HasOctets, is_of_octets}
-use Rattle.book_log.specs.Steps.{BeginsBook, RanOutIn, opening_book, words_in}
+use Rattle.book_log.proofs.Common.{All-cons, All-nil, Line, ended_line}
+use Rattle.std.proofs.Common.{◌≡◌, ℕ, true, List, [], ◌∷◌, ◌++◌, refl, sym, ap, ◌∙◌, subst, ◌⊎◌, Err, IfErr, Ok, Result}
+use Rattle.book_log.specs.Log.{Book, IsBook, IsCrossing, IsHanded, IsLived, text_of_lines, HasOctets, is_of_octets}
+use Rattle.book_log.specs.Steps.{IsLine, line_text, BeginsBook, RanOutIn, opening_book, words_in}
 use Rattle.book_log.specs.declared.lines.Line.TheVariants as line
 use Rattle.book_log.proofs.Books.{begins_told, ended_more, texts, told}
 use Rattle.book_log.proofs.Going.{Reached}

@@ -1,12 +1,6 @@
 -- Reading the lines of strangers.
-use Rattle.book_log.proofs.Common.{◌≡◌, ◌≢◌, ℕ, ◌<◌, ◌+◌, arith, length, true, false, List, [], ◌∷◌, ◌++◌, Option, Some}
-use Rattle.book_log.proofs.Common.{None, codes, refl, sym, ap, ◌∙◌, subst, append_assoc, append-nil, false≢true}
-use Rattle.book_log.proofs.Common.{flat_map-append}
-use Rattle.book_log.proofs.Common.{Host, IsHost, Lacks, ReadsAs, SameCut, ended_line, host_text, same_cut}
-use Rattle.book_log.proofs.Common.{stranger_line, unmarked_where}
+use Rattle.book_log.proofs.Common.{◌≡◌, ◌≢◌, ℕ, ◌<◌, ◌+◌, arith, length, true, false, List, [], ◌∷◌, ◌++◌, Option, Some, None, codes, refl, sym, ap, ◌∙◌, subst, append_assoc, append-nil, false≢true, flat_map-append, Host, IsHost, ReadsAs, Lacks, SameCut, same_cut, unmarked_where, uncut, ended_line, host_text, stranger_line, strangers_text}
 use Rattle.std.proofs.lemmas.List.{length-append}
-use Rattle.script.proofs.lemmas.{uncut}
-use Rattle.book_log.specs.Log.{strangers_text}
 use Rattle.book_log.specs.Steps.{NamedAfter, Names, NamesNone, follows, last_of}
 use Rattle.book_log.proofs.Books.{ended_more}
 use Rattle.book_log.proofs.Networks.{stranger_ends, stranger_once}

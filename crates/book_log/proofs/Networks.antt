@@ -1,20 +1,13 @@
 -- The log of a network: the lines of its strangers, and then those of its book.
-use Rattle.book_log.proofs.Common.{◌≡◌, ◌≢◌, ℕ, ◌<◌, ◌≤◌, ◌+◌, ◌^◌, ◌==◌, true, false, List, [], ◌∷◌, ◌++◌, Option, Some}
-use Rattle.book_log.proofs.Common.{None, codes, length, map, refl, sym, ap, ap₂, ◌∙◌, arith, subst, append_assoc}
-use Rattle.book_log.proofs.Common.{All, All-append, All-cons, All-head, All-nil, All-tail, Book, Host}
-use Rattle.book_log.proofs.Common.{IsBadBookLine, IsBadLine, IsBook, IsBookText, IsHost, IsLog, Lacks, SameCut}
-use Rattle.book_log.proofs.Common.{ended_line, handed_line, host_text, life_line, log_lines, logged_line, same_cut}
-use Rattle.book_log.proofs.Common.{stranger_line, text_of_lines}
-use Rattle.book_log.proofs.Common.{unmarked_where}
-use Rattle.std.proofs.Common.{inl, inr}
+use Rattle.book_log.proofs.Common.{◌≡◌, ◌≢◌, ℕ, ◌<◌, ◌≤◌, ◌+◌, ◌^◌, ◌==◌, true, false, List, [], ◌∷◌, ◌++◌, Option, Some, None, codes, length, map, refl, sym, ap, ap₂, ◌∙◌, arith, subst, append_assoc, inl, inr, All, All-append, All-cons, All-head, All-nil, All-tail, IsHost, Lacks, ended_line, host_text}
+use Rattle.book_log.specs.Log.{Book, IsBadLine, IsBook, IsLog, handed_line, life_line, log_lines, logged_line, stranger_line, text_of_lines, AreStrangers, Begins, IsLogFault, RanOut, log_text, network_lines, strangers_text}
+use Rattle.interface.specs.Host.{Host, InOrder, host_before}
+use Rattle.book_log.specs.Steps.{IsBadBookLine, IsBookText, BeginsBook, FitsAfter, IsBookFault, fault_after, NamedAfter, Names, NamesMore, NamesNone, last_of}
+use Rattle.script.proofs.lemmas.{SameCut, same_cut, unmarked_where, host_once}
 use Rattle.std.proofs.lemmas.List.{append_cancel_left, length-append, length-map}
 use Rattle.std.specs.Prelude.{◌↔◌}
-use Rattle.interface.specs.Host.{InOrder, host_before}
-use Rattle.script.proofs.lemmas.{host_once}
-use Rattle.book_log.specs.Log.{AreStrangers, Begins, IsLogFault, RanOut, log_text, network_lines, strangers_text}
 use Rattle.book_log.specs.declared.fault.LogFault.{LogFault}
 use Rattle.book_log.specs.declared.fault.LogFault.TheVariants as fault
-use Rattle.book_log.specs.Steps.{BeginsBook, FitsAfter, IsBookFault, fault_after, NamedAfter, Names, NamesMore, NamesNone, last_of}
 use Rattle.book_log.proofs.Memory.{begins_nothing}
 use Rattle.book_log.proofs.Books.{ended_more, front_of, log_ends, text_of_lines-append}
 use Rattle.book_log.proofs.Cuts.{first_same, host_word, rest_same}

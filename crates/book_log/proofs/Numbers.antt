@@ -1,6 +1,7 @@
 -- Numbers of up to 128 bits as words.
-use Rattle.book_log.proofs.Common.{◌≡◌, ◌≢◌, ℕ, ◌<◌, ◌≤◌, ◌+◌, ◌*◌, ◌/◌, ◌%◌, ◌^◌, ◌==◌, true, false, List, [], ◌∷◌, ◌++◌, get_or, Result, Ok, Err, refl, sym, ap, ◌∙◌, subst, arith, zero, suc, lit<, length, append-nil, append_assoc, false≢true, All-nil, All-cons, decimal, All, ParsesUnsigned, ReadsAs, begins_wrong}
-use Rattle.std.proofs.Common.{length-append}
+use Rattle.book_log.proofs.Common.{false≢true, All-nil, All-cons, decimal, All, ReadsAs, begins_wrong}
+use Rattle.std.proofs.Common.{◌≡◌, ◌≢◌, ℕ, ◌<◌, ◌≤◌, ◌+◌, ◌*◌, ◌/◌, ◌%◌, ◌^◌, ◌==◌, true, false, List, [], ◌∷◌, ◌++◌, get_or, Result, Ok, Err, refl, sym, ap, ◌∙◌, subst, arith, zero, suc, lit<, length, append-nil, append_assoc, length-append}
+use Rattle.std.specs.Str.Parse.{ParsesUnsigned, AllDigits, digits_value, digits_value_after}
 use Rattle.std.proofs.lemmas.Bool.Decides.{nat_tests}
 use Rattle.std.proofs.lemmas.Fmt.{IsAscii-decimal_wide, decimal_digit, decimal_is_IsNumeral_wide, decimal_by_steps_wide, decimal_step_wide, parse-decimal_wide}
 use Rattle.std.proofs.lemmas.List.{get_or_append_left}
@@ -8,7 +9,6 @@ use Rattle.std.proofs.lemmas.Str.{IsUtf8-from_ascii, digit_value_digit}
 use Rattle.std.proofs.lemmas.Str.Parse.{IsNumeralModel, numerals_by_value, tells_digits, parse_plain, digit_from_value}
 use Rattle.std.specs.Result.{OkIff, result_ok}
 use Rattle.std.specs.Str.{IsUtf8}
-use Rattle.std.specs.Str.Parse.{AllDigits, digits_value, digits_value_after}
 use Rattle.std.specs.Char.{digit_value}
 use Rattle.book_log.proofs.Cuts.{IsWord}
 

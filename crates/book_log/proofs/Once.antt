@@ -1,18 +1,13 @@
 -- Octets are read in one way: no two networks or books are spelled alike, and no two lines are the first bad one.
-use Rattle.book_log.proofs.Common.{◌≡◌, ◌≢◌, ℕ, ◌<◌, ◌≤◌, ◌^◌, Bool, true, false, None, List, [], ◌∷◌, ◌++◌, codes}
-use Rattle.book_log.proofs.Common.{length, map, refl, sym, ap, ap₂, ◌∙◌, arith, subst, append_assoc, append-nil}
-use Rattle.book_log.proofs.Common.{false≢true, All-append, All-head, All-tail, All-weaker, decimal, All, bytes_eq, Flow}
-use Rattle.book_log.proofs.Common.{Answer, Crossing, HostMessage, Fate, Life, ended_line, IsFlow, IsMessage}
-use Rattle.book_log.proofs.Common.{octets_text, Lacks, SameCut, same_cut, Book, Host, IsBadLine, IsBookText, IsLived}
-use Rattle.book_log.proofs.Common.{IsLog, answer_name, fate_name, log_lines, logged_fate, text_of_lines, IsLine}
-use Rattle.book_log.proofs.Common.{flow_words, life_words, line_text, message_words, words_in, Line}
+use Rattle.book_log.proofs.Common.{◌≡◌, ◌≢◌, ℕ, ◌<◌, ◌≤◌, ◌^◌, Bool, true, false, None, List, [], ◌∷◌, ◌++◌, codes, length, map, refl, sym, ap, ap₂, ◌∙◌, arith, subst, append_assoc, append-nil, false≢true, decimal, All, bytes_eq, Flow, Answer, Crossing, HostMessage, Fate, Life, ended_line, IsFlow, IsMessage, octets_text, Lacks, Host, Line}
+use Rattle.std.proofs.lemmas.List.Elements.{All-append, All-head, All-tail, All-weaker}
+use Rattle.script.proofs.lemmas.{SameCut, same_cut, host_once, text_once}
+use Rattle.book_log.specs.Log.{Book, IsBadLine, IsLived, IsLog, answer_name, fate_name, log_lines, logged_fate, text_of_lines, IsAmount, log_text}
+use Rattle.book_log.specs.Steps.{IsBookText, IsLine, flow_words, life_words, line_text, message_words, words_in, last_of}
 use Rattle.interface.specs.declared.crossing.Answer.TheVariants as answer
 use Rattle.promise.specs.declared.life.Amount.{Amount}
 use Rattle.promise.specs.Fates.{is_over}
 use Rattle.promise.specs.declared.life.Fate.TheVariants as fate
-use Rattle.script.proofs.lemmas.{host_once, text_once}
-use Rattle.book_log.specs.Log.{IsAmount, log_text}
-use Rattle.book_log.specs.Steps.{last_of}
 use Rattle.book_log.specs.declared.lines.Line.TheVariants as line
 use Rattle.book_log.proofs.Books.{Longer, all_of, all_told, all_told_are, ended_more, lines_are, lived, log_ends}
 use Rattle.book_log.proofs.Books.{longer, nil_not, not_ended, rank, texts, told}

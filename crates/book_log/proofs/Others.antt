@@ -1,8 +1,8 @@
 -- No line of a book is that of a stranger.
-use Rattle.book_log.proofs.Common.{◌≡◌, ℕ, List, [], ◌∷◌, ◌++◌, sym, ap, ◌∙◌, arith}
-use Rattle.book_log.proofs.Common.{Book, Host, Line, ended_line, line_text, log_lines, stranger_line, text_of_lines}
+use Rattle.book_log.proofs.Common.{Host, Line, ended_line, line_text}
+use Rattle.std.proofs.Common.{◌≡◌, ℕ, List, [], ◌∷◌, ◌++◌, sym, ap, ◌∙◌, arith}
+use Rattle.book_log.specs.Log.{Book, log_lines, stranger_line, text_of_lines, log_text}
 use Rattle.interface.specs.declared.crossing.Crossing.TheVariants as crossing
-use Rattle.book_log.specs.Log.{log_text}
 use Rattle.book_log.specs.declared.lines.Line.TheVariants as line
 use Rattle.book_log.proofs.Books.{all_told, lines_are, nil_not, texts}
 use Rattle.book_log.proofs.Cuts.{first_same, rest_same}

@@ -1,22 +1,16 @@
 -- What is written of a book is its log.
-use Rattle.book_log.proofs.Common.{◌≡◌, ℕ, zero, suc, ◌+◌, ◌*◌, ◌/◌, ◌%◌, ◌<◌, ◌≤◌, Bool, false, List, [], ◌∷◌, ◌++◌}
-use Rattle.book_log.proofs.Common.{Option, Some, None, codes, drop, get_or, length, map, slice_index, take, refl, sym}
-use Rattle.book_log.proofs.Common.{ap, ap₂, ◌∙◌, arith, subst, append_assoc, append-nil, All-cons, All-head, All-more}
-use Rattle.book_log.proofs.Common.{All-nil, All-tail, firsts-zip, seconds-zip, All, zip, Appends, encode_upper}
-use Rattle.book_log.proofs.Common.{upper_digits, AreFated, Fate, Life, text_of, text_more, ended_line, octets_text}
-use Rattle.book_log.proofs.Common.{worded_life, Book, IsLife, IsLived, fate_name, handed_line, life_line, logged_fate}
-use Rattle.book_log.proofs.Common.{logged_line, text_of_lines}
-use Rattle.std.proofs.Common.{slice_index_or}
+use Rattle.book_log.proofs.Common.{All-cons, All-head, All-more, All-nil, All-tail, Appends, Fate, Life, text_of, text_more, ended_line, octets_text, worded_life}
+use Rattle.std.proofs.Common.{◌≡◌, ℕ, zero, suc, ◌+◌, ◌*◌, ◌/◌, ◌%◌, ◌<◌, ◌≤◌, Bool, false, List, [], ◌∷◌, ◌++◌, Option, Some, None, codes, drop, get_or, length, map, slice_index, take, refl, sym, ap, ap₂, ◌∙◌, arith, subst, append_assoc, append-nil, slice_index_or}
+use Rattle.std.proofs.lemmas.Slice.Zip.{firsts-zip, seconds-zip, get_or-zip, length-zip}
+use Rattle.std.specs.List.{All, zip, slice_get}
+use Rattle.hex.specs.Hex.{encode_upper, upper_digits, encode_with}
+use Rattle.promise.specs.Fates.{AreFated, is_over}
+use Rattle.book_log.specs.Log.{Book, IsLife, IsLived, fate_name, handed_line, life_line, logged_fate, logged_line, text_of_lines, log_text}
 use Rattle.std.proofs.lemmas.List.{drop-drop, drop_all, get_or-drop, length-drop, take_all}
 use Rattle.std.proofs.lemmas.Option.{get_or_from_slice_get, slice_get_within}
-use Rattle.std.proofs.lemmas.Slice.Zip.{get_or-zip, length-zip}
-use Rattle.std.specs.List.{slice_get}
 use Rattle.std.proofs.KnownBytes.{Appends-trans}
 use Rattle.bit_messages.specs.Octets.{octet, octets_of}
-use Rattle.hex.specs.Hex.{encode_with}
-use Rattle.promise.specs.Fates.{is_over}
 use Rattle.promise.specs.declared.life.Fate.TheVariants as fate
-use Rattle.book_log.specs.Log.{log_text}
 use Rattle.book_log.specs.Steps.{octet_at}
 use Rattle.book_log.proofs.Books.{text_of_lines-append}
 

@@ -1,13 +1,10 @@
 -- Words read one after the other.
-use Rattle.book_log.proofs.Common.{◌≡◌, ◌≢◌, ℕ, ◌<◌, ◌≤◌, ◌^◌, Bool, true, false, List, [], ◌∷◌, ◌++◌, Option, Some}
-use Rattle.book_log.proofs.Common.{None, Result, Ok, Err, drop, length, sym, ap, ◌∙◌, arith, subst, decimal, Flow}
-use Rattle.book_log.proofs.Common.{HostMessage, Fate, Life, IsMessage, octets_text, kind_text, IsHanded, IsLived}
-use Rattle.book_log.proofs.Common.{counts_words, ends_words, flow_words, handed_words, life_words}
-use Rattle.book_log.proofs.Common.{message_words}
-use Rattle.std.proofs.Common.{IfOk}
-use Rattle.book_log.specs.Steps.{TakesAs}
+use Rattle.book_log.proofs.Common.{decimal, Flow, HostMessage, Fate, Life, IsMessage, octets_text}
+use Rattle.std.proofs.Common.{◌≡◌, ◌≢◌, ℕ, ◌<◌, ◌≤◌, ◌^◌, Bool, true, false, List, [], ◌∷◌, ◌++◌, Option, Some, None, Result, Ok, Err, drop, length, sym, ap, ◌∙◌, arith, subst, IfOk}
+use Rattle.world_replay.specs.Printed.{kind_text}
+use Rattle.book_log.specs.Log.{IsHanded, IsLived}
+use Rattle.book_log.specs.Steps.{counts_words, ends_words, flow_words, handed_words, life_words, message_words, TakesAs, AreCounts, AreEnds, TakesWords}
 use Rattle.std.specs.Prelude.{IsTrue, ◌↔◌}
-use Rattle.book_log.specs.Steps.{AreCounts, AreEnds, TakesWords}
 use Rattle.book_log.specs.declared.lines.Counts.{Counts}
 use Rattle.book_log.specs.declared.lines.Ends.{Ends}
 use Rattle.book_log.proofs.Cuts.{after, first_same, front, rest_same}

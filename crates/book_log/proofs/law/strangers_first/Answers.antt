@@ -1,4 +1,4 @@
-use Rattle.book_log.proofs.Common.{None}
+use Rattle.std.proofs.Common.{None}
 use Rattle.book_log.proofs.Networks.{after_named, only_strangers}
 use Rattle.book_log.proofs.law.strangers_first.Goals as goal
 

@@ -1,6 +1,5 @@
-use Rattle.std.proofs.Common.{[], ◌∷◌, refl}
+use Rattle.book_log.proofs.Common.{[], ◌∷◌, refl, All-cons, All-head, All-nil, IsHost, false≢true}
 use Rattle.std.specs.Fmt.{digits}
-use Rattle.book_log.proofs.Common.{All-cons, All-head, All-nil, IsHost, false≢true}
 use Rattle.book_log.proofs.law.worked_strangers.Goals as goal
 
 pub returns-clause-two : goal.returns-clause-two

@@ -1,4 +1,5 @@
-use Rattle.book_log.proofs.Common.{drop, ◌++◌, counts_words}
+use Rattle.std.proofs.Common.{drop, ◌++◌}
+use Rattle.book_log.specs.Steps.{counts_words}
 use Rattle.book_log.proofs.Cuts.{after, front}
 use Rattle.book_log.proofs.Reading.{after_two, no_word}
 use Rattle.book_log.proofs.lines.read_counts.Goals as goal

@@ -1,4 +1,5 @@
-use Rattle.book_log.proofs.Common.{drop, ◌++◌, ends_words}
+use Rattle.std.proofs.Common.{drop, ◌++◌}
+use Rattle.book_log.specs.Steps.{ends_words}
 use Rattle.book_log.proofs.Cuts.{after, front}
 use Rattle.book_log.proofs.Reading.{no_word, other_kind}
 use Rattle.book_log.proofs.lines.read_ends.Goals as goal

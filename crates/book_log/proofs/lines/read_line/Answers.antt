@@ -1,6 +1,5 @@
-use Rattle.book_log.proofs.Common.{◌≡◌, ◌∙◌, Err, codes, refl, rules, sym, words_left}
+use Rattle.book_log.proofs.Common.{◌≡◌, ◌∙◌, Err, codes, refl, rules, sym, words_left, differs}
 use Rattle.interface.specs.declared.crossing.Crossing.TheVariants as crossing
-use Rattle.script.proofs.lemmas.{differs}
 use Rattle.book_log.specs.declared.lines.Line.TheVariants as line
 use Rattle.book_log.proofs.Keywords.{no_operand, read_as, short_read}
 use Rattle.book_log.proofs.Memory.{has_octets}

@@ -1,4 +1,5 @@
-use Rattle.book_log.proofs.Common.{octets_text, worded_life, on_ok, fate_name}
+use Rattle.book_log.proofs.Common.{octets_text, worded_life, on_ok}
+use Rattle.book_log.specs.Log.{fate_name}
 use Rattle.book_log.proofs.Printed.{line_written, named_front}
 use Rattle.book_log.proofs.print.print_life.Goals as goal
 

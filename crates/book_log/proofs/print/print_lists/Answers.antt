@@ -1,4 +1,4 @@
-use Rattle.book_log.proofs.Common.{subst, All-more, Appends, text_more, ended_line, List, Bool, IsHanded, handed_line}
+use Rattle.book_log.proofs.Common.{subst, List, Bool, All-more, Appends, text_more, ended_line, IsHanded, handed_line}
 use Rattle.book_log.proofs.print.print_lists.Goals as goal
 
 pub loop-bits-preserved : goal.loop-bits-preserved

@@ -1,4 +1,5 @@
-use Rattle.book_log.proofs.Common.{◌≡◌, false, take, All, zip, Appends, Fate, Life, text_of, IsLife, life_line}
+use Rattle.book_log.proofs.Common.{◌≡◌, false, take, All, zip, Appends, Fate, Life, text_of}
+use Rattle.book_log.specs.Log.{IsLife, life_line}
 use Rattle.book_log.proofs.print.print_lives.Given as goal
 
 abbrev pub invariant-loop-place : goal.invariant-loop-place

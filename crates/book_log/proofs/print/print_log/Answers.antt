@@ -1,5 +1,6 @@
-use Rattle.book_log.proofs.Common.{List, ℕ, subst, Appends, on_ok, AreFated, IsBook}
-use Rattle.book_log.specs.Log.{logged_book}
+use Rattle.book_log.proofs.Common.{List, ℕ, subst, Appends, on_ok}
+use Rattle.promise.specs.Fates.{AreFated}
+use Rattle.book_log.specs.Log.{IsBook, logged_book}
 use Rattle.book_log.proofs.Printed.{lives_valid, log_written, logged_lives}
 use Rattle.book_log.proofs.print.print_log.Goals as goal
 

@@ -1,5 +1,4 @@
-use Rattle.std.proofs.Common.{◌≡◌, ◌∙◌, [], ◌∷◌, Err, List, arith, inl, inr, rules, subst, sym, ℕ}
-use Rattle.book_log.specs.Steps.{BeginsBook}
+use Rattle.book_log.proofs.Common.{◌≡◌, ◌∙◌, [], ◌∷◌, Err, List, arith, inl, inr, rules, subst, sym, ℕ, BeginsBook}
 use Rattle.book_log.specs.declared.fault.LogFault.TheVariants as fault
 use Rattle.book_log.proofs.Going.{bad_behind, bad_end, bad_here, bad_place, line_more, shorter, whole}
 use Rattle.book_log.proofs.Memory.{begins_one, ran_out}

@@ -1,5 +1,4 @@
-use Rattle.book_log.proofs.Common.{◌≡◌, codes, rules}
-use Rattle.script.proofs.lemmas.{differs}
+use Rattle.book_log.proofs.Common.{◌≡◌, codes, rules, differs}
 use Rattle.book_log.proofs.Named.{no_space, other_word, read_word}
 use Rattle.book_log.proofs.strangers.read_stranger.Goals as goal
 

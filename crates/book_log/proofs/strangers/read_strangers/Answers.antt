@@ -1,5 +1,4 @@
-use Rattle.book_log.proofs.Common.{List, ap, ◌++◌, ◌∙◌, ℕ}
-use Rattle.book_log.specs.Log.{strangers_text}
+use Rattle.book_log.proofs.Common.{List, ap, ◌++◌, ◌∙◌, ℕ, strangers_text}
 use Rattle.book_log.proofs.Memory.{if_err}
 use Rattle.book_log.proofs.Named.{named_less, names, one_more}
 use Rattle.book_log.proofs.strangers.read_strangers.Goals as goal

@@ -1,5 +1,6 @@
 use Rattle.book_log.proofs.Numbers.{no_text_is_none, parsed_as, wrong_is_none}
-use Rattle.book_log.proofs.Common.{◌≡◌, ◌∙◌, sym, false, subst, ParsesUnsigned, begins_wrong}
+use Rattle.book_log.proofs.Common.{◌≡◌, ◌∙◌, sym, false, subst, begins_wrong}
+use Rattle.std.specs.Str.Parse.{ParsesUnsigned}
 use Rattle.book_log.proofs.words.read_wide.Goals as goal
 
 pub returns-then-begins_wrong : goal.returns-then-begins_wrong

@@ -1,5 +1,4 @@
-use Rattle.book_log.proofs.Common.{ap, sym, ◌∙◌, seconds-zip, Book}
-use Rattle.book_log.specs.Log.{fates_of}
+use Rattle.book_log.proofs.Common.{ap, sym, ◌∙◌, seconds-zip, Book, fates_of}
 use Rattle.book_log.proofs.book.LoggedBook.fates.Goals as goal
 
 pub returns : goal.returns

@@ -1,5 +1,4 @@
-use Rattle.book_log.proofs.Common.{ap, sym, ◌∙◌, firsts-zip, seconds-zip, Book}
-use Rattle.book_log.specs.Log.{fates_of, lives_of}
+use Rattle.book_log.proofs.Common.{ap, sym, ◌∙◌, firsts-zip, seconds-zip, Book, fates_of, lives_of}
 use Rattle.book_log.proofs.book.LoggedBook.into_lists.Goals as goal
 
 pub returns-clause-lives : goal.returns-clause-lives

@@ -1,5 +1,4 @@
-use Rattle.book_log.proofs.Common.{ap, sym, ◌∙◌, firsts-zip, Book}
-use Rattle.book_log.specs.Log.{lives_of}
+use Rattle.book_log.proofs.Common.{ap, sym, ◌∙◌, firsts-zip, Book, lives_of}
 use Rattle.book_log.proofs.book.LoggedBook.lives.Goals as goal
 
 pub returns : goal.returns

@@ -1,4 +1,5 @@
-use Rattle.book_log.proofs.Common.{drop, ◌++◌, flow_words}
+use Rattle.std.proofs.Common.{drop, ◌++◌}
+use Rattle.book_log.specs.Steps.{flow_words}
 use Rattle.book_log.proofs.Cuts.{after}
 use Rattle.book_log.proofs.words.Words.flow.Goals as goal
 
