@@ -1,17 +1,10 @@
 -- An event beside a stranger has one line.
-use Rattle.world_trace.proofs.Common.{◌≡◌, List, [], ◌∷◌, ℕ, ap, ap₂, refl, sym, ◌∙◌, append-nil, Calls, Crossing}
-use Rattle.interface.specs.Calls.{Seen}
-use Rattle.net_sim.specs.World.{WorldState}
-use Rattle.net_sim.specs.WorkedMixed.{beside_third}
-use Rattle.net_sim.specs.declared.event.Event.{Event}
-use Rattle.replay.specs.declared.print.Detail.TheVariants.{Sizes}
+use Rattle.world_trace.proofs.Common.{◌≡◌, List, [], ◌∷◌, ℕ, ap, ap₂, refl, sym, ◌∙◌, append-nil, Calls, Seen, Crossing, WorldState, beside_third, Event, Sizes, event_text, line_of, change_of}
 use Rattle.world_replay.proofs.lemmas.Gained.{HaveGains, replays_show}
 use Rattle.world_replay.specs.Kinds.{HappensBy, mixed_kind}
 use Rattle.world_replay.specs.Output.{Shown, crossings_of, output}
 use Rattle.world_replay.specs.WorkedMixed.{ShowsOnly}
 use Rattle.world_script.specs.declared.event.WorldEvent.TheVariants as world
-use Rattle.world_trace.specs.Texts.{event_text, line_of}
-use Rattle.world_trace.specs.Traces.{change_of}
 use Rattle.world_trace.specs.Worked.{TracesOnly}
 use Rattle.world_trace.proofs.Telling.{crossings_gained}
 

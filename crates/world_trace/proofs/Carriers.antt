@@ -1,19 +1,21 @@
 -- A world's carrier is a raw network.
-use Rattle.world_trace.proofs.Common.{◌≡◌, Bool, true, false, List, [], ◌∷◌, ◌++◌, None, Result, Ok, Err, reverse, refl, ap, sym, subst, ◌∙◌, append-nil, All-append, All-cons, All-head, All-nil, All-tail, All, Calls, Crossing, Boxes, plain_calls, shown, WorldState, opening_world, InTurn, GoesOn, IsOneCall, crossings_shown, RawEvent, running, quiet_round, subnet_calls, IsOfRound, refused, Drive, Goes, Raw, Round, in_turn_then, replay_drives, WorldEvent, AreMade, IsRawNetwork}
-use Rattle.std.proofs.lemmas.List.Elements.{All-weaker}
+use Rattle.world_trace.proofs.Common.{◌≡◌, Bool, true, false, List, [], ◌∷◌, ◌++◌, None, Result, Ok, Err, reverse, refl, ap, sym, subst, ◌∙◌, append-nil, All, Calls, Crossing, shown, WorldState, opening_world, InTurn, crossings_shown, RawEvent, IsOfRound, WorldEvent}
+use Rattle.std.proofs.lemmas.List.Elements.{All-append, All-cons, All-head, All-nil, All-tail, All-weaker}
+use Rattle.leader1822.specs.Boxes.{Boxes, plain_calls}
+use Rattle.replay.specs.Replay.{GoesOn, IsOneCall, Happens, Replays}
+use Rattle.subnet.specs.Calls.{running, Kept, refusal_of, round_grows}
+use Rattle.subnet.specs.Events.{quiet_round, first_of}
+use Rattle.subnet.specs.Working.{subnet_calls}
+use Rattle.subnet_trace.proofs.lemmas.{refused, once, opening, placed_after, quiet_replays}
+use Rattle.world_replay.specs.Driven.{Drive, Goes, Raw, Round, IsCall}
+use Rattle.world_replay.proofs.lemmas.Driven.{in_turn_then, replay_drives, crossings_then}
+use Rattle.world_trace.specs.Carriers.{AreMade, IsRawNetwork, PlainCarriers, SubnetCarriers}
 use Rattle.interface.specs.declared.CarrierFault.{CarrierFault}
 use Rattle.interface.specs.declared.CarrierFault.TheVariants as fault
 use Rattle.replay.specs.Output.{Shown, crossings_of}
-use Rattle.replay.specs.Replay.{Happens, Replays}
-use Rattle.subnet.specs.Calls.{Kept, refusal_of, round_grows}
-use Rattle.subnet.specs.Events.{first_of}
 use Rattle.subnet_trace.specs.Told.{IsPlaced}
-use Rattle.subnet_trace.proofs.lemmas.{once, opening, placed_after, quiet_replays}
-use Rattle.world_replay.specs.Driven.{IsCall}
 use Rattle.world_replay.specs.Output as world_lines
 use Rattle.world_replay.specs.Replay as world
-use Rattle.world_replay.proofs.lemmas.Driven.{crossings_then}
-use Rattle.world_trace.specs.Carriers.{PlainCarriers, SubnetCarriers}
 
 -- ---- over any carrier
 

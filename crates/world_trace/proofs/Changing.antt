@@ -1,6 +1,9 @@
 -- The texts of what is at a host are put in the place of those before them.
-use Rattle.world_trace.proofs.Common.{◌≡◌, ℕ, ◌+◌, ◌<◌, ◌≤◌, Bool, List, [], ◌∷◌, drop, get_or, length, map, refl, ap, sym, subst, ◌∙◌, drop_all, drop_more, put_at, put_text, AllPut, AreOthers}
-use Rattle.trace.proofs.lemmas.{PutSoFar, all_put, is_within, none_put, put_more}
+use Rattle.std.proofs.Common.{◌≡◌, ℕ, ◌+◌, ◌<◌, ◌≤◌, Bool, List, [], ◌∷◌, drop, get_or, length, map, refl, ap, sym, subst, ◌∙◌}
+use Rattle.std.proofs.lemmas.List.{drop_all, drop_more}
+use Rattle.trace.specs.Changes.{put_at, put_text}
+use Rattle.trace.proofs.lemmas.{AllPut, PutSoFar, all_put, is_within, none_put, put_more}
+use Rattle.world_trace.specs.Steps.{AreOthers}
 
 -- as many are put there as come before this place, and the others are as before
 pub record ChangedSoFar {T : Type 0} (may : T → Bool) (text : T → List ℕ) (before : List (List ℕ)) (items : List T) (place : ℕ) (known : List (List ℕ)) (object : List ℕ) : Type 0 where

@@ -1,8 +1,11 @@
 -- Commands have texts of their own.
-use Rattle.world_trace.proofs.Common.{◌≡◌, ℕ, Bool, true, false, List, [], ◌∷◌, codes, if◌then◌else◌, length, refl, sym, ap, ap₂, subst, ◌∙◌, arith, false≢true, All-head, All-tail, decimal, All, bytes_eq, IsBytes, encode_upper, Command, unmarked_where, Lacks, IsShort, member, object, quoted, AreClosed, IsClosed, Spelled, also_closed, decimal_closed, first_same, member_once, none_closed, object_closed, object_once, quoted_once, rest_same, short_once, string_closed, command_object, IsCommandTold}
-use Rattle.std.proofs.Common.{slice_index_or}
+use Rattle.world_trace.proofs.Common.{false≢true, All-head, All-tail, decimal, All, bytes_eq, Command, unmarked_where, Lacks, IsShort, member, object, quoted}
+use Rattle.std.proofs.Common.{◌≡◌, ℕ, Bool, true, false, List, [], ◌∷◌, codes, if◌then◌else◌, length, refl, sym, ap, ap₂, subst, ◌∙◌, arith, slice_index_or}
+use Rattle.hex.specs.Hex.{IsBytes, encode_upper}
+use Rattle.trace.proofs.lemmas.{AreClosed, IsClosed, Spelled, also_closed, decimal_closed, first_same, member_once, none_closed, object_closed, object_once, quoted_once, rest_same, short_once, string_closed}
+use Rattle.world_trace.specs.Texts.{command_object}
+use Rattle.world_trace.specs.Told.{IsCommandTold, numbers_of, quoted_by}
 use Rattle.ncp_control.specs.declared.command.Command.TheVariants as command
-use Rattle.world_trace.specs.Told.{numbers_of, quoted_by}
 use Rattle.world_trace.proofs.Fields.{AreNames, all_names, are_names, octets_spelled}
 
 -- ---- words

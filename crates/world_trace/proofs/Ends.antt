@@ -1,6 +1,6 @@
 -- The pieces of an end and of a user.
-use Rattle.world_trace.proofs.Common.{◌≡◌, ℕ, List, [], ◌∷◌, ◌++◌, codes, append_assoc, member, object}
-use Rattle.trace.specs.Texts.{of_kind}
+use Rattle.world_trace.proofs.Common.{◌≡◌, ℕ, List, [], ◌∷◌, ◌++◌, codes, append_assoc}
+use Rattle.trace.specs.Texts.{member, object, of_kind}
 
 abbrev flat_end : List ℕ → List ℕ → List ℕ → List ℕ → List ℕ → List ℕ → List ℕ → List ℕ → List ℕ → List ℕ → List ℕ
 flat_end own foreign kind mine requests closing link size allocation waiting =

@@ -1,8 +1,7 @@
 -- What happened where a write failed.
-use Rattle.world_trace.proofs.Common.{◌≡◌, ℕ, List, [], ◌∷◌, ◌++◌, ap, arith, length, length-append, Calls, WorldState}
-use Rattle.world_trace.proofs.Common.{Event, Spot, MayTell, AllParts}
+use Rattle.world_trace.proofs.Common.{◌≡◌, ℕ, List, [], ◌∷◌, ◌++◌, ap, arith, length, length-append, Calls, WorldState, Event, Spot, AllParts}
+use Rattle.world_trace.specs.Traces.{MayTell, EndsAt}
 use Rattle.world_script.specs.declared.event.WorldEvent.TheVariants as world
-use Rattle.world_trace.specs.Traces.{EndsAt}
 
 pub row_nothing : {C : Type 0} (calls : Calls C) (members : C → AllParts) (spot : Spot) (old new : WorldState C) (lines : List (List ℕ)) → EndsAt calls members (MayTell calls) spot old (world.Calm 0) new lines → ⊥
 row_nothing calls members spot old new lines h =

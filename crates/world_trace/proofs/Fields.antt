@@ -1,13 +1,14 @@
 -- Objects whose members have fixed names, and values that have texts of their own.
-use Rattle.world_trace.proofs.Common.{◌≡◌, ℕ, ◌==◌, Bool, true, false, List, [], ◌∷◌, ◌++◌, codes, if◌then◌else◌, length, Option, Some, None, IfSome, Ok, refl, sym, ap, ap₂, subst, ◌∙◌, arith, false≢true, append_assoc, All-cons, All-head, All-tail, decimal, All, IsBytes, encode_upper, Lacks, IsShort, bits_members, member, object, quoted, Any, AreClosed, IsClosed, Spelled, also_closed, decimal_closed, first_same, member_once, none_closed, object_closed, object_once, quoted_once, rest_same, short_once, string_closed, number_text}
-use Rattle.std.proofs.Common.{lit<}
+use Rattle.world_trace.proofs.Common.{false≢true, append_assoc, All-cons, All-head, All-tail, decimal, Lacks, IsShort, bits_members, member, object, quoted}
+use Rattle.std.proofs.Common.{◌≡◌, ℕ, ◌==◌, Bool, true, false, List, [], ◌∷◌, ◌++◌, codes, if◌then◌else◌, length, Option, Some, None, IfSome, Ok, refl, sym, ap, ap₂, subst, ◌∙◌, arith, lit<}
+use Rattle.std.specs.List.{All, list_any}
+use Rattle.hex.specs.Hex.{IsBytes, encode_upper, decode_of}
+use Rattle.trace.proofs.lemmas.{Any, AreClosed, IsClosed, Spelled, also_closed, decimal_closed, first_same, member_once, none_closed, object_closed, object_once, quoted_once, rest_same, short_once, string_closed, bits_closed, bits_same, digits_lack, word_closed}
+use Rattle.world_trace.specs.Texts.{number_text}
 use Rattle.std.proofs.lemmas.Fmt.{decimal_is_IsNumeral_wide}
-use Rattle.std.specs.List.{list_any}
 use Rattle.std.specs.Str.Parse.{IsNumeral}
 use Rattle.hex.proofs.HexLemmas.{decode_of-encode_upper}
-use Rattle.hex.specs.Hex.{decode_of}
 use Rattle.script.proofs.lemmas.{spelled_digits}
-use Rattle.trace.proofs.lemmas.{bits_closed, bits_same, digits_lack, word_closed}
 
 -- ---- members
 

@@ -1,5 +1,6 @@
 -- The pieces of a line.
-use Rattle.world_trace.proofs.Common.{◌≡◌, ℕ, List, [], ◌∷◌, ◌++◌, codes, Option, ap, refl, subst, sym, ◌∙◌, append_assoc, Appends, appends_more, ended_line, member, object, quoted}
+use Rattle.world_trace.proofs.Common.{◌≡◌, ℕ, List, [], ◌∷◌, ◌++◌, codes, Option, ap, refl, subst, sym, ◌∙◌, append_assoc, Appends, ended_line, member, object, quoted}
+use Rattle.replay.proofs.lemmas.{appends_more}
 
 -- programs and services, and the end of a line
 abbrev hosts : List ℕ → List ℕ → List ℕ

@@ -1,11 +1,11 @@
 -- Lists are shown item by item.
-use Rattle.world_trace.proofs.Common.{◌≡◌, ℕ, ◌+◌, ◌%◌, ◌<◌, ◌≤◌, drop, List, [], ◌∷◌, ◌++◌, codes, length, map, take, get_or, refl, ap, sym, ◌∙◌, append_assoc, append-nil, drop_all, map-append, flat_map, all_in, Service, encode_upper, array, mark_after, marked, service_object}
-use Rattle.std.proofs.Common.{◌/◌, slice_index}
-use Rattle.std.proofs.lemmas.List.{take_more}
+use Rattle.world_trace.proofs.Common.{flat_map, all_in, Service, mark_after, marked, service_object}
+use Rattle.std.proofs.Common.{◌≡◌, ℕ, ◌+◌, ◌%◌, ◌<◌, ◌≤◌, drop, List, [], ◌∷◌, ◌++◌, codes, length, map, take, get_or, refl, ap, sym, ◌∙◌, ◌/◌, slice_index}
+use Rattle.std.proofs.lemmas.List.{append_assoc, append-nil, drop_all, map-append, take_more}
+use Rattle.hex.specs.Hex.{encode_upper, encode_with, upper_digits}
+use Rattle.trace.specs.Texts.{array, further, listed}
 use Rattle.std.proofs.lemmas.Grind.{flat_map-append}
-use Rattle.hex.specs.Hex.{encode_with, upper_digits}
 use Rattle.hex.proofs.Pairs.{encode_with-drop}
-use Rattle.trace.specs.Texts.{further, listed}
 
 abbrev after_comma : List ℕ → List ℕ
 after_comma y = codes "," ++ y

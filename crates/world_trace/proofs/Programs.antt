@@ -1,14 +1,9 @@
 -- The programs of hosts have texts of their own.
-use Rattle.world_trace.proofs.Common.{◌≡◌, ℕ, ◌%◌, ◌==◌, Bool, true, false, List, [], ◌∷◌, codes, if◌then◌else◌, map}
-use Rattle.world_trace.proofs.Common.{Option, Some, None, IfSome, refl, sym, ap, ap₂, subst, ◌∙◌, arith, All-cons}
-use Rattle.world_trace.proofs.Common.{All-head, All-nil, All-tail, decimal, All, bytes_eq, Host, host_text, Seat}
-use Rattle.world_trace.proofs.Common.{unmarked_where, Lacks, NcpState, Peer, IsHostNamed, IsShort, array, bits_members}
-use Rattle.world_trace.proofs.Common.{bool_text, member, object, quoted, Any, AreClosed, IsClosed, Spelled}
-use Rattle.world_trace.proofs.Common.{bool_spelled, decimal_closed, first_same, host_spelled, host_words, lists_spelled}
-use Rattle.world_trace.proofs.Common.{member_closed, member_once, none_closed, object_once, rest_same, short_once}
-use Rattle.world_trace.proofs.Common.{string_closed, kind_text, ProgramLasts, SeatLasts, allocation_object}
-use Rattle.world_trace.proofs.Common.{closings_object, command_object, number_text, requests_object, seat_member}
-use Rattle.world_trace.proofs.Common.{IsCommandTold, IsListenerTold, IsPairTold, IsSeatTold}
+use Rattle.world_trace.proofs.Common.{All-cons, All-head, All-nil, All-tail, decimal, All, bytes_eq, Host, host_text, Seat, unmarked_where, Lacks, NcpState, Peer, IsHostNamed, IsShort, array, bits_members, bool_text, member, object, quoted, kind_text, ProgramLasts, SeatLasts}
+use Rattle.std.proofs.Common.{◌≡◌, ℕ, ◌%◌, ◌==◌, Bool, true, false, List, [], ◌∷◌, codes, if◌then◌else◌, map, Option, Some, None, IfSome, refl, sym, ap, ap₂, subst, ◌∙◌, arith}
+use Rattle.trace.proofs.lemmas.{Any, AreClosed, IsClosed, Spelled, bool_spelled, decimal_closed, first_same, host_spelled, host_words, lists_spelled, member_closed, member_once, none_closed, object_once, rest_same, short_once, string_closed, Words, strings_spelled}
+use Rattle.world_trace.specs.Texts.{allocation_object, closings_object, command_object, number_text, requests_object, seat_member, closing_word, end_object, listener_object, pair_object, phase_word, program_text, programs_text}
+use Rattle.world_trace.specs.Told.{IsCommandTold, IsListenerTold, IsPairTold, IsSeatTold, IsAllocationTold, IsEndTold, IsProgramTold}
 use Rattle.host_pairs.specs.declared.entry.Entry.{Entry}
 use Rattle.host_pairs.specs.declared.entry.Closing.{Closing}
 use Rattle.host_pairs.specs.declared.entry.Closing.TheVariants as closing
@@ -16,10 +11,6 @@ use Rattle.host_pairs.specs.declared.listener.Listener.{Listener}
 use Rattle.ncp_control.specs.declared.allocation.Allocation.{Allocation}
 use Rattle.ncp_control.specs.declared.phase.Phase.{Phase}
 use Rattle.ncp_control.specs.declared.phase.Phase.TheVariants as phase
-use Rattle.trace.proofs.lemmas.{Words, strings_spelled}
-use Rattle.world_trace.specs.Texts.{closing_word, end_object, listener_object, pair_object, phase_word, program_text}
-use Rattle.world_trace.specs.Texts.{programs_text}
-use Rattle.world_trace.specs.Told.{IsAllocationTold, IsEndTold, IsProgramTold}
 use Rattle.world_trace.proofs.CommandTexts.{command_spelled}
 use Rattle.world_trace.proofs.Fields.{also, bits_object, decimal_spelled, fields, fields_spelled, name_once}
 use Rattle.world_trace.proofs.Fields.{null_closed, number_spelled}

@@ -1,12 +1,11 @@
 -- The world after a trace is one that the replay of its script comes to.
-use Rattle.world_trace.proofs.Common.{◌≡◌, ℕ, zero, suc, ◌+◌, List, [], ◌∷◌, ◌++◌, length, map, refl, subst, arith}
-use Rattle.world_trace.proofs.Common.{length-append, Calls, WorldState, opening_world, InTurn, numbered_from, Spot}
-use Rattle.world_trace.proofs.Common.{WorldEvent, TellsRound, TracesWorld, first_rounds, AllParts}
+use Rattle.world_trace.proofs.Common.{length-append, Calls, WorldState, opening_world, InTurn, numbered_from, Spot, WorldEvent, AllParts}
+use Rattle.std.proofs.Common.{◌≡◌, ℕ, zero, suc, ◌+◌, List, [], ◌∷◌, ◌++◌, length, map, refl, subst, arith}
+use Rattle.world_trace.specs.Traces.{TellsRound, TracesWorld, first_rounds, TellsAt, TellsIn}
 use Rattle.world_replay.specs.Output.{Shown}
 use Rattle.world_replay.specs.Replay.{Happens, Replays, rounds_of}
 use Rattle.world_replay.proofs.lemmas.CalmRounds.{rounds_calm}
 use Rattle.world_script.specs.declared.event.WorldEvent.TheVariants as world
-use Rattle.world_trace.specs.Traces.{TellsAt, TellsIn}
 use Rattle.world_trace.proofs.Rounds.Passing.{round_passes}
 use Rattle.world_trace.proofs.Unspent.Worlds.{Runs, happens_runs, opening_lasts}
 

@@ -1,11 +1,14 @@
 -- The services of hosts have texts of their own.
-use Rattle.world_trace.proofs.Common.{◌≡◌, ℕ, Bool, List, [], ◌∷◌, ◌++◌, codes, map, Option, Some, None, IfSome, refl, sym, ap, ap₂, ◌∙◌, All-cons, All-head, All-nil, All-tail, decimal, All, encode_upper, ServicesState, Service, ServerState, UserState, Host, host_text, ServiceSeat, unmarked_where, EchoState, TerminalState, IsHostNamed, IsShort, array, bits_members, bool_text, member, object, quoted, Any, IsClosed, Spelled, bool_spelled, decimal_closed, first_same, host_spelled, host_words, lists_spelled, member_closed, member_once, none_closed, object_once, rest_same, short_once, string_closed, ServiceLasts, ServicesLast, asked_object, ends_object, number_text, service_object, services_member, sockets_object, IsServed, IsServiceTold}
+use Rattle.world_trace.proofs.Common.{◌≡◌, ℕ, Bool, List, [], ◌∷◌, ◌++◌, codes, map, Option, Some, None, IfSome, refl, sym, ap, ap₂, ◌∙◌, All-cons, All-head, All-nil, All-tail, decimal, All, encode_upper, ServicesState, Service, Host, host_text, ServiceSeat, unmarked_where, IsHostNamed, IsShort, array, bits_members, bool_text, member, object, quoted, ServiceLasts, ServicesLast}
+use Rattle.icp.specs.Server.{ServerState}
+use Rattle.icp.specs.User.{UserState}
+use Rattle.terminal.specs.Machines.{EchoState, TerminalState}
+use Rattle.trace.proofs.lemmas.{Any, IsClosed, Spelled, bool_spelled, decimal_closed, first_same, host_spelled, host_words, lists_spelled, member_closed, member_once, none_closed, object_once, rest_same, short_once, string_closed, other_first}
+use Rattle.world_trace.specs.Texts.{asked_object, ends_object, number_text, service_object, services_member, sockets_object, met_object, partner_text, running_object, server_object, services_text, user_object}
+use Rattle.world_trace.specs.Told.{IsServed, IsServiceTold, IsPartnerTold}
 use Rattle.std.proofs.lemmas.List.{append_cancel_left}
 use Rattle.host_services.specs.declared.service.Service.TheVariants as service
 use Rattle.icp.specs.declared.notices.Partner.{Partner}
-use Rattle.trace.proofs.lemmas.{other_first}
-use Rattle.world_trace.specs.Texts.{met_object, partner_text, running_object, server_object, services_text, user_object}
-use Rattle.world_trace.specs.Told.{IsPartnerTold}
 use Rattle.world_trace.proofs.Fields.{also, bits_object, fields, fields_spelled, name_once, null_closed, number_spelled, octets_spelled}
 use Rattle.world_trace.proofs.Programs.{no_word}
 

@@ -1,15 +1,18 @@
 -- What each call of a carrier keeps holds of the carrier of each world that the replay of a script comes to.
-use Rattle.world_trace.proofs.Common.{false, ◌≡◌, inl, inr, List, [], ◌∷◌, ◌++◌, Option, None, Some, Result, reverse, ap, refl, sym, subst, ◌∙◌, append-nil, reverse-append, reverse-reverse, All-append, All-cons, All-head, All-nil, All-same, All-tail, All, Calls, Host, Crossing, WorldState, opening_world, Event, Seat, InTurn, Refused, shown_crossings, GoesOn, IsMessage, IsNetEvent, NcpState, next_out, Drive, Goes, IsDriven, IsDrivenIn, Raw, Round, replay_drives, WorldEvent, IsReached, IsSaid}
+use Rattle.world_trace.proofs.Common.{false, ◌≡◌, inl, inr, List, [], ◌∷◌, ◌++◌, Option, None, Some, Result, reverse, ap, refl, sym, subst, ◌∙◌, All-append, All-cons, All-head, All-nil, All-same, All-tail, All, Calls, Host, Crossing, WorldState, opening_world, Event, Seat, InTurn, NcpState, next_out, WorldEvent, IsReached, IsSaid}
+use Rattle.std.proofs.lemmas.List.{append-nil, reverse-append, reverse-reverse}
+use Rattle.replay.specs.Output.{Refused, shown_crossings, Shown, crossings_of}
+use Rattle.replay.specs.Replay.{GoesOn, Happens}
+use Rattle.script.specs.Spelling.{IsMessage, IsNetEvent}
+use Rattle.world_replay.specs.Driven.{Drive, Goes, IsDriven, IsDrivenIn, Raw, Round, IsCourse, call_of, program_of}
+use Rattle.world_replay.proofs.lemmas.Driven.{replay_drives}
 use Rattle.std.specs.Option.{option_and_then, option_map, option_to_list}
 use Rattle.interface.specs.declared.CarrierFault.{CarrierFault}
 use Rattle.interface.specs.declared.HostMessage.{HostMessage}
 use Rattle.interface.specs.declared.NetEvent.{NetEvent}
 use Rattle.interface.specs.declared.crossing.Crossing.TheVariants as crossing
 use Rattle.net_sim.specs.declared.event.Event.TheVariants as event
-use Rattle.replay.specs.Output.{Shown, crossings_of}
-use Rattle.replay.specs.Replay.{Happens}
 use Rattle.script.specs.declared.event.RawEvent.TheVariants as raw
-use Rattle.world_replay.specs.Driven.{IsCourse, call_of, program_of}
 use Rattle.world_replay.specs.Replay.{IsOfCalm}
 use Rattle.world_script.specs.WorldSpelling.{IsWorldEvent}
 use Rattle.world_script.specs.declared.event.WorldEvent.TheVariants as script

@@ -1,30 +1,21 @@
 -- What an event leaves as it was.
-use Rattle.world_trace.proofs.Common.{◌≡◌, inl, inr, ℕ, suc, ◌≤◌, Bool, true, false, ◌||◌, List, [], ◌∷◌, length, map}
-use Rattle.world_trace.proofs.Common.{Option, Some, None, Result, Ok, Err, arith, ap, refl, sym, subst, ◌∙◌, false≢true}
-use Rattle.world_trace.proofs.Common.{Calls, crossing_of, is_halt, is_memory, Host, same_host, Crossing, Notice}
-use Rattle.world_trace.proofs.Common.{ServiceDeskState, ServicesState, opening_desk, line_bits, all_told, asked}
-use Rattle.world_trace.proofs.Common.{crossed, shown, AskGives, AtSeat, DoesOrHalts, Halts, OfferEnds, OfferGives}
-use Rattle.world_trace.proofs.Common.{QuietEnds, StepGives, TakeEnds, TakeGives, TypeGives, WorldState, noticed}
-use Rattle.world_trace.proofs.Common.{seat_of, seated, serviced, services_of, stops, tended, with_program}
-use Rattle.world_trace.proofs.Common.{with_server, with_services, with_user, world_heard, world_moved, Event, Ask}
-use Rattle.world_trace.proofs.Common.{Offer, Out, Quiet, Server, Take, Typed, User, WorldFault, Seat}
-use Rattle.world_trace.proofs.Common.{ServiceSeat, accepted, NcpState, refusal, served, served_notices, next_out}
-use Rattle.world_trace.proofs.Common.{offered, NcpFault, Request, HappensInCalm, AreOthers, IsAsBefore, IsStill}
-use Rattle.world_trace.proofs.Common.{at_host, event_of, is_of_network, seat_place, service_place, seat_member}
-use Rattle.world_trace.proofs.Common.{services_member, CalmEvent, AllParts}
+use Rattle.world_trace.proofs.Common.{false≢true, Host, same_host, Crossing, Notice, ServiceDeskState, ServicesState, opening_desk, line_bits, all_told, asked, crossed, shown, Event, WorldFault, Seat, ServiceSeat, accepted, NcpState, refusal, served, served_notices, next_out, offered, NcpFault, Request, seat_member, services_member, CalmEvent, AllParts}
+use Rattle.std.proofs.Common.{◌≡◌, inl, inr, ℕ, suc, ◌≤◌, Bool, true, false, ◌||◌, List, [], ◌∷◌, length, map, Option, Some, None, Result, Ok, Err, arith, ap, refl, sym, subst, ◌∙◌}
+use Rattle.interface.specs.Calls.{Calls, crossing_of, is_halt, is_memory}
+use Rattle.net_sim.specs.World.{AskGives, AtSeat, DoesOrHalts, Halts, OfferEnds, OfferGives, QuietEnds, StepGives, TakeEnds, TakeGives, TypeGives, WorldState, noticed, seat_of, seated, serviced, services_of, stops, tended, with_program, with_server, with_services, with_user, world_heard, world_moved, EventGives, turn_of}
+use Rattle.net_sim.specs.declared.event.Event.TheVariants.{Ask, Offer, Out, Quiet, Server, Take, Typed, User, Net}
+use Rattle.world_replay.specs.Replay.{HappensInCalm}
+use Rattle.world_trace.specs.Steps.{AreOthers, IsAsBefore, IsStill, at_host, event_of, is_of_network, seat_place, service_place, at_one, host_of}
 use Rattle.interface.specs.declared.carrier.CarrierFault.{CarrierFault}
 use Rattle.interface.specs.declared.crossing.Crossing.TheVariants as crossing
 use Rattle.interface.specs.declared.crossing.Inbound.{Inbound}
 use Rattle.interface.specs.declared.message.HostMessage.{HostMessage}
 use Rattle.host_services.specs.Turns as services
 use Rattle.net_sim.proofs.lemmas.{memory_stops}
-use Rattle.net_sim.specs.World.{EventGives, turn_of}
-use Rattle.net_sim.specs.declared.event.Event.TheVariants.{Net}
 use Rattle.sockets.specs.declared.request.Request.TheVariants as request
 use Rattle.world_replay.proofs.lemmas.Driven.{step_runs}
 use Rattle.world_replay.proofs.lemmas.{at_seat, if_stopped, one_crossed}
 use Rattle.world_replay.specs.Output.{Shown}
-use Rattle.world_trace.specs.Steps.{at_one, host_of}
 use Rattle.world_trace.specs.declared.calm.CalmEvent.TheVariants as calm
 
 abbrev Answer : Type 0

@@ -1,31 +1,20 @@
 -- Events of a world with strangers have their lines.
-use Rattle.world_trace.proofs.Common.{◌≡◌, inl, inr, ℕ, Bool, true, false, List, [], ◌∷◌, Option, Some, None, Result}
-use Rattle.world_trace.proofs.Common.{Ok, Err, ap, refl, sym, subst, ◌∙◌, if◌then◌else◌, Appends, Calls}
-use Rattle.world_trace.proofs.Common.{Event, Host, Seat, ServiceSeat, Take, ReplayFault, Spot, WorldFault}
-use Rattle.world_trace.proofs.Common.{WorldState, ended_line, is_of_network, shown, stops}
-use Rattle.world_trace.proofs.Common.{EventEnds, AllParts}
+use Rattle.world_trace.proofs.Common.{Appends, Calls, Event, Host, Seat, ServiceSeat, Take, Out, ReplayFault, Spot, WorldFault, ended_line, shown, AllParts, Sizes, WorldEvent, event_text, line_of, change_of, Passed}
+use Rattle.std.proofs.Common.{◌≡◌, inl, inr, ℕ, Bool, true, false, List, [], ◌∷◌, Option, Some, None, Result, Ok, Err, ap, refl, sym, subst, ◌∙◌, if◌then◌else◌}
+use Rattle.net_sim.specs.World.{WorldState, stops, Refuses, StepGives}
+use Rattle.world_trace.specs.Steps.{is_of_network, EventEnds, at_one, passed_line}
 use Rattle.interface.specs.declared.carrier.CarrierFault.{CarrierFault}
 use Rattle.interface.specs.declared.crossing.Inbound.{Inbound}
 use Rattle.interface.specs.declared.crossing.Inbound.TheVariants as inbound
 use Rattle.interface.specs.declared.message.HostMessage.{HostMessage}
-use Rattle.net_sim.specs.MixedWorlds.{AmongGives, AskedGives, FetchEnds, MixedStepGives}
-use Rattle.net_sim.specs.MixedWorlds.{OutEnds, asked_at, is_strange, strange_in}
-use Rattle.world_trace.proofs.Common.{Out}
-use Rattle.net_sim.specs.World.{Refuses, StepGives}
+use Rattle.net_sim.specs.MixedWorlds.{AmongGives, AskedGives, FetchEnds, MixedStepGives, OutEnds, asked_at, is_strange, strange_in}
 use Rattle.replay.specs.declared.events.ReplayFault.TheVariants as fault
-use Rattle.replay.specs.declared.print.Detail.TheVariants.{Sizes}
-use Rattle.world_replay.specs.Kinds.{BreaksOffBy, EventGivesAmong, HappensBy, MayDoBy, RunsOutBy, StopsBy}
-use Rattle.world_replay.specs.Kinds.{mixed_kind}
+use Rattle.world_replay.specs.Kinds.{BreaksOffBy, EventGivesAmong, HappensBy, MayDoBy, RunsOutBy, StopsBy, mixed_kind}
 use Rattle.world_replay.specs.Output.{Shown, output}
 use Rattle.world_replay.proofs.lemmas.{on_either}
-use Rattle.world_script.specs.declared.event.WorldEvent.{WorldEvent}
 use Rattle.world_script.specs.declared.event.WorldEvent.TheVariants as world
 use Rattle.world_trace.specs.MixedSteps.{HasPassedMixed, MixedEnds, EventEndsAmong, mixed_reach}
 use Rattle.world_trace.specs.MixedTraces.{StopsMixed, TellsMixed}
-use Rattle.world_trace.specs.Steps.{at_one, passed_line}
-use Rattle.world_trace.specs.Texts.{event_text, line_of}
-use Rattle.world_trace.specs.Traces.{change_of}
-use Rattle.world_trace.specs.declared.line.Passed.{Passed}
 use Rattle.world_trace.specs.declared.mixed.Reach.TheVariants as reach
 use Rattle.world_trace.proofs.Stays.{AtOthers, event_others, halts_not, hosts_same, same_others}
 use Rattle.world_trace.proofs.Telling.{failed_by, last_one, line_by, one_line}

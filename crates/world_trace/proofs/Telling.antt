@@ -1,33 +1,23 @@
 -- Events are traced one after the other, and one of them may be the last.
-use Rattle.world_trace.proofs.Common.{Bool, true, false, nat_lt, lt-ltb, ◌≡◌, ◌⊎◌, inl, inr, ℕ, suc, ◌<◌, ◌+◌, List, []}
-use Rattle.world_trace.proofs.Common.{◌∷◌, ◌++◌, drop, get_or, length, reverse, Option, Some, Result, Ok, Err, arith}
-use Rattle.world_trace.proofs.Common.{refl, sym, ap, ap₂, map, subst, ◌∙◌, false≢true, append_assoc, append-nil}
-use Rattle.world_trace.proofs.Common.{length-append, reverse-append, reverse-reverse, Appends, Crossing, WorldState}
-use Rattle.world_trace.proofs.Common.{Calls, Event, appends_more, appends_none, last_shown, last_written, one_written}
-use Rattle.world_trace.proofs.Common.{Happening, InTurn, text_of, ReplayFault, ended_line, WritesTrace, numbered_from}
-use Rattle.world_trace.proofs.Common.{Spot, HappensInCalm, MayDo, StopsIn, WorldEvent, AreTextsOf, EventEnds}
-use Rattle.world_trace.proofs.Common.{IsAsBefore, StepEnds, state_objects, event_text, line_of, seat_member}
-use Rattle.world_trace.proofs.Common.{services_member, Texts, none_changed, no_part_changed, object, shown, MayTell}
-use Rattle.world_trace.proofs.Common.{StopsOne, TellsInCalm, changed_parts, AllParts}
-use Rattle.std.proofs.lemmas.List.{length-reverse}
+use Rattle.world_trace.proofs.Common.{false≢true, Appends, Crossing, WorldState, Calls, Event, ReplayFault, ended_line, WritesTrace, numbered_from, Spot, WorldEvent, Texts, none_changed, no_part_changed, object, shown, AllParts, Sizes, TopologyFields, Passed}
+use Rattle.std.proofs.Common.{Bool, true, false, nat_lt, lt-ltb, ◌≡◌, ◌⊎◌, inl, inr, ℕ, suc, ◌<◌, ◌+◌, List, [], ◌∷◌, ◌++◌, drop, get_or, length, reverse, Option, Some, Result, Ok, Err, arith, refl, sym, ap, ap₂, map, subst, ◌∙◌}
+use Rattle.std.proofs.lemmas.List.{append_assoc, append-nil, length-append, reverse-append, reverse-reverse, length-reverse}
+use Rattle.replay.proofs.lemmas.{appends_more, appends_none, last_shown, last_written, one_written}
+use Rattle.replay.specs.InTurn.{Happening, InTurn, text_of, EndsInTurn}
+use Rattle.world_replay.specs.Replay.{HappensInCalm, MayDo, StopsIn, EndsIn, EventGives, Happens, MayStep, Replays}
+use Rattle.world_trace.specs.Steps.{AreTextsOf, EventEnds, IsAsBefore, StepEnds, state_objects, AreChanged, AreChanges, HasPassed, OneEnds, Shows, ShowsInCalm, passed_line}
+use Rattle.world_trace.specs.Texts.{event_text, line_of, seat_member, services_member, opening_text, world_line}
+use Rattle.world_trace.specs.Traces.{MayTell, StopsOne, TellsInCalm, AfterOpening, IsUnchanged, TellsOne, change_of, state_of}
+use Rattle.trace.specs.Changes.{changed_parts, changed}
 use Rattle.std.proofs.Math.Seq.{drop-append_seam}
-use Rattle.replay.specs.InTurn.{EndsInTurn}
 use Rattle.replay.specs.declared.events.ReplayFault.TheVariants as fault
-use Rattle.replay.specs.declared.print.Detail.TheVariants.{Sizes}
-use Rattle.topology.specs.Topology.{TopologyFields}
 use Rattle.world_replay.specs.Output.{Shown, Writes, crossings_of, output}
 use Rattle.world_replay.proofs.lemmas.Gained.{HaveGains, news_gained}
 use Rattle.world_replay.proofs.lemmas.Replays.{gains_once, same_news}
 use Rattle.world_replay.specs.Gains.{Gains}
-use Rattle.world_replay.specs.Replay.{EndsIn, EventGives, Happens, MayStep, Replays}
 use Rattle.world_script.specs.declared.event.WorldEvent.TheVariants as world
-use Rattle.world_trace.specs.Steps.{AreChanged, AreChanges, HasPassed, OneEnds, Shows, ShowsInCalm, passed_line}
-use Rattle.world_trace.specs.Texts.{opening_text, world_line}
-use Rattle.world_trace.specs.declared.line.Passed.{Passed}
 use Rattle.world_trace.specs.declared.texts.Changes.{Changes}
-use Rattle.trace.specs.Changes.{changed}
 use Rattle.world_trace.proofs.Stays.{IsQuiet}
-use Rattle.world_trace.specs.Traces.{AfterOpening, IsUnchanged, TellsOne, change_of, state_of}
 
 -- ---- one event
 

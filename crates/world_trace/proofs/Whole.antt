@@ -1,10 +1,11 @@
 -- The texts of programs and services say all of a world but its carrier and what is kept.
-use Rattle.world_trace.proofs.Common.{◌≡◌, List, [], ◌∷◌, Some, refl, ap, sym, ◌∙◌, All-cons, All-head, All-nil, All-tail, All, no_services, Calls, Host, WorldState, opening_seats, opening_services, opening_world, opening_state, IsHostNamed, WorldEvent, AreNumbersTold, IsListenerTold, IsPairTold, IsSeatTold, IsServed, IsServiceTold, IsWorldTold}
+use Rattle.world_trace.proofs.Common.{◌≡◌, List, [], ◌∷◌, Some, refl, ap, sym, ◌∙◌, All-cons, All-head, All-nil, All-tail, All, no_services, Calls, Host, opening_state, IsHostNamed, WorldEvent}
+use Rattle.net_sim.specs.World.{WorldState, opening_seats, opening_services, opening_world}
+use Rattle.world_trace.specs.Told.{AreNumbersTold, IsListenerTold, IsPairTold, IsSeatTold, IsServed, IsServiceTold, IsWorldTold, HaveSameTexts}
 use Rattle.world_replay.specs.Output.{Shown}
 use Rattle.net_sim.proofs.lemmas.{calm_same, step_same}
 use Rattle.world_replay.specs.Replay.{Happens, Replays}
 use Rattle.world_script.specs.declared.event.WorldEvent.TheVariants as script
-use Rattle.world_trace.specs.Told.{HaveSameTexts}
 use Rattle.world_trace.proofs.Programs.{programs_once}
 use Rattle.world_trace.proofs.Running.{services_once}
 use Rattle.world_trace.proofs.Unspent.Worlds.{Runs, opening_lasts, replay_runs}

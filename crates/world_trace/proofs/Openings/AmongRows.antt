@@ -1,18 +1,9 @@
 -- Rows of traces among strangers.
-use Rattle.world_trace.proofs.Common.{◌≡◌, ◌⊎◌, inl, inr, ℕ, List, [], ◌∷◌, ◌++◌, Result, codes, ap, ap₂, ◌∙◌}
-use Rattle.world_trace.proofs.Common.{Calls, AllParts, Spot}
+use Rattle.world_trace.proofs.Common.{◌≡◌, ◌⊎◌, inl, inr, ℕ, List, [], ◌∷◌, ◌++◌, Result, codes, ap, ap₂, ◌∙◌, Calls, Seen, AllParts, Spot, WorldState, beside_third, Event, WorldFault, TopologyFields, WorldEvent}
 use Rattle.std.specs.Fmt.{digits}
-use Rattle.interface.specs.Calls.{Seen}
 use Rattle.net_sim.specs.MixedWorlds.{MixedStepGives}
-use Rattle.net_sim.specs.World.{WorldState}
-use Rattle.net_sim.specs.WorkedMixed.{beside_third}
-use Rattle.net_sim.specs.declared.event.Event.{Event}
-use Rattle.net_sim.specs.declared.event.WorldFault.{WorldFault}
-use Rattle.topology.specs.Topology.{TopologyFields}
-use Rattle.world_script.specs.declared.event.WorldEvent.{WorldEvent}
 use Rattle.world_script.specs.declared.event.WorldEvent.TheVariants as script
-use Rattle.world_trace.specs.MixedTraces.{AfterMixedOpening, AllTell, MayTellMixed, MixedTraceFails, StopsMixed}
-use Rattle.world_trace.specs.MixedTraces.{TellsMixedAt}
+use Rattle.world_trace.specs.MixedTraces.{AfterMixedOpening, AllTell, MayTellMixed, MixedTraceFails, StopsMixed, TellsMixedAt}
 use Rattle.world_trace.specs.Texts.{opening_text}
 use Rattle.world_trace.specs.Traces.{state_of}
 use Rattle.world_trace.specs.Worked.{PrintsSpot}

@@ -1,5 +1,7 @@
 -- Calls of a carrier as events of a raw network.
-use Rattle.world_trace.proofs.Common.{◌≡◌, List, [], ◌∷◌, ◌++◌, ap, arith, refl, subst, All-head, All, Host, RawEvent, first, second, IsOfRound, Raw, Round, AreMade}
+use Rattle.world_trace.proofs.Common.{◌≡◌, List, [], ◌∷◌, ◌++◌, ap, arith, refl, subst, All-head, All, Host, RawEvent, first, second, IsOfRound}
+use Rattle.world_replay.specs.Driven.{Raw, Round}
+use Rattle.world_trace.specs.Carriers.{AreMade}
 use Rattle.script.specs.declared.event.RawEvent.TheVariants as raw
 
 pub one_made : AreMade (Raw (raw.Take first) ∷ []) (raw.Take first ∷ [])

@@ -1,10 +1,12 @@
 -- Small carriers as raw networks.
-use Rattle.world_trace.proofs.Common.{◌≡◌, inl, ℕ, List, [], ◌∷◌, ◌++◌, Ok, reverse, refl, ap, ap₂, sym, subst, ◌∙◌, arith, append-nil, All-cons, All-head, All-nil, All-tail, All, Calls, WorldState, Event, InTurn, IsOneCall, RawEvent, IsOfRound, Drive, IsDriven, IsDrivenIn, Raw, Round, AreMade, IsRawNetwork}
+use Rattle.world_trace.proofs.Common.{◌≡◌, inl, ℕ, List, [], ◌∷◌, ◌++◌, Ok, reverse, refl, ap, ap₂, sym, subst, ◌∙◌, arith, append-nil, All-cons, All-head, All-nil, All-tail, All, Calls, WorldState, Event, InTurn, RawEvent, IsOfRound}
+use Rattle.replay.specs.Replay.{IsOneCall, Happens, Replays}
+use Rattle.world_replay.specs.Driven.{Drive, IsDriven, IsDrivenIn, Raw, Round}
+use Rattle.world_trace.specs.Carriers.{AreMade, IsRawNetwork}
 use Rattle.interface.specs.declared.event.NetEvent.{NetEvent}
 use Rattle.interface.specs.declared.event.NetEvent.TheVariants as net
 use Rattle.net_sim.specs.declared.event.Event.TheVariants as event
 use Rattle.replay.specs.Output.{Shown, crossings_of}
-use Rattle.replay.specs.Replay.{Happens, Replays}
 use Rattle.replay.specs.Worked.{counting}
 use Rattle.replay.proofs.lemmas.{replays_show}
 use Rattle.script.specs.declared.event.RawEvent.TheVariants as raw

@@ -1,25 +1,22 @@
 -- Texts say all of a world over plain mailboxes to which a replay comes.
-use Rattle.world_trace.proofs.Common.{◌≡◌, ◌||◌, inl, suc, Bool, true, false, if◌then◌else◌, List, [], ◌∷◌, ◌++◌}
-use Rattle.world_trace.proofs.Common.{length, Option, Some, None, reverse, refl, ap, sym, subst, ◌∙◌, arith, false≢true}
-use Rattle.world_trace.proofs.Common.{All-append, All-cons, All-head, All-nil, All-tail, All, Host, same_host, Crossing}
-use Rattle.world_trace.proofs.Common.{same_host-true, Boxes, plain_calls, shown, Refused, IsOneCall, crossings_shown}
-use Rattle.world_trace.proofs.Common.{IsHost, RawEvent, in_turn_then, IsWorldTold}
-use Rattle.std.proofs.Common.{inr, not}
-use Rattle.interface.specs.Host.{is_host}
+use Rattle.world_trace.proofs.Common.{false≢true, All-append, All-cons, All-head, All-nil, All-tail, All, Crossing, shown, crossings_shown, RawEvent, IsWorldTold}
+use Rattle.std.proofs.Common.{◌≡◌, ◌||◌, inl, suc, Bool, true, false, if◌then◌else◌, List, [], ◌∷◌, ◌++◌, length, Option, Some, None, reverse, refl, ap, sym, subst, ◌∙◌, arith, inr, not}
+use Rattle.interface.specs.Host.{Host, same_host, is_host}
+use Rattle.interface.proofs.lemmas.{same_host-true}
+use Rattle.leader1822.specs.Boxes.{Boxes, plain_calls, opening_boxes}
+use Rattle.replay.specs.Output.{Refused, Shown, crossings_of}
+use Rattle.replay.specs.Replay.{IsOneCall, Happens, Replays}
+use Rattle.script.specs.Spelling.{IsHost, IsEvent}
+use Rattle.world_replay.proofs.lemmas.Driven.{in_turn_then, in_turn_one}
 use Rattle.interface.specs.declared.CarrierFault.{CarrierFault}
 use Rattle.interface.specs.declared.CarrierFault.TheVariants as fault
 use Rattle.interface.specs.declared.HostMessage.{HostMessage}
 use Rattle.interface.specs.declared.crossing.Crossing.TheVariants as crossing
-use Rattle.leader1822.specs.Boxes.{opening_boxes}
-use Rattle.replay.specs.Output.{Shown, crossings_of}
-use Rattle.replay.specs.Replay.{Happens, Replays}
-use Rattle.script.specs.Spelling.{IsEvent}
 use Rattle.script.specs.declared.event.RawEvent.TheVariants as raw
 use Rattle.trace.specs.Kept.{IsTold}
 use Rattle.trace.specs.Laws as laws
 use Rattle.trace.specs.Parts.{IsPart}
 use Rattle.trace.proofs.lemmas.{frame, left_of, reached}
-use Rattle.world_replay.proofs.lemmas.Driven.{in_turn_one}
 use Rattle.world_trace.specs.Reached.{PlainStates}
 use Rattle.world_trace.proofs.Carriers.{plain_round}
 use Rattle.world_trace.proofs.States.{Keeps, reached_holds}

@@ -1,23 +1,26 @@
 -- Texts say all of a world over a subnet to which a replay comes.
-use Rattle.world_trace.proofs.Common.{◌≡◌, ℕ, ◌+◌, ◌≤◌, ◌||◌, Bool, false, List, [], ◌∷◌, ◌++◌, length, Option, Result, Ok, Err, refl, ap, sym, subst, ◌∙◌, arith, is_halt, is_memory, Host, Crossing, shown, Refused, shown_crossings, GoesOn, IsHost, IsMessage, IsNetEvent, running, quiet_round, subnet_calls, refused, IsWorldTold}
+use Rattle.world_trace.proofs.Common.{Crossing, shown, IsWorldTold}
+use Rattle.std.proofs.Common.{◌≡◌, ℕ, ◌+◌, ◌≤◌, ◌||◌, Bool, false, List, [], ◌∷◌, ◌++◌, length, Option, Result, Ok, Err, refl, ap, sym, subst, ◌∙◌, arith}
+use Rattle.interface.specs.Calls.{is_halt, is_memory}
+use Rattle.interface.specs.Host.{Host, IsAddress, most_imps}
+use Rattle.replay.specs.Output.{Refused, shown_crossings, Shown, shown_refusal}
+use Rattle.replay.specs.Replay.{GoesOn, outcome_of}
+use Rattle.script.specs.Spelling.{IsHost, IsMessage, IsNetEvent}
+use Rattle.subnet.specs.Calls.{running, Fails, Kept}
+use Rattle.subnet.specs.Events.{quiet_round, offer_out, step_refusal, stepped, take_in}
+use Rattle.subnet.specs.Working.{subnet_calls, IsWorking, SubnetOffer, SubnetRound, SubnetStep, SubnetTake}
+use Rattle.subnet_trace.proofs.lemmas.{refused, IsKnown, offer_known, opening_known, round_known, runs, step_known, take_known, told}
 use Rattle.std.proofs.lemmas.Bool.Decides.{nat_tests}
-use Rattle.interface.specs.Host.{IsAddress, most_imps}
 use Rattle.interface.specs.declared.CarrierFault.{CarrierFault}
 use Rattle.interface.specs.declared.HostMessage.{HostMessage}
 use Rattle.interface.specs.declared.Inbound.{Inbound}
 use Rattle.interface.specs.declared.NetEvent.{NetEvent}
-use Rattle.replay.specs.Output.{Shown, shown_refusal}
-use Rattle.replay.specs.Replay.{outcome_of}
-use Rattle.subnet.specs.Calls.{Fails, Kept}
-use Rattle.subnet.specs.Events.{offer_out, step_refusal, stepped, take_in}
 use Rattle.subnet.specs.Net.{Net}
 use Rattle.subnet.specs.Opening.{hosts_from, opening_subnet}
 use Rattle.subnet.specs.Routed.{IsHostMessage}
-use Rattle.subnet.specs.Working.{IsWorking, SubnetOffer, SubnetRound, SubnetStep, SubnetTake}
 use Rattle.subnet.specs.declared.Ends.{Ends}
 use Rattle.subnet.proofs.lemmas.{offer_working, opening_working, round_working, step_working, take_working}
 use Rattle.subnet_trace.specs.Told.{IsOneNetwork, IsTold, SameTexts}
-use Rattle.subnet_trace.proofs.lemmas.{IsKnown, offer_known, opening_known, round_known, runs, step_known, take_known, told}
 use Rattle.trace.proofs.lemmas.{flow_named}
 use Rattle.world_trace.specs.Reached.{SubnetStates}
 use Rattle.world_trace.proofs.States.{Keeps, not_refused, reached_holds}

@@ -1,19 +1,16 @@
 -- A calm is traced round by round, a round event by event.
-use Rattle.world_trace.proofs.Common.{◌≡◌, inl, inr, ℕ, zero, suc, ◌<◌, ◌≤◌, ◌+◌, true, false, List, [], ◌∷◌, ◌++◌}
-use Rattle.world_trace.proofs.Common.{Option, Ok, Err, arith, refl, sym, ap, subst, ◌∙◌, append_assoc, append-nil}
-use Rattle.world_trace.proofs.Common.{Appends, Calls, IsAtRest, WorldState, Event, Quiet, appends_more, appends_none}
-use Rattle.world_trace.proofs.Common.{last_shown, last_written, one_written, Happening, InTurn, text_of, ReplayFault}
-use Rattle.world_trace.proofs.Common.{WritesTrace, Spot, when_false, Again, Repeated, crosses, turns_in, AgainEnds}
-use Rattle.world_trace.proofs.Common.{EventEnds, RoundEnds, StepEnds, MayTell, StopsOne, TellsInCalm, TellsRound}
-use Rattle.world_trace.proofs.Common.{first_rounds, AllParts}
-use Rattle.std.proofs.Common.{◌-◌}
+use Rattle.world_trace.proofs.Common.{append_assoc, append-nil, Appends, Calls, WorldState, Event, Quiet, ReplayFault, WritesTrace, Spot, AllParts}
+use Rattle.std.proofs.Common.{◌≡◌, inl, inr, ℕ, zero, suc, ◌<◌, ◌≤◌, ◌+◌, true, false, List, [], ◌∷◌, ◌++◌, Option, Ok, Err, arith, refl, sym, ap, subst, ◌∙◌, ◌-◌}
+use Rattle.net_sim.specs.Rest.{IsAtRest}
+use Rattle.replay.proofs.lemmas.{appends_more, appends_none, last_shown, last_written, one_written, text_of-append}
+use Rattle.replay.specs.InTurn.{Happening, InTurn, text_of}
+use Rattle.world_replay.proofs.lemmas.{when_false, when_true}
+use Rattle.world_replay.specs.Rounds.{Again, Repeated, crosses, turns_in, EndsAgain, EndsRepeated}
+use Rattle.world_trace.specs.Steps.{AgainEnds, EventEnds, RoundEnds, StepEnds, EndsRoundAt}
+use Rattle.world_trace.specs.Traces.{MayTell, StopsOne, TellsInCalm, TellsRound, first_rounds}
 use Rattle.std.proofs.lemmas.Bool.{cases_lt}
-use Rattle.replay.proofs.lemmas.{text_of-append}
 use Rattle.replay.specs.declared.events.ReplayFault.TheVariants as fault
-use Rattle.world_replay.proofs.lemmas.{when_true}
-use Rattle.world_replay.specs.Rounds.{EndsAgain, EndsRepeated}
 use Rattle.world_script.specs.declared.event.WorldEvent.TheVariants as world
-use Rattle.world_trace.specs.Steps.{EndsRoundAt}
 use Rattle.world_trace.proofs.Rounds.Resting.{round_rests}
 use Rattle.world_trace.proofs.Telling.{SoFar, all_done, ends_so, fails_so, no_line, none_yet}
 

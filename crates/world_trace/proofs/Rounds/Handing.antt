@@ -1,16 +1,11 @@
 -- A long calm is handed on round by round.
-use Rattle.world_trace.proofs.Common.{◌≡◌, inl, inr, refl, ℕ, zero, suc, ◌+◌, ◌<◌, ◌≤◌, Bool, true, false, List, []}
-use Rattle.world_trace.proofs.Common.{◌∷◌, ◌++◌, Option, Ok, Err, arith, sym, subst, Calls, WorldState, Event, Host}
-use Rattle.world_trace.proofs.Common.{Happening, Again, Repeated, crosses, flat_map, up_in, WritesTrace, Spot}
-use Rattle.world_trace.proofs.Common.{numbered_from, RoundEnds, MayTell, TellsInCalm, TellsRound, AllParts, WorldEvent}
-use Rattle.std.proofs.Common.{add-one}
-use Rattle.std.specs.Bool.{MatchBool}
+use Rattle.world_trace.proofs.Common.{Calls, WorldState, up_in, Event, Host, flat_map, WritesTrace, numbered_from, Spot, RoundEnds, MayTell, TellsInCalm, TellsRound, AllParts, WorldEvent, MatchBool, IsSeen, RoundsPass, AtSpot}
+use Rattle.std.proofs.Common.{◌≡◌, inl, inr, refl, ℕ, zero, suc, ◌+◌, ◌<◌, ◌≤◌, Bool, true, false, List, [], ◌∷◌, ◌++◌, Option, Ok, Err, arith, sym, subst, add-one}
+use Rattle.replay.specs.InTurn.{Happening}
+use Rattle.world_replay.specs.Rounds.{Again, Repeated, crosses, EndsAgain, EndsRepeated, turn_of}
 use Rattle.replay.proofs.lemmas.{Each, ends_last, one_round_seen, seen_written}
-use Rattle.replay.specs.Seen.{IsSeen, RoundsPass}
 use Rattle.replay.specs.declared.events.ReplayFault.TheVariants as fault
 use Rattle.world_replay.specs.Kinds.{rounds_in}
-use Rattle.world_replay.specs.Rounds.{EndsAgain, EndsRepeated, turn_of}
-use Rattle.world_trace.specs.MixedTraces.{AtSpot}
 use Rattle.world_trace.specs.Seen.{CalmHandsOn, EventsAreSeen, RoundTells}
 use Rattle.world_trace.proofs.Telling.{SoFar, all_done, one_more}
 

@@ -1,10 +1,9 @@
 -- A round whose events have lines passes as in a replay.
-use Rattle.world_trace.proofs.Common.{inl, inr, ℕ, List, [], Calls, WorldState, Spot, HappensInCalm, TellsInCalm}
-use Rattle.world_trace.proofs.Common.{TellsRound, AllParts}
+use Rattle.world_trace.proofs.Common.{inl, inr, ℕ, List, [], Calls, WorldState, Spot, TellsInCalm, TellsRound, AllParts}
+use Rattle.world_replay.specs.Replay.{HappensInCalm, Happens}
 use Rattle.world_replay.proofs.lemmas.Accounts.{AreParts, ShowsAs, round_as}
 use Rattle.world_replay.proofs.lemmas.{round_calm}
 use Rattle.world_replay.specs.Output.{Shown}
-use Rattle.world_replay.specs.Replay.{Happens}
 use Rattle.world_script.specs.declared.event.WorldEvent.TheVariants as world
 
 -- whatever is shown

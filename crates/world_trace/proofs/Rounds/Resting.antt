@@ -1,11 +1,9 @@
 -- A world that rests: the events of a round change nothing, so that they have no lines.
-use Rattle.world_trace.proofs.Common.{◌≡◌, inl, ℕ, suc, false, List, [], ◌∷◌, length, map, le-ltb, arith, refl, sym}
-use Rattle.world_trace.proofs.Common.{append-nil, flat_map, Calls, Host, IsAtRest, WorldState, up_in, Event, Offer}
-use Rattle.world_trace.proofs.Common.{Quiet, Take, InTurn, none_changed, no_part_changed, Spot, when_false, Again}
-use Rattle.world_trace.proofs.Common.{Repeated, crosses, seat_member, services_member, TellsInCalm, TellsRound}
-use Rattle.world_trace.proofs.Common.{AllParts}
-use Rattle.net_sim.specs.Rest.{Leaves}
-use Rattle.world_replay.specs.Rounds.{turn_of}
+use Rattle.world_trace.proofs.Common.{append-nil, flat_map, Calls, Host, WorldState, up_in, Event, Offer, Quiet, Take, InTurn, none_changed, no_part_changed, Spot, seat_member, services_member, TellsInCalm, TellsRound, AllParts}
+use Rattle.std.proofs.Common.{◌≡◌, inl, ℕ, suc, false, List, [], ◌∷◌, length, map, le-ltb, arith, refl, sym}
+use Rattle.net_sim.specs.Rest.{IsAtRest, Leaves}
+use Rattle.world_replay.proofs.lemmas.{when_false}
+use Rattle.world_replay.specs.Rounds.{Again, Repeated, crosses, turn_of}
 
 module _ {C : Type 0} (calls : Calls C) (members : C → AllParts) (spot : Spot) (round : ℕ) where
   abbrev Tells : WorldState C → Event → WorldState C → List (List ℕ) → Type 0

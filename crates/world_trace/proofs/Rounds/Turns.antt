@@ -1,8 +1,9 @@
 -- The events of a round, seat by seat.
-use Rattle.world_trace.proofs.Common.{◌≡◌, ℕ, ◌+◌, ◌<◌, ◌≤◌, Bool, true, false, List, [], ◌∷◌, ◌++◌, drop, get_or, length, map, refl, ap, sym, ◌∙◌, append_assoc, append-nil, drop_all, drop_more, map-append, flat_map, up_in, Event, Seat, turns_in, turn, CalmEvent}
-use Rattle.std.proofs.Common.{is_some}
-use Rattle.world_replay.specs.Rounds.{turn_of}
-use Rattle.world_trace.specs.Steps.{turns_at}
+use Rattle.world_trace.proofs.Common.{flat_map, up_in, Event, Seat, CalmEvent}
+use Rattle.std.proofs.Common.{◌≡◌, ℕ, ◌+◌, ◌<◌, ◌≤◌, Bool, true, false, List, [], ◌∷◌, ◌++◌, drop, get_or, length, map, refl, ap, sym, ◌∙◌, is_some}
+use Rattle.std.proofs.lemmas.List.{append_assoc, append-nil, drop_all, drop_more, map-append}
+use Rattle.world_replay.specs.Rounds.{turns_in, turn_of}
+use Rattle.world_trace.specs.Steps.{turn, turns_at}
 
 -- those at some seats
 abbrev pub turns_at_all : List Seat → List (Event × ℕ)

@@ -1,24 +1,17 @@
 -- Calls of a program leave it its host's, and memory lasts in it; so do its services.
-use Rattle.world_trace.proofs.Common.{◌≡◌, ℕ, Bool, true, false, if◌then◌else◌, List, [], ◌∷◌, ◌++◌, length, nat_lt}
-use Rattle.world_trace.proofs.Common.{take, Option, Some, None, refl, ◌∙◌, All-append, All-cons, All-head, All-nil}
-use Rattle.world_trace.proofs.Common.{All-tail, All, Notice, ServiceDeskState, ServicesState, Service, ServerState}
-use Rattle.world_trace.proofs.Common.{UserState, Host, NcpState, refusal, NcpFault, Request, EchoState, TerminalState}
-use Rattle.world_trace.proofs.Common.{ProgramLasts, ServiceLasts, accepted, served, offered}
-use Rattle.std.proofs.Common.{◌&&◌}
-use Rattle.host_services.specs.Services.{noticing, reporting, serving, typing_on}
+use Rattle.world_trace.proofs.Common.{All-append, All-cons, All-head, All-nil, All-tail, All, Notice, Service, Host, NcpState, refusal, served, NcpFault, Request, ProgramLasts, ServiceLasts, accepted, offered}
+use Rattle.std.proofs.Common.{◌≡◌, ℕ, Bool, true, false, if◌then◌else◌, List, [], ◌∷◌, ◌++◌, length, nat_lt, take, Option, Some, None, refl, ◌∙◌, ◌&&◌}
+use Rattle.host_services.specs.Services.{ServiceDeskState, ServicesState, noticing, reporting, serving, typing_on}
+use Rattle.icp.specs.Server.{ServerState, opening_server, server_by, server_failure, server_requests, server_turn}
+use Rattle.icp.specs.User.{UserState, opening_user, user_by, user_failure, user_heard, user_met, user_requests, user_stage, user_turn}
+use Rattle.terminal.specs.Machines.{EchoState, TerminalState, echo_by, echo_turn, terminal_by, terminal_heard, terminal_turn}
 use Rattle.host_services.specs.Turns as turns
-use Rattle.host_services.specs.Turns.{Turned, all_heard, asked_by, asks, heard_by, line_told, lines_told, notice_heard}
-use Rattle.host_services.specs.Turns.{server_asked, server_asks, server_begins, server_begun, server_ends}
-use Rattle.host_services.specs.Turns.{services_told, tried, tried_by, tries, user_asked, user_asks, user_begins}
-use Rattle.host_services.specs.Turns.{user_begun, user_ends}
+use Rattle.host_services.specs.Turns.{Turned, all_heard, asked_by, asks, heard_by, line_told, lines_told, notice_heard, server_asked, server_asks, server_begins, server_begun, server_ends, services_told, tried, tried_by, tries, user_asked, user_asks, user_begins, user_begun, user_ends}
 use Rattle.host_services.specs.declared.report.Report.TheVariants as report
 use Rattle.host_services.specs.declared.service.Service.TheVariants as service
 use Rattle.icp.specs.Notices.{arrived_on, is_opened}
 use Rattle.icp.specs.Outcomes.{IcpTurn}
-use Rattle.icp.specs.Server.{opening_server, server_by, server_failure, server_requests, server_turn}
 use Rattle.icp.specs.Sockets.{server_fault, socket_of, user_fault}
-use Rattle.icp.specs.User.{opening_user, user_by, user_failure, user_heard, user_met, user_requests, user_stage}
-use Rattle.icp.specs.User.{user_turn}
 use Rattle.icp.specs.declared.fault.StartFault.{StartFault}
 use Rattle.icp.specs.declared.outcome.Failure.{Failure}
 use Rattle.icp.specs.declared.outcome.Outcome.{Outcome}
@@ -27,7 +20,6 @@ use Rattle.interface.specs.declared.Inbound.{Inbound}
 use Rattle.ncp_control.specs.Numbers.{is_receive_socket}
 use Rattle.net_sim.proofs.lemmas.{Stays, accepted_stays, offered_stays, served_stays}
 use Rattle.terminal.specs.Ends as ends
-use Rattle.terminal.specs.Machines.{echo_by, echo_turn, terminal_by, terminal_heard, terminal_turn}
 
 -- ---- programs
 

@@ -1,9 +1,7 @@
 -- Rows of worlds in which memory lasts, or not.
-use Rattle.world_trace.proofs.Common.{◌≡◌, ◌≤◌, true, [], ◌∷◌, Option, Some, None, ap, sym, subst, arith, false≢true}
-use Rattle.world_trace.proofs.Common.{All-head, Calls, Host, shown, WorldState, opening_state, first, second, IsShort}
-use Rattle.world_trace.proofs.Common.{Lasts, SeatLasts, ServiceLasts, ServicesLast, IsReached, IsSaid, AreNumbersTold}
-use Rattle.world_trace.proofs.Common.{IsListenerTold, IsSeatTold, IsServed, IsWorldTold}
-use Rattle.std.proofs.Common.{◌^◌, replicate}
+use Rattle.world_trace.proofs.Common.{false≢true, All-head, Calls, Host, shown, WorldState, opening_state, first, second, IsShort, Lasts, SeatLasts, ServiceLasts, ServicesLast, IsReached, IsSaid}
+use Rattle.std.proofs.Common.{◌≡◌, ◌≤◌, true, [], ◌∷◌, Option, Some, None, ap, sym, subst, arith, ◌^◌, replicate}
+use Rattle.world_trace.specs.Told.{AreNumbersTold, IsListenerTold, IsSeatTold, IsServed, IsWorldTold}
 use Rattle.std.proofs.lemmas.List.{length-replicate}
 use Rattle.interface.specs.declared.crossing.Crossing.TheVariants as crossing
 use Rattle.world_trace.specs.Worked.{long_seat, long_services, spent_echo, spent_seat, spent_services}

@@ -1,18 +1,17 @@
 -- Each event of a world that has not stopped leaves memory lasting in all programs and services.
-use Rattle.world_trace.proofs.Common.{◌≡◌, inr, ℕ, zero, suc, Bool, true, false, List, [], ◌∷◌, if◌then◌else◌, length, nat_lt, Option, Some, None, IfSome, Result, Ok, Err, refl, ap, sym, subst, ◌∙◌, false≢true, All-cons, All-head, All-nil, All-tail, All, Notice, ServiceDeskState, ServicesState, no_services, opening_desk, line_bits, Calls, crossing_of, is_halt, is_memory, Host, same_host, Crossing, same_host-true, all_told, asked, crossed, AskGives, AtSeat, DoesOrHalts, Halts, OfferEnds, OfferGives, QuietEnds, StepGives, TakeEnds, TakeGives, TypeGives, WorldState, noticed, opening_seats, opening_services, opening_world, seat_of, seated, serviced, services_of, stops, tended, up_in, with_program, with_server, with_services, with_user, world_heard, world_moved, Event, Ask, Offer, Out, Quiet, Server, Take, Typed, User, WorldFault, Seat, ServiceSeat, accepted, NcpState, opening_state, refusal, served, served_notices, next_out, offered, NcpFault, Request, WorldEvent, Lasts, ProgramLasts, SeatLasts, ServiceLasts, ServicesLast}
-use Rattle.std.proofs.Common.{inl, find}
-use Rattle.std.specs.Bool.{MatchBool}
+use Rattle.world_trace.proofs.Common.{false≢true, All-cons, All-head, All-nil, All-tail, All, Notice, ServiceDeskState, ServicesState, no_services, opening_desk, line_bits, Host, same_host, Crossing, all_told, asked, crossed, Event, WorldFault, Seat, ServiceSeat, accepted, NcpState, opening_state, refusal, served, served_notices, next_out, offered, NcpFault, Request, WorldEvent, Lasts, ProgramLasts, SeatLasts, ServiceLasts, ServicesLast, MatchBool}
+use Rattle.std.proofs.Common.{◌≡◌, inr, ℕ, zero, suc, Bool, true, false, List, [], ◌∷◌, if◌then◌else◌, length, nat_lt, Option, Some, None, IfSome, Result, Ok, Err, refl, ap, sym, subst, ◌∙◌, inl, find}
+use Rattle.interface.specs.Calls.{Calls, crossing_of, is_halt, is_memory, Seen, step_crossings}
+use Rattle.interface.proofs.lemmas.{same_host-true, or_false}
+use Rattle.net_sim.specs.World.{AskGives, AtSeat, DoesOrHalts, Halts, OfferEnds, OfferGives, QuietEnds, StepGives, TakeEnds, TakeGives, TypeGives, WorldState, noticed, opening_seats, opening_services, opening_world, seat_of, seated, serviced, services_of, stops, tended, up_in, with_program, with_server, with_services, with_user, world_heard, world_moved, AtProgram, Calms, Does, EventGives, NetEnds, Passes, Refuses, Repeats, TurnsOf, all_emptied, all_turned, changed, emptied, seats_turned, served_at, services_in, turn_of, with_carrier}
+use Rattle.net_sim.specs.declared.event.Event.TheVariants.{Ask, Offer, Out, Quiet, Server, Take, Typed, User, Net}
 use Rattle.host_services.specs.Turns as services
-use Rattle.interface.specs.Calls.{Seen, step_crossings}
 use Rattle.interface.specs.declared.CarrierFault.{CarrierFault}
 use Rattle.interface.specs.declared.CarrierFault.TheVariants as fault
 use Rattle.interface.specs.declared.HostMessage.{HostMessage}
 use Rattle.interface.specs.declared.Inbound.{Inbound}
 use Rattle.interface.specs.declared.NetEvent.{NetEvent}
 use Rattle.interface.specs.declared.crossing.Crossing.TheVariants as crossing
-use Rattle.interface.proofs.lemmas.{or_false}
-use Rattle.net_sim.specs.World.{AtProgram, Calms, Does, EventGives, NetEnds, Passes, Refuses, Repeats, TurnsOf, all_emptied, all_turned, changed, emptied, seats_turned, served_at, services_in, turn_of, with_carrier}
-use Rattle.net_sim.specs.declared.event.Event.TheVariants.{Net}
 use Rattle.net_sim.specs.declared.event.WorldFault.TheVariants.{Carrier}
 use Rattle.net_sim.proofs.lemmas.{calm_keeps, memory_stops}
 use Rattle.sockets.specs.declared.request.Request.TheVariants as request

@@ -1,5 +1,5 @@
-use Rattle.world_trace.proofs.Common.{◌≡◌, List, None, Ok, ℕ, subst, sym, shown, WorldState, Calls, IsStill, event_of}
-use Rattle.world_trace.proofs.Common.{CalmEvent, AllParts}
+use Rattle.world_trace.proofs.Common.{◌≡◌, List, None, Ok, ℕ, subst, sym, shown, WorldState, Calls, CalmEvent, AllParts}
+use Rattle.world_trace.specs.Steps.{IsStill, event_of}
 use Rattle.world_trace.proofs.Stays.{offer_still, take_still}
 use Rattle.world_trace.proofs.calm.is_still.Goals as goal
 

@@ -1,5 +1,7 @@
-use Rattle.world_trace.proofs.Common.{◌≡◌, ◌∙◌, refl, ◌<◌, ◌≤◌, Err, false, true, length, le-ltb, lt-ltb, arith, rules}
-use Rattle.world_trace.proofs.Common.{subst, sym, shown, Calls, crosses, AgainEnds, event_of}
+use Rattle.world_trace.proofs.Common.{shown, Calls}
+use Rattle.std.proofs.Common.{◌≡◌, ◌∙◌, refl, ◌<◌, ◌≤◌, Err, false, true, length, le-ltb, lt-ltb, arith, rules, subst, sym}
+use Rattle.world_replay.specs.Rounds.{crosses}
+use Rattle.world_trace.specs.Steps.{AgainEnds, event_of}
 use Rattle.world_trace.proofs.Rounds.Calms.{all_steps, last_step, no_steps, one_step, step_ends}
 use Rattle.world_trace.proofs.calm.trace_again.Goals as goal
 

@@ -1,4 +1,5 @@
-use Rattle.world_trace.proofs.Common.{◌≡◌, ◌≤◌, false, shown, Calls, AreTextsOf, event_of}
+use Rattle.world_trace.proofs.Common.{◌≡◌, ◌≤◌, false, shown, Calls}
+use Rattle.world_trace.specs.Steps.{AreTextsOf, event_of}
 use Rattle.world_trace.proofs.Rounds.Calms.{HaveSteps}
 use Rattle.world_trace.proofs.calm.trace_again.Given as goal
 

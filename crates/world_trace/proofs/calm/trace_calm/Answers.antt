@@ -1,5 +1,4 @@
-use Rattle.world_trace.proofs.Common.{◌≡◌, ◌∙◌, inl, inr, refl, ◌+◌, ◌<◌, Err, arith, rules, subst, sym, shown, Calls, EventEnds}
-use Rattle.world_trace.proofs.Common.{TellsRound}
+use Rattle.world_trace.proofs.Common.{◌≡◌, ◌∙◌, inl, inr, refl, ◌+◌, ◌<◌, Err, arith, rules, subst, sym, shown, Calls, EventEnds, TellsRound}
 use Rattle.replay.proofs.lemmas.{kept_written}
 use Rattle.replay.specs.declared.events.ReplayFault.TheVariants as fault
 use Rattle.world_script.specs.declared.event.WorldEvent.TheVariants as event

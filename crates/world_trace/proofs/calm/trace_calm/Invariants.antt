@@ -1,5 +1,4 @@
-use Rattle.world_trace.proofs.Common.{◌≡◌, ◌≤◌, false, true, shown, Calls, AreTextsOf}
-use Rattle.replay.specs.Seen.{RoundsPass}
+use Rattle.world_trace.proofs.Common.{◌≡◌, ◌≤◌, false, true, shown, Calls, AreTextsOf, RoundsPass}
 use Rattle.world_trace.specs.Seen.{RoundTells}
 use Rattle.world_trace.proofs.Rounds.Calms.{Passed}
 use Rattle.world_trace.proofs.calm.trace_calm.Given as goal

@@ -1,5 +1,5 @@
-use Rattle.world_trace.proofs.Common.{◌≡◌, refl, ◌∷◌, ◌∙◌, [], Err, List, ℕ, ap, length, map, rules, subst, sym, shown}
-use Rattle.world_trace.proofs.Common.{Event, Seat, Calls, Again, turns_in, RoundEnds, turn, TellsInCalm}
+use Rattle.world_trace.proofs.Common.{◌≡◌, refl, ◌∷◌, ◌∙◌, [], Err, List, ℕ, ap, length, map, rules, subst, sym, shown, Event, Seat, Calls, RoundEnds, turn, TellsInCalm}
+use Rattle.world_replay.specs.Rounds.{Again, turns_in}
 use Rattle.replay.specs.declared.events.ReplayFault.TheVariants as fault
 use Rattle.world_trace.proofs.Rounds.Calms.{InRound, round_done, round_early, round_unbegun}
 use Rattle.world_trace.proofs.Telling.{none_left, none_yet, one_more}

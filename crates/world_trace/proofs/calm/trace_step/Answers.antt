@@ -1,7 +1,7 @@
-use Rattle.world_trace.proofs.Common.{◌≡◌, ◌<◌, ◌≤◌, ◌⊎◌, ◌∙◌, [], inl, inr, Err, List, Option, length, ℕ, ap, ap₂}
-use Rattle.world_trace.proofs.Common.{arith, map, rules, subst, sym, Host, shown, WorldState, Event, Calls, AreOthers}
-use Rattle.world_trace.proofs.Common.{AreTextsOf, StepEnds, at_host, event_of, seat_place, service_place, event_text}
-use Rattle.world_trace.proofs.Common.{seat_member, services_member, StopsOne, Texts, changed_parts, AllParts}
+use Rattle.world_trace.proofs.Common.{◌≡◌, ◌<◌, ◌≤◌, ◌⊎◌, ◌∙◌, [], inl, inr, Err, List, Option, length, ℕ, ap, ap₂, arith, map, rules, subst, sym, Host, shown, WorldState, Event, Calls, event_text, seat_member, services_member, Texts, AllParts}
+use Rattle.world_trace.specs.Steps.{AreOthers, AreTextsOf, StepEnds, at_host, event_of, seat_place, service_place}
+use Rattle.world_trace.specs.Traces.{StopsOne}
+use Rattle.trace.specs.Changes.{changed_parts}
 use Rattle.replay.specs.declared.events.ReplayFault.TheVariants as fault
 use Rattle.world_script.specs.declared.event.WorldEvent.TheVariants as world
 use Rattle.world_trace.proofs.Stays.{others_by, quiet_by}

@@ -1,4 +1,5 @@
-use Rattle.world_trace.proofs.Common.{List, subst, All, Command, IsCommandTold}
+use Rattle.world_trace.proofs.Common.{List, subst, All, Command}
+use Rattle.world_trace.specs.Told.{IsCommandTold}
 use Rattle.host_pairs.specs.Pair.{PairState}
 use Rattle.world_trace.proofs.lasting.pair_numbers.Goals as goal
 

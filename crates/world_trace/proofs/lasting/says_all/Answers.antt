@@ -1,4 +1,5 @@
-use Rattle.world_trace.proofs.Common.{reverse, subst, ◌∙◌, ap, All, shown, IsSaid, IsSeatTold, IsServed}
+use Rattle.world_trace.proofs.Common.{reverse, subst, ◌∙◌, ap, All, shown, IsSaid}
+use Rattle.world_trace.specs.Told.{IsSeatTold, IsServed}
 use Rattle.net_sim.specs.Book.{Kept}
 use Rattle.world_trace.proofs.States.{in_order}
 use Rattle.world_trace.proofs.Whole.{reached_told}

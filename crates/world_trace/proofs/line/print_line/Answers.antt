@@ -1,7 +1,8 @@
-use Rattle.world_trace.proofs.Common.{◌≡◌, ◌∙◌, List, ap, drop, map, reverse, subst, ℕ, decimal, Crossing, on_ok, Appends, ended_line, array, line_of, state_objects}
+use Rattle.world_trace.proofs.Common.{◌≡◌, ◌∙◌, List, ap, drop, map, reverse, subst, ℕ, decimal, Crossing, on_ok, Appends, ended_line}
+use Rattle.trace.specs.Texts.{array, crossing_object}
+use Rattle.world_trace.specs.Texts.{line_of, lines_text}
+use Rattle.world_trace.specs.Steps.{state_objects}
 use Rattle.net_sim.specs.Book.{Kept}
-use Rattle.trace.specs.Texts.{crossing_object}
-use Rattle.world_trace.specs.Texts.{lines_text}
 use Rattle.world_trace.proofs.Lines.{line_printed}
 use Rattle.world_trace.proofs.line.print_line.Goals as goal
 

@@ -1,7 +1,5 @@
-use Rattle.world_trace.proofs.Common.{map, on_ok, array, bool_text, object, seat_member, services_member}
-use Rattle.trace.specs.Texts.{carrier_word, ends_text, site_text}
+use Rattle.world_trace.proofs.Common.{map, on_ok, array, bool_text, object, carrier_word, ends_text, site_text, seat_member, services_member, members_of}
 use Rattle.world_trace.proofs.Lines.{first_printed}
-use Rattle.trace.specs.Changes.{members_of}
 use Rattle.world_trace.proofs.line.print_opening.Goals as goal
 
 pub returns-clause-written : goal.returns-clause-written

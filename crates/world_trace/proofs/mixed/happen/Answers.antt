@@ -1,7 +1,6 @@
-use Rattle.world_trace.proofs.Common.{List, subst, shown, Calls}
+use Rattle.world_trace.proofs.Common.{List, subst, shown, Calls, WorldEvent}
 use Rattle.world_replay.specs.Kinds.{BreaksOffBy, RunsOutBy, mixed_kind}
 use Rattle.world_replay.specs.Output.{Shown}
-use Rattle.world_script.specs.declared.event.WorldEvent.{WorldEvent}
 use Rattle.world_trace.proofs.Strangers.{ended_mixed}
 use Rattle.world_trace.proofs.mixed.happen.Goals as goal
 

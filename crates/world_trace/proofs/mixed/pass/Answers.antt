@@ -1,6 +1,5 @@
-use Rattle.world_trace.proofs.Common.{◌≡◌, ◌∙◌, List, ℕ, subst, sym, Calls, AreOthers, at_host, seat_place}
-use Rattle.world_trace.proofs.Common.{service_place, seat_member, services_member}
-use Rattle.net_sim.specs.World.{WorldState}
+use Rattle.world_trace.proofs.Common.{◌≡◌, ◌∙◌, List, ℕ, subst, sym, Calls, seat_member, services_member, WorldState}
+use Rattle.world_trace.specs.Steps.{AreOthers, at_host, seat_place, service_place}
 use Rattle.world_trace.specs.MixedSteps.{mixed_reach}
 use Rattle.world_trace.specs.declared.mixed.Reach.TheVariants as reach
 use Rattle.world_trace.proofs.Strangers.{mixed_others}

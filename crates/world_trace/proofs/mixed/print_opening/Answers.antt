@@ -1,6 +1,4 @@
-use Rattle.world_trace.proofs.Common.{map, on_ok, array, bool_text, object, seat_member, services_member}
-use Rattle.trace.specs.Texts.{carrier_word, ends_text, site_text}
-use Rattle.trace.specs.Changes.{members_of}
+use Rattle.world_trace.proofs.Common.{map, on_ok, array, bool_text, object, carrier_word, ends_text, site_text, seat_member, services_member, members_of}
 use Rattle.world_trace.specs.MixedTraces.{stranger_text}
 use Rattle.world_trace.proofs.Lines.{foreign_printed}
 use Rattle.world_trace.proofs.mixed.print_opening.Goals as goal

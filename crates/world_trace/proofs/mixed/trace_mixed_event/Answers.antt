@@ -1,5 +1,4 @@
-use Rattle.world_trace.proofs.Common.{subst, sym, shown, Calls}
-use Rattle.world_script.specs.declared.event.WorldEvent.{WorldEvent}
+use Rattle.world_trace.proofs.Common.{subst, sym, shown, Calls, WorldEvent}
 use Rattle.world_trace.specs.MixedSteps.{EventEndsAmong}
 use Rattle.world_trace.proofs.Strangers.{calm_ends, mixed_ends}
 use Rattle.world_trace.proofs.mixed.trace_mixed_event.Goals as goal

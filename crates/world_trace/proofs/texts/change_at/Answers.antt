@@ -1,6 +1,8 @@
-use Rattle.world_trace.proofs.Common.{◌≡◌, ◌++◌, ◌≤◌, ◌∙◌, Bool, ap, arith, codes, length, map, rules, put_at, put_text}
-use Rattle.world_trace.proofs.Common.{object, AllPut, at_host, IfOk-weaker, mark, ended_object}
-use Rattle.trace.specs.Changes.{changed}
+use Rattle.world_trace.proofs.Common.{◌≡◌, ◌++◌, ◌≤◌, ◌∙◌, Bool, ap, arith, codes, length, map, rules, object, IfOk-weaker}
+use Rattle.trace.specs.Changes.{put_at, put_text, changed}
+use Rattle.trace.proofs.lemmas.{AllPut, ended_object}
+use Rattle.world_trace.specs.Steps.{at_host}
+use Rattle.trace.specs.Joined.{mark}
 use Rattle.world_trace.proofs.Changing.{all_changed, next_changed, none_changed_yet, within}
 use Rattle.world_trace.proofs.texts.change_at.Goals as goal
 

@@ -1,7 +1,7 @@
-use Rattle.world_trace.proofs.Common.{◌≡◌, ◌++◌, ◌∙◌, [], List, ap, codes, length, ℕ, object, IfOk-weaker, mark}
-use Rattle.world_trace.proofs.Common.{ended_object}
+use Rattle.world_trace.proofs.Common.{◌≡◌, ◌++◌, ◌∙◌, [], List, ap, codes, length, ℕ, object, IfOk-weaker}
+use Rattle.trace.specs.Joined.{mark, extended}
+use Rattle.trace.proofs.lemmas.{ended_object}
 use Rattle.trace.specs.Changes.{changed}
-use Rattle.trace.specs.Joined.{extended}
 use Rattle.world_trace.proofs.texts.changed_object.Goals as goal
 
 pub returns : goal.returns

@@ -1,6 +1,6 @@
-use Rattle.world_trace.proofs.Common.{List, subst, shown, Calls, MayDo, StopsIn, WorldEvent}
+use Rattle.world_trace.proofs.Common.{List, subst, shown, Calls, WorldEvent}
+use Rattle.world_replay.specs.Replay.{MayDo, StopsIn, EndsIn}
 use Rattle.world_replay.specs.Output.{Shown}
-use Rattle.world_replay.specs.Replay.{EndsIn}
 use Rattle.world_trace.proofs.Telling.{ended}
 use Rattle.world_trace.proofs.traced.happen.Goals as goal
 

@@ -1,4 +1,5 @@
-use Rattle.world_trace.proofs.Common.{◌≡◌, ◌∙◌, List, Option, false, ℕ, map, subst, sym, Calls, Host, WorldState, AreOthers, at_host, is_of_network, seat_place, service_place, seat_member, services_member}
+use Rattle.world_trace.proofs.Common.{◌≡◌, ◌∙◌, List, Option, false, ℕ, map, subst, sym, Calls, Host, WorldState, seat_member, services_member}
+use Rattle.world_trace.specs.Steps.{AreOthers, at_host, is_of_network, seat_place, service_place}
 use Rattle.world_trace.proofs.Stays.{event_others}
 use Rattle.world_trace.proofs.traced.pass.Goals as goal
 

@@ -1,8 +1,5 @@
-use Rattle.world_trace.proofs.Common.{◌≡◌, ◌+◌, ◌∷◌, [], Err, ℕ, arith, ap, length, rules, subst, sym, numbered_from}
-use Rattle.world_trace.proofs.Common.{shown}
-use Rattle.replay.specs.Seen.{IsSeen}
+use Rattle.world_trace.proofs.Common.{◌≡◌, ◌+◌, ◌∷◌, [], Err, ℕ, arith, ap, length, rules, subst, sym, numbered_from, shown, IsSeen, AtSpot}
 use Rattle.replay.specs.declared.events.ReplayFault.TheVariants as fault
-use Rattle.world_trace.specs.MixedTraces.{AtSpot}
 use Rattle.world_trace.specs.Steps.{EndsAs}
 use Rattle.world_trace.proofs.Rounds.Handing.{Handed, SeenSoFar, event_seen, events_seen}
 use Rattle.world_trace.proofs.Telling.{SoFar, all_done, at_place, ends_so, fails_so, next_at, none_left, none_yet}

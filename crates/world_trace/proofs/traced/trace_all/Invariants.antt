@@ -1,5 +1,4 @@
-use Rattle.world_trace.proofs.Common.{◌≡◌, ◌+◌, IfSome, false, length, numbered_from, shown, AreTextsOf}
-use Rattle.world_trace.specs.MixedTraces.{AtSpot}
+use Rattle.world_trace.proofs.Common.{◌≡◌, ◌+◌, IfSome, false, length, numbered_from, shown, AreTextsOf, AtSpot}
 use Rattle.world_trace.proofs.Rounds.Handing.{SeenSoFar}
 use Rattle.world_trace.proofs.Telling.{SoFar}
 use Rattle.world_trace.proofs.traced.trace_all.Given as goal

@@ -1,5 +1,5 @@
-use Rattle.world_trace.proofs.Common.{shown, Calls, on_ok, StopsOne, TracesWorld}
-use Rattle.world_trace.specs.Traces.{WorldTraceEnds}
+use Rattle.world_trace.proofs.Common.{shown, Calls, on_ok}
+use Rattle.world_trace.specs.Traces.{StopsOne, TracesWorld, WorldTraceEnds}
 use Rattle.world_trace.proofs.Telling.{after_opening}
 use Rattle.world_trace.proofs.traced.trace_world.Goals as goal
 

@@ -1,10 +1,9 @@
-use Rattle.world_trace.proofs.Common.{[], ◌∷◌, codes, refl, first, second}
+use Rattle.world_trace.proofs.Common.{[], ◌∷◌, codes, refl, Offer, Out}
+use Rattle.sockets.specs.Worked.{first, second, third}
 use Rattle.std.specs.Fmt.{digits}
 use Rattle.interface.specs.declared.crossing.Crossing.TheVariants as crossing
 use Rattle.net_sim.specs.Worked.{accepting_carrier, any_carrier, message}
-use Rattle.net_sim.specs.declared.event.Event.TheVariants.{Offer, Out}
 use Rattle.net_sim.specs.declared.event.WorldFault.TheVariants.{HasProgram, NoProgram}
-use Rattle.sockets.specs.Worked.{third}
 use Rattle.world_replay.specs.Output.{Crossed, Refused}
 use Rattle.world_trace.proofs.Beside.{traces_only}
 use Rattle.world_trace.proofs.worked_strangers.worked_events.Goals as goal

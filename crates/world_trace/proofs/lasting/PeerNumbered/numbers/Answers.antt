@@ -1,4 +1,5 @@
-use Rattle.world_trace.proofs.Common.{subst, Peer, IsPairTold}
+use Rattle.world_trace.proofs.Common.{subst, Peer}
+use Rattle.world_trace.specs.Told.{IsPairTold}
 use Rattle.world_trace.proofs.lasting.PeerNumbered.numbers.Goals as goal
 
 pub returns : goal.returns

@@ -1,4 +1,5 @@
-use Rattle.world_trace.proofs.Common.{◌++◌, IfSome, List, Option, ℕ, subst, sym, All-append, All-same, all_in, Service, IsShort, IsServiceTold}
+use Rattle.world_trace.proofs.Common.{◌++◌, IfSome, List, Option, ℕ, subst, sym, All-append, All-same, all_in, Service, IsShort}
+use Rattle.world_trace.specs.Told.{IsServiceTold}
 use Rattle.world_trace.proofs.Blocks.{in_blocks}
 use Rattle.world_trace.proofs.lasting.ServiceSeatNumbered.numbers.Goals as goal
 

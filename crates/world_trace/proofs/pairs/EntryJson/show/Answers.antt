@@ -1,4 +1,5 @@
-use Rattle.world_trace.proofs.Common.{rules, decimal, has_written_append, has_written_of_eq, bits_members, bool_text, object, quoted, kind_text, allocation_object, closings_object, number_text, requests_object}
+use Rattle.world_trace.proofs.Common.{rules, decimal, has_written_append, has_written_of_eq, bits_members, bool_text, object, quoted, kind_text}
+use Rattle.world_trace.specs.Texts.{allocation_object, closings_object, number_text, requests_object}
 use Rattle.world_trace.proofs.Ends.{end_is}
 use Rattle.world_trace.proofs.pairs.EntryJson.show.Goals as goal
 

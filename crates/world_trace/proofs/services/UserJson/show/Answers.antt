@@ -1,4 +1,5 @@
-use Rattle.world_trace.proofs.Common.{rules, has_written_append, has_written_of_eq, bits_members, bool_text, object, asked_object, ends_object, number_text, sockets_object}
+use Rattle.world_trace.proofs.Common.{rules, has_written_append, has_written_of_eq, bits_members, bool_text, object}
+use Rattle.world_trace.specs.Texts.{asked_object, ends_object, number_text, sockets_object}
 use Rattle.world_trace.proofs.Ends.{user_is}
 use Rattle.world_trace.proofs.services.UserJson.show.Goals as goal
 
