@@ -1,16 +1,9 @@
 -- A frame that comes in, case by case.
+use Rattle.imp_node.proofs.Common.{PacketFields, answer_to, ChannelFault, Frame, Received, State, port_at, pump, lost_by}
 use Rattle.std.proofs.Common.{◌≡◌, ℕ, Bool, true, false, not, Result, Ok, refl, ap, subst, ◌∙◌}
 use Rattle.std.specs.Prelude.{if◌then◌else◌}
-use Rattle.packetiser.specs.PacketFields.{PacketFields}
-use Rattle.imp_channel.specs.Line.{answer_to}
-use Rattle.imp_channel.specs.declared.fault.ChannelFault.{ChannelFault}
-use Rattle.imp_channel.specs.declared.frame.Frame.{Frame}
-use Rattle.imp_channel.specs.declared.line.Received.{Received}
 use Rattle.imp_channel.specs.declared.line.Received.TheVariants as received
-use Rattle.imp_node.specs.State.{State, port_at}
 use Rattle.imp_node.specs.Arrival.{arrival, arrived, arrival_has_room, acknowledged, frame_taken, ignored, fresh, taken_frame, from_line}
-use Rattle.imp_node.specs.Pump.{pump}
-use Rattle.imp_node.specs.Inside.Arriving.{lost_by}
 use Rattle.interface.proofs.lemmas.{not_false}
 
 -- a frame that brings a fresh packet and isn't lost: there is room for it

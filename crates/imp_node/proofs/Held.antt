@@ -1,26 +1,16 @@
 -- A property of every packet: what holds of all packets in an IMP before a call, of what comes in and of what is made, holds of
 -- all packets in it and in its frames after the call. Here: the pump, and what calls are made of.
+use Rattle.imp_node.proofs.Common.{Flow, Answer, Release, PacketFields, Content, Frame, Table, next_of, Outgoing, Port, State, ImpTurn, port_at, has_route}
 use Rattle.std.proofs.Common.{ℕ, zero, suc, Bool, true, false, List, [], ◌∷◌, ◌++◌, Option, Some, None, cond, All, Contains}
 use Rattle.std.proofs.lemmas.List.Elements.{All-nil, All-cons, All-head, All-tail, All-append, All-push, All-set, All-weaker, All-contains}
-use Rattle.interface.specs.declared.address.Flow.{Flow}
-use Rattle.interface.specs.declared.crossing.Answer.{Answer}
-use Rattle.link_table.specs.declared.source.Release.{Release}
 use Rattle.link_table.specs.declared.source.Release.TheVariants as release
-use Rattle.packetiser.specs.PacketFields.{PacketFields}
 use Rattle.packetiser.specs.Slots as slots
 use Rattle.packetiser.specs.Rejoining.{AreAmong}
 use Rattle.packetiser.proofs.lemmas.{All_left, All_right, added_only, discarded_only}
 use Rattle.imp_channel.specs.Holding as channels
 use Rattle.imp_channel.specs.Line.{End, submitted}
-use Rattle.imp_channel.specs.declared.frame.Content.{Content}
 use Rattle.imp_channel.specs.declared.frame.Content.TheVariants as content
-use Rattle.imp_channel.specs.declared.frame.Frame.{Frame}
 use Rattle.imp_channel.proofs.lemmas.{ContentHas, LineHas, PutHas, have_packets, opening_has, packets_have, submitted_has}
-use Rattle.routing.specs.RouteTable.{Table, next_of}
-use Rattle.imp_node.specs.declared.outgoing.Outgoing.{Outgoing}
-use Rattle.imp_node.specs.declared.port.Port.{Port}
-use Rattle.imp_node.specs.State.{State, ImpTurn, port_at}
-use Rattle.imp_node.specs.Room.{has_route}
 use Rattle.imp_node.specs.Pump.{Pumped, target, stored, sent_on, packet_sent, pumped, pump}
 use Rattle.imp_node.specs.Flows.{answered_by}
 use Rattle.imp_node.specs.Contents.{packets_in_channels, packets, packets_on, turn_packets}

@@ -1,44 +1,24 @@
 -- A property of every packet, over each call of an IMP.
+use Rattle.imp_node.proofs.Common.{flat_map, Flow, Answer, HostMessage, Release, PacketFields, flow_of, PacketKind, carried_by, packets_in, ChannelFault, Frame, Received, vector_of, Port, Message, Told, State, ImpTurn, opening_node, up_port, host_at, port_at, with_host, number, Way, Nowhere, Here, Away, way_of, offered, from_host, is_from_here, reply_has_room, replied, taken_by, to_host, outstanding, asked_by, ask, packets_in_channels, packets}
 use Rattle.std.proofs.Common.{◌≡◌, ℕ, zero, suc, ◌+◌, replicate, Bool, true, false, List, [], ◌∷◌, ◌++◌, Option, Some, None, Result, Ok, Err, refl, cond, subst, sym, All, Contains, map, ◌==◌}
 use Rattle.std.specs.FinMap as finite
-use Rattle.std.specs.List.{flat_map}
 use Rattle.std.proofs.lemmas.List.Elements.{All-nil, All-cons, All-head, All-tail, All-append, All-set, All-map, All-replicate, All-weaker, All-contains_itself, Contains-append_left, Contains-append_right}
 use Rattle.bit_messages.specs.Body.{body}
-use Rattle.interface.specs.declared.address.Flow.{Flow}
-use Rattle.interface.specs.declared.crossing.Answer.{Answer}
 use Rattle.interface.specs.declared.crossing.Answer.TheVariants as answer
-use Rattle.interface.specs.declared.message.HostMessage.{HostMessage}
 use Rattle.link_table.specs.Flows.{release_in}
 use Rattle.link_table.specs.declared.destination.Fate.TheVariants as fate
-use Rattle.link_table.specs.declared.source.Release.{Release}
 use Rattle.link_table.specs.declared.source.Release.TheVariants as release
-use Rattle.packetiser.specs.PacketFields.{PacketFields, flow_of}
 use Rattle.packetiser.specs.Pieces.{packets_of}
-use Rattle.packetiser.specs.declared.packet.PacketKind.{PacketKind}
 use Rattle.packetiser.specs.declared.packet.PacketKind.TheVariants as kind
 use Rattle.packetiser.proofs.lemmas.{All_left, All_right}
-use Rattle.imp_channel.specs.Holding.{carried_by, packets_in}
 use Rattle.imp_channel.specs.Line.{answer_to, resent, routes_frame}
-use Rattle.imp_channel.specs.declared.fault.ChannelFault.{ChannelFault}
-use Rattle.imp_channel.specs.declared.frame.Frame.{Frame}
-use Rattle.imp_channel.specs.declared.line.Received.{Received}
 use Rattle.imp_channel.specs.declared.line.Received.TheVariants as received
 use Rattle.imp_channel.proofs.lemmas.{ContentHas, fresh_carried, opening_has, opening_packets, packets_have, received_has, resent_has}
-use Rattle.routing.specs.RouteTable.{vector_of}
-use Rattle.imp_node.specs.declared.port.Port.{Port}
-use Rattle.imp_node.specs.declared.waiting.Message.{Message}
-use Rattle.imp_node.specs.declared.waiting.Told.{Told}
-use Rattle.imp_node.specs.State.{State, ImpTurn, opening_node, up_port, host_at, port_at, with_host, number}
 use Rattle.imp_node.specs.Pump.{pump, stored}
 use Rattle.imp_node.specs.Flows.{freed, answered_by, answer_packet, next_number, fated}
-use Rattle.imp_node.specs.Offering.{Way, Nowhere, Here, Away, way_of, offered, from_host}
 use Rattle.imp_node.specs.Arrival.{Arrival, Passing, Old, Undeliverable, Replying, Piece, NoSlot, Whole, Unmarked, Answering, arrival, arrival_has_room, arrived, frame_taken, acknowledged, vector_heard, ignored, fresh, taken_frame, from_line}
-use Rattle.imp_node.specs.Taking.{is_from_here, reply_has_room, replied, taken_by, to_host}
 use Rattle.imp_node.specs.Lines.{resent_by, resent_from, resend, told_by, told_from, route, end_down, end_up, on_port}
-use Rattle.imp_node.specs.Queries.{outstanding}
-use Rattle.imp_node.specs.Asking.{asked_by, ask}
 use Rattle.imp_node.specs.Stopping.{give_up, forget, abandon, message_returned, all_returned, stopped, host_down, host_up}
-use Rattle.imp_node.specs.Contents.{packets_in_channels, packets}
 use Rattle.imp_node.specs.Making.{Leaves, cut_for, from_host_makes, told_for, from_line_makes, reply_for, rfnm_for, to_host_makes, question_for, ask_makes, host_down_makes}
 use Rattle.imp_node.proofs.Held.{PortHas, OutgoingHas, Has, TurnHas, has_packets, turn_has, port_has, pump_has, quiet_has, stored_has, answered_has, added_has, without_has}
 

@@ -1,22 +1,13 @@
 -- A packet that is passed on at once.
+use Rattle.imp_node.proofs.Common.{nat_tests, PacketFields, acknowledgement, answer_to, ChannelFault, Frame, Received, next_of, Outgoing, lost_by, State, ImpTurn, number, port_at}
 use Rattle.std.specs.Prelude.{if◌then◌else◌, option_to_list}
 use Rattle.std.proofs.Common.{◌≡◌, ℕ, Bool, true, false, not, List, ◌∷◌, ◌++◌, length, nat_lt, ◌==◌, ◌&&◌, Option, Result, Ok, refl, ap, sym, subst, ◌∙◌, arith}
 use Rattle.std.proofs.lemmas.Bool.{eqb-true, and_parts}
-use Rattle.std.proofs.lemmas.Bool.Decides.{nat_tests}
-use Rattle.packetiser.specs.PacketFields.{PacketFields}
-use Rattle.imp_channel.specs.Line.{acknowledgement, answer_to}
-use Rattle.imp_channel.specs.declared.fault.ChannelFault.{ChannelFault}
-use Rattle.imp_channel.specs.declared.frame.Frame.{Frame}
-use Rattle.imp_channel.specs.declared.line.Received.{Received}
 use Rattle.imp_channel.specs.declared.line.Received.TheVariants as received
-use Rattle.routing.specs.RouteTable.{next_of}
-use Rattle.imp_node.specs.declared.outgoing.Outgoing.{Outgoing}
 use Rattle.imp_node.specs.Arrival.{Arrival, Passing, arrival, arrival_by, arrival_has_room, arrived, acknowledged, frame_taken, from_line}
-use Rattle.imp_node.specs.Inside.Arriving.{lost_by}
 use Rattle.imp_node.specs.Pump.{target, packet_sent, pump, pumped}
 use Rattle.imp_node.specs.Resting.{brings_passing, passes}
 use Rattle.imp_node.specs.Room.{has_room_to}
-use Rattle.imp_node.specs.State.{State, ImpTurn, number, port_at}
 use Rattle.imp_node.specs.Turns.{from_line_grows}
 use Rattle.imp_node.proofs.Arrivals.{from_line_fresh}
 use Rattle.imp_node.proofs.Pumping.{passed}

@@ -1,17 +1,12 @@
 -- Packets that continue to wait.
+use Rattle.imp_node.proofs.Common.{PacketFields, Table, next_of, Outgoing, Port, has_route, State, port_at}
 use Rattle.std.specs.Prelude.{if◌then◌else◌, is_none, is_some}
 use Rattle.std.specs.List.{AllByRecursion}
 use Rattle.std.proofs.Common.{◌≡◌, ℕ, ◌+◌, ◌<◌, true, List, [], ◌∷◌, ◌++◌, length, take, drop, get_or, Option, Some, None, refl, sym, ap, ◌∙◌, position, arith}
 use Rattle.std.proofs.lemmas.List.{append-nil, append_assoc, drop_more, take_more}
-use Rattle.packetiser.specs.PacketFields.{PacketFields}
 use Rattle.imp_channel.specs.Line.{is_free, submitted, submitted_on}
-use Rattle.routing.specs.RouteTable.{Table, next_of}
-use Rattle.imp_node.specs.declared.outgoing.Outgoing.{Outgoing}
-use Rattle.imp_node.specs.declared.port.Port.{Port}
 use Rattle.imp_node.specs.Arrival.{ignored}
 use Rattle.imp_node.specs.Pump.{Pumped, target, sent_on, packet_sent, and_then, pumped, pump, stored}
-use Rattle.imp_node.specs.Room.{has_route}
-use Rattle.imp_node.specs.State.{State, port_at}
 
 none_of : (o : Option ℕ) → is_none o ≡ true → o ≡ None
 none_of None none = refl

@@ -1,15 +1,11 @@
 -- What the answers to queries say.
+use Rattle.imp_node.proofs.Common.{list_any, cases_Bool, HostMessage, State, is_up, last}
 use Rattle.std.proofs.Common.{◌≡◌, Bool, true, false, not, List, [], ◌∷◌, Some, None, refl, ap, ◌&&◌, ◌||◌, ◌⊎◌, inl, inr, All, Any, if◌then◌else◌}
-use Rattle.std.specs.List.{list_any}
-use Rattle.std.proofs.lemmas.Bool.{cases_Bool}
 use Rattle.std.proofs.lemmas.List.Elements.{All-nil, All-cons}
 use Rattle.std.proofs.lemmas.List.Folds.{Any-from_list_any}
 use Rattle.interface.specs.declared.carrier.CarrierFault.TheVariants as fault
-use Rattle.interface.specs.declared.message.HostMessage.{HostMessage}
-use Rattle.imp_node.specs.State.{State, is_up}
 use Rattle.imp_node.specs.Flows.{is_idle, next_number}
 use Rattle.imp_node.specs.Offering.{Way, Nowhere, Here, Away, is_own, goes, begins, way_of, way_has_room, from_host, from_host_refusal}
-use Rattle.imp_node.specs.Queries.{last}
 use Rattle.imp_node.specs.Sides.{Sender}
 use Rattle.imp_node.specs.Moves.{OfferMoves}
 use Rattle.imp_node.proofs.SidesOfCalls.{from_host_moves}

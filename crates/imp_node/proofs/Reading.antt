@@ -1,9 +1,9 @@
 -- Reading and writing the parts of an IMP.
+use Rattle.imp_node.proofs.Common.{Standing}
 use Rattle.std.proofs.Common.{◌≡◌, ℕ, ◌==◌, Bool, true, false, List, get_or, set, Option, Some, None, refl, ap, eqb, cond}
 use Rattle.std.proofs.lemmas.List.{set-get_or}
 use Rattle.std.proofs.lemmas.Bool.{eq-eqb, eqb-true}
 use Rattle.link_table.specs.Flows.{outstanding_in, release_in}
-use Rattle.link_table.specs.declared.source.Standing.{Standing}
 use Rattle.link_table.specs.declared.source.Standing.TheVariants as standing
 use Rattle.link_table.specs.declared.source.Release.TheVariants as release
 

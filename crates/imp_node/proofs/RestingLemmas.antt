@@ -1,31 +1,18 @@
 -- Calls that would give nothing and change nothing.
+use Rattle.imp_node.proofs.Common.{nat_tests, PacketFields, Channel, Frame, packet_of, packets_in, Content, ChannelFault, Received, vector_of, Outgoing, Port, Message, Told, on_port, resent_by, resent_from, resend, told_from, route}
 use Rattle.std.specs.Prelude.{if◌then◌else◌, not, is_some}
 use Rattle.std.specs.List.{sum_by}
 use Rattle.std.proofs.Common.{◌≡◌, ℕ, ◌+◌, ◌<◌, Bool, true, false, zero, suc, List, [], ◌∷◌, ◌++◌, length, map, get_or, set, nat_lt, ◌==◌, ◌&&◌, Option, Some, None, Result, Ok, Err, refl, ap, sym, ◌∙◌, arith}
 use Rattle.std.proofs.lemmas.Bool.{eqb-true}
-use Rattle.std.proofs.lemmas.Bool.Decides.{nat_tests}
 use Rattle.std.proofs.lemmas.List.{append-nil, length-append, set-get_or}
 use Rattle.std.proofs.lemmas.List.Sums.{sum_by-cons}
 use Rattle.interface.specs.declared.carrier.CarrierFault.TheVariants as fault
-use Rattle.packetiser.specs.PacketFields.{PacketFields}
-use Rattle.imp_channel.specs.declared.channel.Channel.{Channel}
-use Rattle.imp_channel.specs.declared.frame.Frame.{Frame}
-use Rattle.imp_channel.specs.Holding.{packet_of, packets_in}
-use Rattle.imp_channel.specs.declared.frame.Content.{Content}
 use Rattle.imp_channel.specs.declared.frame.Content.TheVariants as content
-use Rattle.imp_channel.specs.declared.fault.ChannelFault.{ChannelFault}
 use Rattle.imp_channel.specs.declared.fault.ChannelFault.TheVariants as channel_fault
-use Rattle.imp_channel.specs.declared.line.Received.{Received}
 use Rattle.imp_channel.specs.declared.line.Received.TheVariants as received
 use Rattle.imp_channel.specs.Line.{End, frames_of, frames_from, resent, differs, acknowledged, all_acknowledged, acknowledgement, is_foreign, has_expected_bit, state_after, answer_to, is_repeat_answer}
-use Rattle.routing.specs.RouteTable.{vector_of}
-use Rattle.imp_node.specs.declared.outgoing.Outgoing.{Outgoing}
-use Rattle.imp_node.specs.declared.port.Port.{Port}
-use Rattle.imp_node.specs.declared.waiting.Message.{Message}
-use Rattle.imp_node.specs.declared.waiting.Told.{Told}
 use Rattle.imp_node.specs.State.{State, ImpTurn, host_at, port_at, down_port, with_port}
 use Rattle.imp_node.specs.Arrival.{ignored, taken_frame, frame_taken, vector_heard, from_line}
-use Rattle.imp_node.specs.Lines.{on_port, resent_by, resent_from, resend, told_from, route}
 use Rattle.imp_node.specs.Pump.{pump, pumped}
 use Rattle.imp_node.specs.Inside.Arriving.{with_acks}
 use Rattle.imp_node.specs.Arrival as arrivals

@@ -1,23 +1,16 @@
 -- Looking through all that an IMP holds.
+use Rattle.imp_node.proofs.Common.{list_any, flat_map, Flow, PacketFields, flow_of, Channel, Port, State, HostState, packets_in_channels, messages, is_request}
 use Rattle.std.proofs.Common.{◌≡◌, ℕ, zero, suc, ◌<◌, ◌≤◌, Bool, true, false, ◌||◌, ◌&&◌, List, [], ◌∷◌, ◌++◌, length, drop, slice_get, option_map, All, Some, None, refl, ap, sym, ◌∙◌, arith}
-use Rattle.std.specs.List.{list_any, flat_map}
 use Rattle.std.proofs.lemmas.List.{drop_all}
 use Rattle.std.proofs.lemmas.List.Folds.{list_any-append}
 use Rattle.std.proofs.lemmas.List.Sorted.{list_any-IsPermutation, length_permutation}
-use Rattle.interface.specs.declared.address.Flow.{Flow}
 use Rattle.interface.proofs.lemmas.{or_nothing}
-use Rattle.packetiser.specs.PacketFields.{PacketFields, flow_of}
 use Rattle.packetiser.specs.Slots as slots
 use Rattle.packetiser.specs.Slots.{SlotState, IsSlot, IsTable, IsPieceFor, in_some_order}
 use Rattle.packetiser.specs.declared.reassembly.Held.{Held}
 use Rattle.packetiser.proofs.lemmas.{named_once}
-use Rattle.imp_channel.specs.declared.channel.Channel.{Channel}
 use Rattle.imp_channel.specs.Holding as channels
-use Rattle.imp_node.specs.declared.port.Port.{Port}
 use Rattle.imp_node.specs.declared.seeking.Sought.{Sought}
-use Rattle.imp_node.specs.State.{State, HostState}
-use Rattle.imp_node.specs.Contents.{packets_in_channels, messages}
-use Rattle.imp_node.specs.Queries.{is_request}
 use Rattle.imp_node.specs.Inside.Seeking.{is_sought, packet_is, message_is, found}
 
 -- what is looked for in lists, one after another

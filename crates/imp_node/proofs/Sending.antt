@@ -1,14 +1,8 @@
 -- Frames that are sent again.
+use Rattle.imp_node.proofs.Common.{PacketFields, Channel, packet_of, packets_in, Frame, Outgoing, Port, on_port, resent_by}
 use Rattle.std.proofs.Common.{◌≡◌, ℕ, ◌+◌, ◌<◌, Bool, true, List, [], ◌∷◌, ◌++◌, length, drop, map, Option, Some, None, sym, ap, ◌∙◌, arith}
 use Rattle.std.proofs.lemmas.List.{length-map, append_assoc, drop_more, map-append}
-use Rattle.packetiser.specs.PacketFields.{PacketFields}
-use Rattle.imp_channel.specs.declared.channel.Channel.{Channel}
-use Rattle.imp_channel.specs.Holding.{packet_of, packets_in}
-use Rattle.imp_channel.specs.declared.frame.Frame.{Frame}
 use Rattle.imp_channel.specs.Line.{End, opening_channel, channel_at, frames_of, frames_from, resent}
-use Rattle.imp_node.specs.declared.outgoing.Outgoing.{Outgoing}
-use Rattle.imp_node.specs.declared.port.Port.{Port}
-use Rattle.imp_node.specs.Lines.{on_port, resent_by}
 
 some_by : (e : End) (c : ℕ) (bit : Bool) (packet : Option PacketFields) (rest : List Channel)
     → (0 < length (packets_in rest) → 0 < length (frames_from e (c + 1) rest))

@@ -1,13 +1,10 @@
 -- What is known of the flow of the worked rows, whose host has sent one message.
-use Rattle.std.proofs.Common.{◌≡◌, Option, Some, ap, ◌∙◌}
+use Rattle.imp_node.proofs.Common.{◌≡◌, Option, Some, ap, ◌∙◌, flow_cmp, Standing, host, flow}
 use Rattle.std.specs.Option.{option_map}
 use Rattle.std.specs.FinMap as finite
-use Rattle.interface.specs.Flow.{flow_cmp}
 use Rattle.link_table.specs.Flows.{number_in, begun, flow_answered, handed, given_up, answered_in, given_up_in, handed_in}
-use Rattle.link_table.specs.declared.source.Standing.{Standing}
 use Rattle.link_table.specs.declared.source.Standing.TheVariants as standing
 use Rattle.link_table.proofs.lemmas.{get_answered, get_begun, get_given_up, get_handed}
-use Rattle.imp_node.specs.Examples.{host, flow}
 
 -- the state of the flow, step by step
 pub is_begun : finite.get (begun finite.empty (flow (host 0 1) (host 0 2) 7)) (flow (host 0 1) (host 0 2) 7) ≡ Some (standing.Outstanding 0)

@@ -1,24 +1,13 @@
 -- What the steps of calls do to the two sides of each flow.
+use Rattle.imp_node.proofs.Common.{cases_Bool, same_flow, Flow, Answer, Fate, Noted, Release, Standing, Message, Told, State, HostState, no_host, host_at, is_up, with_host, last, outstanding}
 use Rattle.std.proofs.Common.{◌≡◌, ℕ, zero, suc, Bool, true, false, List, [], ◌∷◌, ◌++◌, get_or, set, Option, Some, None, refl, ap, sym, ◌∙◌, subst, cond, ◌==◌, ◌⊎◌, inl, inr, eqb-true}
-use Rattle.std.proofs.lemmas.Bool.{cases_Bool}
 use Rattle.std.specs.FinMap as finite
 use Rattle.std.specs.Option.{option_map}
-use Rattle.interface.specs.Flow.{same_flow}
-use Rattle.interface.specs.declared.address.Flow.{Flow}
-use Rattle.interface.specs.declared.crossing.Answer.{Answer}
 use Rattle.interface.proofs.lemmas.{same_flow-refl}
 use Rattle.link_table.specs.Flows.{Sources, Destinations, last_in, outstanding_in, release_in, begun, flow_answered, given_up, handed, ended, ended_in}
-use Rattle.link_table.specs.declared.destination.Fate.{Fate}
-use Rattle.link_table.specs.declared.destination.Noted.{Noted}
-use Rattle.link_table.specs.declared.source.Release.{Release}
 use Rattle.link_table.specs.declared.source.Release.TheVariants as release
 use Rattle.link_table.specs.declared.source.Standing.TheVariants as standing
-use Rattle.link_table.specs.declared.source.Standing.{Standing}
 use Rattle.link_table.proofs.lemmas.{answered_frees, answered_last, get_answered, get_begun, get_ended, get_given_up, get_put, given_up_frees, given_up_last, handed_last, handed_outstanding}
-use Rattle.imp_node.specs.declared.waiting.Message.{Message}
-use Rattle.imp_node.specs.declared.waiting.Told.{Told}
-use Rattle.imp_node.specs.State.{State, HostState, no_host, host_at, is_up, with_host}
-use Rattle.imp_node.specs.Queries.{last, outstanding}
 use Rattle.imp_node.specs.Flows.{given, answer_queued, answered_by, freed, noted, fated, message_queued, next_number, with_begun}
 use Rattle.imp_node.specs.Sides.{answers_of, messages_of, Sender, Receiver, sender, receiver, begun_with, told_with, ended_with, noted_with, fated_with, queued_with, AllUnmoved, Moved}
 

@@ -1,48 +1,25 @@
 -- How each call moves the flows of an IMP.
+use Rattle.imp_node.proofs.Common.{cases_Bool, Flow, Answer, HostMessage, Fate, Noted, Release, PacketFields, flow_of, PacketKind, carried_by, answer_to, ChannelFault, Frame, Received, fresh_carried, Message, Told, State, HostState, no_host, host_at, port_at, with_host, number, is_up, has_route, last, outstanding, is_request, Way, Nowhere, Here, Away, way_of, offered, from_host, is_from_here, reply_has_room, replied, taken_by, to_host, resend, route, end_down, end_up, asked_by, ask}
 use Rattle.std.proofs.Common.{◌≡◌, ℕ, ◌<◌, zero, suc, Bool, true, false, not, List, [], ◌∷◌, length, get_or, set, Option, Some, None, Result, Ok, Err, refl, ap, sym, ◌∙◌, subst, cond, ◌==◌, ◌⊎◌, inl, inr, eqb-true, eq-eqb, if◌then◌else◌}
 use Rattle.std.proofs.lemmas.List.{get_or-set_same, get_or-set_other}
 use Rattle.std.specs.FinMap as finite
-use Rattle.std.proofs.lemmas.Bool.{cases_Bool}
 use Rattle.bit_messages.specs.Body.{body, has_mark, text_of}
-use Rattle.interface.specs.declared.address.Flow.{Flow}
-use Rattle.interface.specs.declared.crossing.Answer.{Answer}
 use Rattle.interface.specs.declared.crossing.Answer.TheVariants as answer
-use Rattle.interface.specs.declared.message.HostMessage.{HostMessage}
 use Rattle.link_table.specs.Flows.{Sources, kept_in, told_by, told_in, last_in, outstanding_in, release_in, given_up, handed}
 use Rattle.link_table.specs.Keys.{is_from, drop_from}
 use Rattle.link_table.specs.Numbers.{is_new}
 use Rattle.link_table.specs.declared.destination.Asked.TheVariants as asked
-use Rattle.link_table.specs.declared.destination.Fate.{Fate}
 use Rattle.link_table.specs.declared.destination.Fate.TheVariants as fate
-use Rattle.link_table.specs.declared.destination.Noted.{Noted}
-use Rattle.link_table.specs.declared.source.Release.{Release}
 use Rattle.link_table.specs.declared.source.Release.TheVariants as release
 use Rattle.link_table.proofs.lemmas.{get_dropped, handed_last, handed_outstanding}
-use Rattle.packetiser.specs.PacketFields.{PacketFields, flow_of}
 use Rattle.packetiser.specs.Slots.{answer_of}
-use Rattle.packetiser.specs.declared.packet.PacketKind.{PacketKind}
 use Rattle.packetiser.specs.declared.packet.PacketKind.TheVariants as kind
 use Rattle.packetiser.specs.declared.reassembly.Added.{Added}
 use Rattle.packetiser.specs.declared.reassembly.Added.TheVariants as piece
-use Rattle.imp_channel.specs.Holding.{carried_by}
-use Rattle.imp_channel.specs.Line.{answer_to}
-use Rattle.imp_channel.specs.declared.fault.ChannelFault.{ChannelFault}
-use Rattle.imp_channel.specs.declared.frame.Frame.{Frame}
-use Rattle.imp_channel.specs.declared.line.Received.{Received}
 use Rattle.imp_channel.specs.declared.line.Received.TheVariants as received
-use Rattle.imp_channel.proofs.lemmas.{fresh_carried}
-use Rattle.imp_node.specs.declared.waiting.Message.{Message}
-use Rattle.imp_node.specs.declared.waiting.Told.{Told}
-use Rattle.imp_node.specs.State.{State, HostState, no_host, host_at, port_at, with_host, number, is_up}
-use Rattle.imp_node.specs.Room.{has_route}
 use Rattle.imp_node.specs.Pump.{pump, target, stored}
 use Rattle.imp_node.specs.Flows.{freed, answer_queued, next_number, with_begun, noted, fated, message_queued, answer_packet}
-use Rattle.imp_node.specs.Queries.{last, outstanding, is_request}
-use Rattle.imp_node.specs.Offering.{Way, Nowhere, Here, Away, way_of, offered, from_host}
 use Rattle.imp_node.specs.Arrival.{Arrival, Passing, Old, Undeliverable, Replying, Piece, NoSlot, Whole, Unmarked, Answering, piece_arrival, ask_arrival, arrival_by, arrival, arrival_has_room, arrived, frame_taken, acknowledged, ignored, fresh, taken_frame, from_line}
-use Rattle.imp_node.specs.Taking.{is_from_here, reply_has_room, replied, taken_by, to_host}
-use Rattle.imp_node.specs.Lines.{resend, route, end_down, end_up}
-use Rattle.imp_node.specs.Asking.{asked_by, ask}
 use Rattle.imp_node.specs.Stopping.{give_up, forget, abandon, all_handed, told_back, message_returned, stopped, host_up}
 use Rattle.imp_node.specs.Sides.{answers_of, messages_of, Sender, Receiver, sender, receiver, begun_with, ended_with, noted_with, fated_with, queued_with, Unmoved, AllUnmoved, Moved}
 use Rattle.imp_node.specs.Moves.{OfferMoves, AnswerMoves, MakesWhole, TellsFate, Tells, ArrivalSays, ArrivalMoves, FrameMoves, without_first, sender_told, TellingMoves, ReturningMoves, source_down, destination_down, source_up, destination_up, Becomes}

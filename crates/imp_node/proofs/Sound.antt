@@ -1,43 +1,22 @@
 -- What holds of an IMP after every call, if it held before.
+use Rattle.imp_node.proofs.Common.{cases_Bool, Flow, Answer, HostMessage, Fate, Release, PacketKind, carried_by, answer_to, ChannelFault, Frame, Received, fresh_carried, Outgoing, Message, Told, State, HostState, opening_node, up_host, no_host, host_at, port_at, with_host, number, is_up, has_route, pump, is_from_here, reply_has_room, replied, taken_by, to_host, resend, route, end_down, end_up, outstanding}
 use Rattle.std.proofs.Common.{◌≡◌, ℕ, zero, suc, Bool, true, false, not, List, [], ◌∷◌, ◌++◌, get_or, set, Option, Some, None, Result, Ok, Err, refl, ◌∙◌, subst, cond, ◌==◌, inl, inr, eqb-true, All, replicate, arith}
 use Rattle.std.specs.FinMap as finite
-use Rattle.std.proofs.lemmas.Bool.{cases_Bool}
 use Rattle.std.proofs.lemmas.List.Elements.{All-nil, All-head, All-tail, All-push}
-use Rattle.interface.specs.declared.address.Flow.{Flow}
 use Rattle.interface.specs.declared.carrier.CarrierFault.{CarrierFault}
 use Rattle.interface.specs.declared.carrier.CarrierFault.TheVariants as fault
-use Rattle.interface.specs.declared.crossing.Answer.{Answer}
 use Rattle.interface.specs.declared.crossing.Answer.TheVariants as answer
-use Rattle.interface.specs.declared.message.HostMessage.{HostMessage}
 use Rattle.link_table.specs.Flows.{release_in, given_up}
-use Rattle.link_table.specs.declared.destination.Fate.{Fate}
 use Rattle.link_table.specs.declared.destination.Fate.TheVariants as fate
-use Rattle.link_table.specs.declared.source.Release.{Release}
 use Rattle.link_table.specs.declared.source.Release.TheVariants as release
 use Rattle.packetiser.specs.PacketFields.{PacketFields, IsPacket, flow_of}
 use Rattle.packetiser.specs.Slots.{added}
-use Rattle.packetiser.specs.declared.packet.PacketKind.{PacketKind}
 use Rattle.packetiser.specs.declared.packet.PacketKind.TheVariants as kind
 use Rattle.packetiser.proofs.lemmas.{added_table, without_table}
-use Rattle.imp_channel.specs.Holding.{carried_by}
-use Rattle.imp_channel.specs.Line.{answer_to}
-use Rattle.imp_channel.specs.declared.fault.ChannelFault.{ChannelFault}
-use Rattle.imp_channel.specs.declared.frame.Frame.{Frame}
-use Rattle.imp_channel.specs.declared.line.Received.{Received}
 use Rattle.imp_channel.specs.declared.line.Received.TheVariants as received
-use Rattle.imp_channel.proofs.lemmas.{fresh_carried}
-use Rattle.imp_node.specs.declared.outgoing.Outgoing.{Outgoing}
-use Rattle.imp_node.specs.declared.waiting.Message.{Message}
-use Rattle.imp_node.specs.declared.waiting.Told.{Told}
-use Rattle.imp_node.specs.State.{State, HostState, opening_node, up_host, no_host, host_at, port_at, with_host, number, is_up}
-use Rattle.imp_node.specs.Room.{has_route}
-use Rattle.imp_node.specs.Pump.{pump}
 use Rattle.imp_node.specs.Flows.{given, answer_queued, answered_by, noted, fated, message_queued, next_number, with_begun}
 use Rattle.imp_node.specs.Offering.{Way, Nowhere, Here, Away, way_of, is_own, offered, from_host, from_host_refusal}
 use Rattle.imp_node.specs.Arrival.{Arrival, Passing, Old, Undeliverable, Replying, Piece, NoSlot, Whole, Unmarked, Answering, arrival, arrival_has_room, arrived, frame_taken, acknowledged, ignored, fresh, taken_frame, from_line}
-use Rattle.imp_node.specs.Taking.{is_from_here, reply_has_room, replied, taken_by, to_host}
-use Rattle.imp_node.specs.Lines.{resend, route, end_down, end_up}
-use Rattle.imp_node.specs.Queries.{outstanding}
 use Rattle.imp_node.specs.Asking.{ask_refusal, asked_by, ask}
 use Rattle.imp_node.specs.Stopping.{give_up, give_up_refusal, forget, abandon, message_returned, all_returned, stopped, host_down, host_up}
 use Rattle.imp_node.specs.Moves.{ArrivalSays}

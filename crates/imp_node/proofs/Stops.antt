@@ -1,10 +1,8 @@
 -- A host that goes down.
+use Rattle.imp_node.proofs.Common.{Message, State, HostState, host_at, no_host, with_host, all_returned}
 use Rattle.std.proofs.Common.{◌≡◌, ℕ, ◌<◌, false, List, [], ◌∷◌, length, get_or, set, nat_lt, refl, ap, sym, ◌∙◌, arith}
 use Rattle.std.proofs.lemmas.List.{set-get_or, set-set, get_or-set_same}
 use Rattle.link_table.specs.Flows.{Sources}
-use Rattle.imp_node.specs.declared.waiting.Message.{Message}
-use Rattle.imp_node.specs.State.{State, HostState, host_at, no_host, with_host}
-use Rattle.imp_node.specs.Stopping.{all_returned}
 
 emptied : (h : HostState) → h.queue ≡ [] → record h { queue = [] } ≡ h
 emptied h none = ap (λ (q : List Message). record h { queue = q }) (sym none)

@@ -1,9 +1,6 @@
 -- What a host takes.
+use Rattle.imp_node.proofs.Common.{Flow, Message, Told, State}
 use Rattle.std.proofs.Common.{◌≡◌, true, false, List, [], ◌∷◌, length, slice_get, option_map, nat_lt, Some, None, refl, ap, arith}
-use Rattle.interface.specs.declared.address.Flow.{Flow}
-use Rattle.imp_node.specs.declared.waiting.Message.{Message}
-use Rattle.imp_node.specs.declared.waiting.Told.{Told}
-use Rattle.imp_node.specs.State.{State}
 use Rattle.imp_node.specs.Taking.{taking_has_room, reply_has_room}
 
 -- an answer is always taken

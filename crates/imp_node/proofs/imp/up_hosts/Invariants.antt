@@ -1,5 +1,4 @@
-use Rattle.std.proofs.Common.{◌≡◌, replicate}
-use Rattle.imp_node.specs.State.{up_host}
+use Rattle.imp_node.proofs.Common.{◌≡◌, replicate, up_host}
 use Rattle.imp_node.proofs.imp.up_hosts.Given as goal
 
 abbrev pub invariant-loop : goal.invariant-loop

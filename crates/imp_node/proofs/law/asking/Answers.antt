@@ -1,4 +1,4 @@
-use Rattle.imp_node.specs.Contents.{packets, messages}
+use Rattle.imp_node.proofs.Common.{packets, messages}
 use Rattle.imp_node.specs.Queries.{packet_has, message_has, is_request_between, is_message_between, packet_touches, message_touches}
 use Rattle.imp_node.proofs.Queried.{found, not_found, begins_refusal, begins_number, begins_nothing}
 use Rattle.imp_node.proofs.law.asking.Goals as goal

@@ -1,14 +1,10 @@
-use Rattle.std.proofs.Common.{◌≡◌, Option, Some, refl, ap, ◌∙◌}
-use Rattle.std.specs.FinMap.{get, empty, get-empty}
-use Rattle.interface.specs.Flow.{flow_cmp}
+use Rattle.imp_node.proofs.Common.{◌≡◌, Option, Some, refl, ap, ◌∙◌, get, empty, get-empty, flow_cmp, Standing, host, flow}
 use Rattle.imp_channel.specs.Line.{submitted}
 use Rattle.link_table.specs.Flows.{number_in, begun, flow_answered, handed}
 use Rattle.link_table.specs.Numbers.{is_new}
-use Rattle.link_table.specs.declared.source.Standing.{Standing}
 use Rattle.link_table.specs.declared.source.Standing.TheVariants as standing
 use Rattle.link_table.proofs.lemmas.{get_begun}
 use Rattle.routing.specs.RouteTable.{next_of, distance_to, vector_of}
-use Rattle.imp_node.specs.Examples.{host, flow}
 use Rattle.imp_node.proofs.law.worked_hosts.Goals as goal
 
 -- the seventeenth message is outstanding

@@ -1,14 +1,11 @@
-use Rattle.std.proofs.Common.{◌≡◌, ℕ, Some, refl}
+use Rattle.imp_node.proofs.Common.{◌≡◌, ℕ, Some, refl, flow_cmp, Fate, host, flow}
 use Rattle.std.specs.FinMap as finite
-use Rattle.interface.specs.Flow.{flow_cmp}
 use Rattle.imp_channel.specs.Line.{submitted}
 use Rattle.link_table.specs.Flows.{begun, flow_answered, handed, noted}
 use Rattle.link_table.specs.Numbers.{modulus, window, is_new}
-use Rattle.link_table.specs.declared.destination.Fate.{Fate}
 use Rattle.link_table.specs.declared.destination.Fate.TheVariants as fate
 use Rattle.link_table.proofs.lemmas.{get_dropped, get_put}
 use Rattle.routing.specs.RouteTable.{next_of, distance_to, vector_of}
-use Rattle.imp_node.specs.Examples.{host, flow}
 use Rattle.imp_node.proofs.law.worked_questions.Goals as goal
 
 -- what is kept of the flow after a number of it was noted

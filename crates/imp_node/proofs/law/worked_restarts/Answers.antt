@@ -1,17 +1,13 @@
+use Rattle.imp_node.proofs.Common.{get, empty, get-empty, flow_cmp, same_flow, Flow, Standing, host, flow}
 use Rattle.std.proofs.Common.{◌≡◌, ℕ, Bool, true, false, Option, Some, None, IsSome, is_some, refl, ap, ◌∙◌, if◌then◌else◌, inl, inr, arith, eqb, ◌&&◌}
 use Rattle.std.proofs.lemmas.Bool.{cases_Bool, eqb-true, ne_eqb}
-use Rattle.std.specs.FinMap.{get, empty, get-empty}
 use Rattle.std.specs.Option.{option_map}
-use Rattle.interface.specs.Flow.{flow_cmp, same_flow}
 use Rattle.interface.specs.Host.{Host, same_host}
-use Rattle.interface.specs.declared.address.Flow.{Flow}
 use Rattle.imp_channel.specs.Line.{submitted}
 use Rattle.link_table.specs.Flows.{Sources, begun, given_up, handed, outstanding_in, has_outstanding, number_in, given_up_in}
-use Rattle.link_table.specs.declared.source.Standing.{Standing}
 use Rattle.link_table.specs.declared.source.Standing.TheVariants as standing
 use Rattle.link_table.proofs.lemmas.{get_begun, get_given_up, handed_outstanding, outstanding_none, outstanding_one}
 use Rattle.routing.specs.RouteTable.{next_of, distance_to}
-use Rattle.imp_node.specs.Examples.{host, flow}
 use Rattle.imp_node.proofs.SentFlow.{is_begun, is_taken}
 use Rattle.imp_node.proofs.law.worked_restarts.Goals as goal
 use Rattle.interface.proofs.lemmas.{and_second}

@@ -1,7 +1,4 @@
-use Rattle.std.proofs.Common.{refl}
-use Rattle.std.specs.FinMap.{get-empty}
-use Rattle.interface.specs.Flow.{flow_cmp}
-use Rattle.imp_node.specs.Examples.{host, flow}
+use Rattle.imp_node.proofs.Common.{refl, get-empty, flow_cmp, host, flow}
 use Rattle.imp_channel.specs.Line.{submitted}
 use Rattle.routing.specs.RouteTable.{next_of, distance_to, vector_of}
 use Rattle.imp_node.proofs.law.worked_room.Goals as goal

@@ -1,7 +1,6 @@
+use Rattle.imp_node.proofs.Common.{packets_in, Outgoing}
 use Rattle.std.proofs.Common.{◌≡◌, List, ◌++◌, length, sym, ap, ◌∙◌}
 use Rattle.std.proofs.lemmas.List.{append-nil}
-use Rattle.imp_channel.specs.Holding.{packets_in}
-use Rattle.imp_node.specs.declared.outgoing.Outgoing.{Outgoing}
 use Rattle.imp_node.proofs.RestingLemmas.{none_resent}
 use Rattle.imp_node.proofs.lines.push_resent.Goals as goal
 

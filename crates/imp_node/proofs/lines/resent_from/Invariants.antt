@@ -1,5 +1,4 @@
-use Rattle.std.proofs.Common.{◌≡◌, ◌++◌, drop}
-use Rattle.imp_node.specs.Lines.{resent_from}
+use Rattle.imp_node.proofs.Common.{◌≡◌, ◌++◌, drop, resent_from}
 use Rattle.imp_node.proofs.lines.resent_from.Given as goal
 
 -- the frames so far, and those of the ports that are left

@@ -1,6 +1,4 @@
-use Rattle.std.proofs.lemmas.List.Elements.{All-drop}
-use Rattle.imp_node.specs.declared.waiting.Message.{Message}
-use Rattle.imp_node.specs.Inside.Parts.{IsPacketFlow}
+use Rattle.imp_node.proofs.Common.{All-drop, Message, IsPacketFlow}
 use Rattle.imp_node.proofs.host.Host.take_message.Goals as goal
 
 pub invariant_of-self : goal.invariant_of-self

@@ -1,8 +1,6 @@
+use Rattle.imp_node.proofs.Common.{Frame, acknowledgement, State, port_at}
 use Rattle.std.proofs.Common.{◌≡◌, true, [], ◌∷◌, rules, sym, ap, ◌∙◌}
-use Rattle.imp_channel.specs.declared.frame.Frame.{Frame}
-use Rattle.imp_channel.specs.Line.{acknowledgement}
 use Rattle.imp_node.specs.Resting.{is_repeat}
-use Rattle.imp_node.specs.State.{State, port_at}
 use Rattle.imp_node.proofs.RestingLemmas.{leaving, repeat_taken}
 use Rattle.imp_node.proofs.imp.Imp.answers.Goals as goal
 

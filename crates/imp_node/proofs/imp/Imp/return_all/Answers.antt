@@ -1,8 +1,5 @@
+use Rattle.imp_node.proofs.Common.{All-drop, Message, all_returned, IsPacketFlow}
 use Rattle.std.proofs.Common.{◌≡◌, ◌∷◌, List, drop, ap, sym, ◌∙◌}
-use Rattle.std.proofs.lemmas.List.Elements.{All-drop}
-use Rattle.imp_node.specs.declared.waiting.Message.{Message}
-use Rattle.imp_node.specs.Stopping.{all_returned}
-use Rattle.imp_node.specs.Inside.Parts.{IsPacketFlow}
 use Rattle.imp_node.proofs.Firsts.{first_is}
 use Rattle.imp_node.proofs.imp.Imp.return_all.Goals as goal
 

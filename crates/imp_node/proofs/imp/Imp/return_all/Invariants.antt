@@ -1,5 +1,5 @@
+use Rattle.imp_node.proofs.Common.{all_returned}
 use Rattle.std.proofs.Common.{◌≡◌, length}
-use Rattle.imp_node.specs.Stopping.{all_returned}
 use Rattle.imp_node.specs.Inside.Parts.{AreOfPackets}
 use Rattle.imp_node.proofs.imp.Imp.return_all.Given as goal
 
