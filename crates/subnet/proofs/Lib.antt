@@ -1,3 +1,4 @@
+pub mod Common
 pub mod Moves
 pub mod Packets
 pub mod Calls

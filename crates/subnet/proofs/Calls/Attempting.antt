@@ -1,20 +1,9 @@
 -- A call that is refused changes nothing, where the IMP's turn would change nothing.
+use Rattle.subnet.proofs.Common.{set-get_or, nat_tests, is_memory, CarrierFault, answer_to, Frame, State, ImpTurn, port_at, down_port, Port, Net, imp_at, with_turn, at_up, at_imp, grows_at, ImpCall}
 use Rattle.std.specs.Prelude.{if◌then◌else◌}
 use Rattle.std.proofs.Common.{◌≡◌, ℕ, ◌≤◌, zero, suc, Bool, true, false, List, [], ◌∷◌, set, length, nat_lt, Option, Some, None, Result, Ok, Err, OnOk, refl, ap, sym, subst, ◌∙◌, arith}
-use Rattle.std.proofs.lemmas.List.{set-get_or}
-use Rattle.std.proofs.lemmas.Bool.Decides.{nat_tests}
-use Rattle.interface.specs.Calls.{is_memory}
-use Rattle.interface.specs.declared.carrier.CarrierFault.{CarrierFault}
 use Rattle.interface.specs.declared.carrier.CarrierFault.TheVariants as fault
-use Rattle.imp_channel.specs.Line.{answer_to}
-use Rattle.imp_channel.specs.declared.frame.Frame.{Frame}
-use Rattle.imp_node.specs.State.{State, ImpTurn, port_at, down_port}
 use Rattle.imp_node.specs.Arrival.{taken_frame, ignored}
-use Rattle.imp_node.specs.declared.port.Port.{Port}
-use Rattle.subnet.specs.Net.{Net, imp_at, with_turn}
-use Rattle.subnet.specs.Events.{at_up, at_imp}
-use Rattle.subnet.specs.Calls.{grows_at}
-use Rattle.subnet.specs.declared.imp_call.ImpCall.{ImpCall}
 use Rattle.subnet.specs.declared.imp_call.ImpCall.TheVariants as call
 use Rattle.subnet.specs.Inside.Calling.{call_refusal, call_turn, call_grows, AreLive, Fails, Makes, Ignores, runs_out}
 

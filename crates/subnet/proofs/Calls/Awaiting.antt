@@ -1,16 +1,8 @@
 -- Whether a message to a host at an IMP is outstanding, in tables of known flows.
+use Rattle.subnet.proofs.Common.{cases_Bool, get, empty, get-empty, flow_cmp, Flow, has_from, Noted, Standing, asked, get_begun, outstanding_to_none, outstanding_to_one, ours}
 use Rattle.std.proofs.Common.{◌≡◌, ℕ, true, false, [], Option, Some, None, IsSome, is_some, ap, sym, ◌∙◌, ◌==◌, inl, inr}
-use Rattle.std.proofs.lemmas.Bool.{cases_Bool}
-use Rattle.std.specs.FinMap.{get, empty, get-empty}
-use Rattle.interface.specs.Flow.{flow_cmp}
-use Rattle.interface.specs.declared.address.Flow.{Flow}
 use Rattle.link_table.specs.Flows.{Sources, begun, number_in, outstanding_in, has_outstanding_to}
-use Rattle.link_table.specs.Keys.{has_from}
-use Rattle.link_table.specs.declared.destination.Noted.{Noted}
-use Rattle.link_table.specs.declared.source.Standing.{Standing}
 use Rattle.link_table.specs.declared.source.Standing.TheVariants as standing
-use Rattle.link_table.proofs.lemmas.{asked, get_begun, outstanding_to_none, outstanding_to_one}
-use Rattle.subnet.specs.Examples.{ours}
 
 pub some_outstanding : (m : Sources) (imp : ℕ) (g : Flow) (n : ℕ) → (g.destination.imp == imp) ≡ true → outstanding_in (get m g) ≡ Some n → has_outstanding_to imp m ≡ true
 some_outstanding m imp g n to is = elim (cases_Bool (has_outstanding_to imp m)) [

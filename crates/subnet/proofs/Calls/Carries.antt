@@ -1,16 +1,11 @@
 -- Frames that are delivered and dropped in a quiet round.
+use Rattle.subnet.proofs.Common.{range_with_len, nat_tests, Direction, Frame, Net, Wire, wire_at, no_wire, frames_on, dropping, carried_first}
 use Rattle.std.proofs.Common.{◌≡◌, ℕ, ◌+◌, ◌-◌, ◌<◌, ◌≤◌, suc, Bool, true, false, ◌&&◌, List, [], ◌∷◌, ◌++◌, length, take, drop, set, nat_lt, slice_get, Some, None, refl, ap, sym, ◌∙◌, arith}
 use Rattle.std.specs.Prelude.{if◌then◌else◌}
-use Rattle.std.specs.List.{range_with_len}
 use Rattle.std.proofs.lemmas.List.{set-get_or, get_or_past}
-use Rattle.std.proofs.lemmas.Bool.Decides.{nat_tests}
-use Rattle.interface.specs.declared.event.Direction.{Direction}
 use Rattle.interface.specs.declared.event.Direction.TheVariants as way
 use Rattle.interface.specs.declared.carrier.CarrierFault.TheVariants as fault
-use Rattle.imp_channel.specs.declared.frame.Frame.{Frame}
-use Rattle.subnet.specs.Net.{Net, Wire, wire_at, no_wire, frames_on, dropping}
 use Rattle.subnet.specs.Events.{deliver, delivered, drop_frame, frame_refusal, carried}
-use Rattle.subnet.specs.Inside.Calling.{carried_first}
 
 -- ---- one more
 

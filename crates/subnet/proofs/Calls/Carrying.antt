@@ -1,11 +1,7 @@
 -- Looking through live frames.
+use Rattle.subnet.proofs.Common.{list_any, carried_by, Frame, packets_on, carries, Wire}
 use Rattle.std.proofs.Common.{◌≡◌, Bool, true, false, ◌||◌, ◌&&◌, List, [], ◌∷◌, ◌++◌, length, refl, ap, ◌∙◌, arith}
-use Rattle.std.specs.List.{list_any}
-use Rattle.imp_channel.specs.Holding.{carried_by}
-use Rattle.imp_channel.specs.declared.frame.Frame.{Frame}
 use Rattle.subnet.specs.declared.seeking.Sought.{Sought}
-use Rattle.subnet.specs.Alive.{packets_on, carries}
-use Rattle.subnet.specs.Net.{Wire}
 use Rattle.subnet.specs.Inside.Seeking.{packet_is, frame_has}
 
 -- nothing is under way where no frame is

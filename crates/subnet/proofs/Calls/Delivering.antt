@@ -1,17 +1,9 @@
 -- Frames that are delivered.
+use Rattle.subnet.proofs.Common.{or_right, nat_tests, Direction, State, ImpTurn, Net, imp_at, wire_at, far_end, frames_on, port_of, imp_is_up, at_imp, delivered, deliver, call_turn, call_grows, Frame}
 use Rattle.std.proofs.Common.{◌≡◌, ℕ, ◌+◌, Bool, true, false, List, [], ◌∷◌, length, nat_lt, slice_get, Option, Some, None, Result, Ok, Err, OnOk, OnErr, ◌||◌, refl, ap, sym, subst, ◌∙◌, add-one, arith}
-use Rattle.std.proofs.lemmas.Bool.{or_right}
-use Rattle.std.proofs.lemmas.Bool.Decides.{nat_tests}
-use Rattle.interface.specs.declared.event.Direction.{Direction}
-use Rattle.imp_node.specs.State.{State, ImpTurn}
 use Rattle.imp_node.specs.Turns.{from_line_grows}
-use Rattle.subnet.specs.Net.{Net, imp_at, wire_at, far_end, frames_on, port_of}
-use Rattle.subnet.specs.Flows.{imp_is_up}
-use Rattle.subnet.specs.Events.{at_imp, delivered, deliver}
 use Rattle.subnet.specs.declared.imp_call.ImpCall.TheVariants as call
-use Rattle.subnet.specs.Inside.Calling.{call_turn, call_grows}
 use Rattle.imp_channel.specs.Holding.{bits_carried}
-use Rattle.imp_channel.specs.declared.frame.Frame.{Frame}
 use Rattle.subnet.specs.Calls.{copy_grows, grows_at, delivered_grows}
 
 above_none : (n : ℕ) → nat_lt 0 (n + 1) ≡ true

@@ -1,10 +1,7 @@
 -- How the call of an IMP ends, and what it leaves in the subnet.
-use Rattle.std.proofs.Common.{Bool, Option, Some, Result, Ok, Err, ap}
-use Rattle.interface.specs.declared.carrier.CarrierFault.{CarrierFault}
+use Rattle.subnet.proofs.Common.{Bool, Option, Some, Result, Ok, Err, ap, CarrierFault, State, CallEnds}
 use Rattle.interface.specs.declared.carrier.CarrierFault.TheVariants as fault
-use Rattle.imp_node.specs.State.{State}
 use Rattle.imp_node.specs.Turns.{Turned}
-use Rattle.subnet.specs.Inside.Calling.{CallEnds}
 
 -- an IMP's answer as that of what is at its place
 pub ends_of_turned : {T : Type 0} (refusal : Option CarrierFault) (grows : Bool) (Gives : T → Type 0) (s t : State) (r : Result T CarrierFault) → Turned refusal grows Gives s t r → CallEnds refusal grows Gives (Some s) (Some t) r

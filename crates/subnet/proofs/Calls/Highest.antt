@@ -1,69 +1,29 @@
 -- No number that is higher than all that were begun is alive of a flow whose source's IMP is up, over each event.
+use Rattle.subnet.proofs.Common.{get-empty, flat_map, list_any, get_or-set_other, All-nil, All-cons, All-head, All-tail, All-append, All-set, All-weaker, All-contains, All-contains_itself, is_memory, same_flow, flow_cmp, Host, is_host, Flow, CarrierFault, Crossing, Inbound, Direction, NetEvent, HostMessage, and_true, guard, not_false, or_false, same_flow-refl, same_flow-true, outstanding_in, body, PacketFields, flow_of, PacketKind, All_left, All_right, Invariant, Queued, carried_by, Content, Frame, ContentHas, Message, Told, ask, answer_packet, next_number, resend, route, end_down, end_up, Way, Nowhere, Here, Away, way_of, from_host, IsImp, messages_of, give_up, forget, abandon, host_down, host_up, is_from_here, taking_has_room, to_host, to_host_refusal, same_at, Net, Wire, imp_at, wire_at, ends_at, port_of, frames_on, far_end, packets, messages, packets_at_imp, packets_on_wire, messages_at_imp, has_flow, is_remembered, is_awaited, is_alive, says, carries, Alive, queued_of, imp_is_up, sender_at, receiver_at, view, Ends, empty_wire, opened_imp, opened_from, opening_subnet, IsAt, IsSound}
 use Rattle.std.proofs.Common.{◌≡◌, ℕ, zero, suc, ◌+◌, ◌≤◌, ◌<◌, max, Bool, true, false, not, List, [], ◌∷◌, ◌++◌, ◌==◌, ◌||◌, map, get_or, Option, Some, None, Result, Ok, Err, is_some, refl, ap, sym, subst, ◌∙◌, inl, inr, cond, eqb-true, eq-eqb, if◌then◌else◌, arith, All, Contains}
 use Rattle.std.specs.Prelude.{slice_set, slice_get, count_by}
 use Rattle.std.specs.FinMap as finite
-use Rattle.std.specs.FinMap.{get-empty}
-use Rattle.std.specs.List.{flat_map, list_any}
 use Rattle.std.proofs.Math.Nat.{le-max_left, le-max_right}
 use Rattle.std.proofs.lemmas.Bool.{cases_Bool, or_from}
-use Rattle.std.proofs.lemmas.List.{get_or-set_other}
-use Rattle.std.proofs.lemmas.List.Elements.{All-nil, All-cons, All-head, All-tail, All-append, All-set, All-weaker, All-contains, All-contains_itself}
 use Rattle.std.proofs.lemmas.List.Folds.{list_any_none}
-use Rattle.interface.specs.Calls.{is_memory}
-use Rattle.interface.specs.Flow.{same_flow, flow_cmp}
-use Rattle.interface.specs.Host.{Host, is_host}
-use Rattle.interface.specs.declared.address.Flow.{Flow}
-use Rattle.interface.specs.declared.carrier.CarrierFault.{CarrierFault}
 use Rattle.interface.specs.declared.carrier.CarrierFault.TheVariants as fault
-use Rattle.interface.specs.declared.crossing.Crossing.{Crossing}
 use Rattle.interface.specs.declared.crossing.Crossing.TheVariants as crossing
-use Rattle.interface.specs.declared.crossing.Inbound.{Inbound}
-use Rattle.interface.specs.declared.event.Direction.{Direction}
-use Rattle.interface.specs.declared.event.NetEvent.{NetEvent}
 use Rattle.interface.specs.declared.event.NetEvent.TheVariants as event
-use Rattle.interface.specs.declared.message.HostMessage.{HostMessage}
-use Rattle.interface.proofs.lemmas.{and_true, guard, not_false, or_false, same_flow-refl, same_flow-true}
-use Rattle.link_table.specs.Flows.{outstanding_in}
-use Rattle.bit_messages.specs.Body.{body}
-use Rattle.packetiser.specs.PacketFields.{PacketFields, flow_of}
-use Rattle.packetiser.specs.declared.packet.PacketKind.{PacketKind}
 use Rattle.packetiser.specs.declared.packet.PacketKind.TheVariants as kind
-use Rattle.packetiser.proofs.lemmas.{All_left, All_right}
-use Rattle.flow_law.specs.Invariant.{Invariant}
 use Rattle.flow_law.specs.Moves as moves
-use Rattle.flow_law.specs.View.{Queued}
-use Rattle.imp_channel.specs.Holding.{carried_by}
-use Rattle.imp_channel.specs.declared.frame.Content.{Content}
 use Rattle.imp_channel.specs.declared.frame.Content.TheVariants as content
-use Rattle.imp_channel.specs.declared.frame.Frame.{Frame}
-use Rattle.imp_channel.proofs.lemmas.{ContentHas}
-use Rattle.imp_node.specs.declared.waiting.Message.{Message}
-use Rattle.imp_node.specs.declared.waiting.Told.{Told}
 use Rattle.imp_node.specs.Arrival.{Arrival, Passing, Old, Undeliverable, Replying, Piece, NoSlot, Whole, Unmarked, Answering, arrival, from_line}
-use Rattle.imp_node.specs.Asking.{ask}
 use Rattle.imp_node.specs.Contents as contents
-use Rattle.imp_node.specs.Flows.{answer_packet, next_number}
-use Rattle.imp_node.specs.Lines.{resend, route, end_down, end_up}
 use Rattle.imp_node.specs.Making.{cut_for, from_host_makes, told_for, reply_for, rfnm_for, to_host_makes, host_down_makes, question_for, ask_makes}
-use Rattle.imp_node.specs.Offering.{Way, Nowhere, Here, Away, way_of, from_host}
 use Rattle.imp_node.specs.Queries.{last, outstanding, holds, packet_touches, message_touches, packet_has, message_has}
-use Rattle.imp_node.specs.Sides.{IsImp, messages_of}
 use Rattle.imp_node.specs.State.{State, HostState, ImpTurn, no_host, host_at, is_there, is_up}
 use Rattle.imp_node.specs.State as imp
-use Rattle.imp_node.specs.Stopping.{give_up, forget, abandon, host_down, host_up}
-use Rattle.imp_node.specs.Taking.{is_from_here, taking_has_room, to_host, to_host_refusal}
-use Rattle.imp_node.proofs.lemmas.{same_at}
-use Rattle.subnet.specs.Net.{Net, Wire, imp_at, wire_at, ends_at, port_of, frames_on, far_end}
-use Rattle.subnet.specs.Alive.{packets, messages, packets_at_imp, packets_on_wire, messages_at_imp, has_flow, is_remembered, is_awaited, is_alive, says, carries}
 use Rattle.subnet.specs.Calls.{take_grows, step_grows}
 use Rattle.subnet.specs.Events.{at_imp, at_up, first_of, logging, is_imp, site_at, hosts_at, started_imp, take_refusal, take_in, taken_by_host, crossings_of, offer_out, delivered, deliver, drop_frame, host_stopped, host_started, starting_refusal, imp_started, imp_stopped, offer_refusal, step_refusal, stepped, quiet_round}
 use Rattle.subnet.specs.Flows as flows
-use Rattle.subnet.specs.Flows.{Alive, queued_of, imp_is_up, sender_at, receiver_at, view}
 use Rattle.subnet.specs.Inside.Calling.{CallEnds, Fails, Steps, runs_out}
 use Rattle.subnet.specs.Inside.Highest.{OutstandingUpTo, ImpUpTo, PacketUpTo, NumbersUpTo, next_at}
 use Rattle.subnet.specs.Making.{NothingNew, OnlyNew, made_at, offer_makes, take_makes, asking_makes, stop_makes, told_made, frame_makes}
-use Rattle.subnet.specs.Opening.{Ends, empty_wire, opened_imp, opened_from, opening_subnet}
-use Rattle.subnet.specs.Sound.{IsAt, IsSound}
 use Rattle.subnet.proofs.Calls.Outstanding.{give_up_low, ask_low, from_host_low, from_line_low, to_host_low, host_down_low}
 use Rattle.subnet.proofs.Calls.Rounds.{round_keeps}
 use Rattle.subnet.proofs.Calls.Silence.{nowhere, parts_left, parts_right}

@@ -1,15 +1,10 @@
 -- The tables of what the ends of lines determine.
-use Rattle.std.specs.Prelude.{if◌then◌else◌}
+use Rattle.subnet.proofs.Common.{sum_by-cons, nat_tests, Direction, Wire, no_wire, wire_at, ends_at, port_of, line_from, dropping, Ends}
+use Rattle.std.specs.Prelude.{if◌then◌else◌, IfSome}
 use Rattle.std.proofs.Common.{◌≡◌, ℕ, ◌+◌, ◌-◌, ◌<◌, ◌≤◌, zero, suc, Bool, true, false, List, [], ◌∷◌, ◌++◌, length, take, drop, get_or, set, slice_get, ◌==◌, ◌||◌, count_by, Option, Some, refl, ap, sym, subst, ◌∙◌, arith, nat_lt}
-use Rattle.std.specs.Prelude.{IfSome}
 use Rattle.std.proofs.lemmas.List.{length-set, length-append, append_assoc, drop_more, get_or_default}
-use Rattle.std.proofs.lemmas.List.Sums.{sum_by-cons}
-use Rattle.std.proofs.lemmas.Bool.Decides.{nat_tests}
-use Rattle.interface.specs.declared.event.Direction.{Direction}
 use Rattle.interface.specs.declared.event.Direction.TheVariants as way
 use Rattle.subnet.specs.declared.lines.EndPorts.{EndPorts}
-use Rattle.subnet.specs.Net.{Wire, no_wire, wire_at, ends_at, port_of, line_from, dropping}
-use Rattle.subnet.specs.Opening.{Ends}
 use Rattle.subnet.specs.Inside.Joined.{numbers, lines_from, ports_at, ports_from, AreJoined}
 use Rattle.subnet.specs.Inside.Taking.{hollowed}
 

@@ -1,18 +1,7 @@
 -- A call leaves each IMP that is up with its number, and with memory where it succeeds.
+use Rattle.subnet.proofs.Common.{set-get_or, get_or_default, IfSome, CarrierFault, Frame, State, ImpTurn, number, to_host, to_host_refusal, at_set, at_up, grows_at, imp_at, ImpCall, call_turn, IsLive, AreLive, CallEnds, imp_by}
 use Rattle.std.proofs.Common.{◌≡◌, ℕ, ◌<◌, zero, suc, Bool, false, List, [], ◌∷◌, get_or, set, length, Option, Some, None, Result, Ok, Err, OnOk, refl, ap, sym, subst, ◌∙◌, arith}
-use Rattle.std.proofs.lemmas.List.{set-get_or, get_or_default}
-use Rattle.std.specs.Prelude.{IfSome}
-use Rattle.interface.specs.declared.carrier.CarrierFault.{CarrierFault}
-use Rattle.imp_channel.specs.declared.frame.Frame.{Frame}
-use Rattle.imp_node.specs.State.{State, ImpTurn, number}
-use Rattle.imp_node.specs.Taking.{to_host, to_host_refusal}
 use Rattle.imp_node.specs.Turns.{to_host_grows}
-use Rattle.imp_node.proofs.lemmas.{at_set}
-use Rattle.subnet.specs.Events.{at_up}
-use Rattle.subnet.specs.Calls.{grows_at}
-use Rattle.subnet.specs.Net.{imp_at}
-use Rattle.subnet.specs.declared.imp_call.ImpCall.{ImpCall}
-use Rattle.subnet.specs.Inside.Calling.{call_turn, IsLive, AreLive, CallEnds, imp_by}
 use Rattle.subnet.proofs.Calls.Owning.{call_own, to_host_own}
 
 live_by : (i : ℕ) (o : Option State) (call : State → ImpTurn) → ((s : State) → number (call s).state ≡ number s) → IsLive i o → IfSome (imp_by o call) (λ s. s.spent ≡ false) → IsLive i (imp_by o call)

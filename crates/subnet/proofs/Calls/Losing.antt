@@ -1,12 +1,7 @@
 -- Frames that are put on full lines.
+use Rattle.subnet.proofs.Common.{set-get_or, nat_tests, Frame, Port, on_port, resent_by, Wire, wire_at, no_wire, followed_by, line_from, put_on, put_all}
 use Rattle.std.proofs.Common.{◌≡◌, ℕ, ◌≤◌, ◌==◌, Bool, true, false, List, [], ◌∷◌, ◌++◌, length, map, set, nat_lt, if◌then◌else◌, Some, None, refl, ap, sym, ◌∙◌, arith}
-use Rattle.std.proofs.lemmas.List.{set-get_or}
-use Rattle.std.proofs.lemmas.Bool.Decides.{nat_tests}
-use Rattle.imp_channel.specs.declared.frame.Frame.{Frame}
 use Rattle.imp_channel.specs.Line as line
-use Rattle.imp_node.specs.declared.port.Port.{Port}
-use Rattle.imp_node.specs.Lines.{on_port, resent_by}
-use Rattle.subnet.specs.Net.{Wire, wire_at, no_wire, followed_by, line_from, put_on, put_all}
 use Rattle.subnet.specs.Inside.Losing.{LosesAll, LosesAllAt}
 
 not_followed : (frames : List Frame) (f : Frame) → 256 ≤ length frames → followed_by frames f ≡ frames

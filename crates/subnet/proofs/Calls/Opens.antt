@@ -1,13 +1,7 @@
 -- A subnet opens.
+use Rattle.subnet.proofs.Common.{IfSome, get_or_default, most_imps, State, Wire, ends_at, port_of, Ends, empty_wire, opened_imp, opened_from, IsLive, AreLive}
 use Rattle.std.proofs.Common.{◌≡◌, ℕ, ◌+◌, ◌<◌, ◌≤◌, zero, suc, List, [], ◌∷◌, length, map, get_or, count_by, Option, Some, None, refl, ap, sym, subst, ◌∙◌, arith, All}
-use Rattle.std.specs.Prelude.{IfSome}
 use Rattle.std.proofs.lemmas.List.Elements.{All-get_or}
-use Rattle.std.proofs.lemmas.List.{get_or_default}
-use Rattle.interface.specs.Host.{most_imps}
-use Rattle.imp_node.specs.State.{State}
-use Rattle.subnet.specs.Net.{Wire, ends_at, port_of}
-use Rattle.subnet.specs.Opening.{Ends, empty_wire, opened_imp, opened_from}
-use Rattle.subnet.specs.Inside.Calling.{IsLive, AreLive}
 use Rattle.subnet.proofs.Calls.Starts as starts
 
 pub places_opened : (i : ℕ) (sites : List (Option ℕ)) (ports : ℕ → ℕ) → length (opened_from i sites ports) ≡ length sites

@@ -1,31 +1,13 @@
 -- Only an offer makes a message outstanding at an IMP: so after any other call the numbers of outstanding messages are as low as before.
+use Rattle.subnet.proofs.Common.{cases_Bool, same_flow, Flow, Answer, HostMessage, same_flow-true, release_in, Release, PacketFields, flow_of, Frame, Message, Told, next_number, Way, Nowhere, Here, Away, way_of, from_host, outstanding, Sender, Receiver, sender, receiver, answers_of, begun_with, told_with, ended_with, noted_with, fated_with, queued_with, AllUnmoved, Moved, ask, give_up, message_returned, all_returned, stopped, host_down, is_from_here, to_host}
 use Rattle.std.proofs.Common.{◌≡◌, ℕ, ◌≤◌, Bool, true, false, List, [], ◌∷◌, ◌==◌, Some, refl, ap, sym, subst, ◌∙◌, inl, inr}
-use Rattle.std.proofs.lemmas.Bool.{cases_Bool}
 use Rattle.std.specs.FinMap as finite
-use Rattle.interface.specs.Flow.{same_flow}
-use Rattle.interface.specs.declared.address.Flow.{Flow}
-use Rattle.interface.specs.declared.crossing.Answer.{Answer}
 use Rattle.interface.specs.declared.crossing.Answer.TheVariants as answer
-use Rattle.interface.specs.declared.message.HostMessage.{HostMessage}
-use Rattle.interface.proofs.lemmas.{same_flow-true}
-use Rattle.link_table.specs.Flows.{release_in}
 use Rattle.link_table.specs.declared.destination.Fate.TheVariants as fate
-use Rattle.link_table.specs.declared.source.Release.{Release}
 use Rattle.link_table.specs.declared.source.Release.TheVariants as release
-use Rattle.packetiser.specs.PacketFields.{PacketFields, flow_of}
-use Rattle.imp_channel.specs.declared.frame.Frame.{Frame}
-use Rattle.imp_node.specs.declared.waiting.Message.{Message}
-use Rattle.imp_node.specs.declared.waiting.Told.{Told}
 use Rattle.imp_node.specs.State.{State, host_at, is_up}
 use Rattle.imp_node.specs.Arrival.{Arrival, Passing, Old, Undeliverable, Replying, Piece, NoSlot, Whole, Unmarked, Answering, arrival, from_line}
-use Rattle.imp_node.specs.Flows.{next_number}
 use Rattle.imp_node.specs.Moves.{OfferMoves, AnswerMoves, ArrivalMoves, sender_told, source_down, without_first}
-use Rattle.imp_node.specs.Offering.{Way, Nowhere, Here, Away, way_of, from_host}
-use Rattle.imp_node.specs.Queries.{outstanding}
-use Rattle.imp_node.specs.Sides.{Sender, Receiver, sender, receiver, answers_of, begun_with, told_with, ended_with, noted_with, fated_with, queued_with, AllUnmoved, Moved}
-use Rattle.imp_node.specs.Asking.{ask}
-use Rattle.imp_node.specs.Stopping.{give_up, message_returned, all_returned, stopped, host_down}
-use Rattle.imp_node.specs.Taking.{is_from_here, to_host}
 use Rattle.imp_node.proofs.lemmas.{answer_taken, ask_unmoved, from_host_moves, from_line_moves, give_up_moves, message_taken, nothing_taken, returned_moves, stopped_becomes}
 use Rattle.subnet.specs.Inside.Highest.{OutstandingUpTo}
 

@@ -1,34 +1,13 @@
 -- No call changes the number of an IMP.
-use Rattle.std.proofs.Common.{◌≡◌, ℕ, Bool, true, false, List, [], ◌∷◌, Option, Some, None, Result, Ok, Err, refl, ◌∙◌}
+use Rattle.subnet.proofs.Common.{◌≡◌, ℕ, Bool, true, false, List, [], ◌∷◌, Option, Some, None, Result, Ok, Err, refl, ◌∙◌, Flow, Answer, PacketFields, PacketKind, answer_to, ChannelFault, Frame, Received, HostMessage, Release, Message, Told, State, ImpTurn, number, host_at, with_host, port_at, answered_by, fated, Way, Nowhere, Here, Away, way_of, offered, asked_by, outstanding, message_returned, all_returned, stopped, is_from_here, replied, reply_has_room, taken_by, to_host, ImpCall, call_turn}
 use Rattle.std.specs.Prelude.{if◌then◌else◌}
-use Rattle.interface.specs.declared.address.Flow.{Flow}
-use Rattle.interface.specs.declared.crossing.Answer.{Answer}
 use Rattle.interface.specs.declared.crossing.Answer.TheVariants as answer
-use Rattle.packetiser.specs.PacketFields.{PacketFields}
-use Rattle.packetiser.specs.declared.packet.PacketKind.{PacketKind}
 use Rattle.packetiser.specs.declared.packet.PacketKind.TheVariants as kind
-use Rattle.imp_channel.specs.Line.{answer_to}
-use Rattle.imp_channel.specs.declared.fault.ChannelFault.{ChannelFault}
-use Rattle.imp_channel.specs.declared.frame.Frame.{Frame}
-use Rattle.imp_channel.specs.declared.line.Received.{Received}
 use Rattle.imp_channel.specs.declared.line.Received.TheVariants as received
-use Rattle.interface.specs.declared.message.HostMessage.{HostMessage}
-use Rattle.link_table.specs.declared.source.Release.{Release}
 use Rattle.link_table.specs.declared.source.Release.TheVariants as release
-use Rattle.imp_node.specs.declared.waiting.Message.{Message}
-use Rattle.imp_node.specs.declared.waiting.Told.{Told}
-use Rattle.imp_node.specs.State.{State, ImpTurn, number, host_at, with_host, port_at}
-use Rattle.imp_node.specs.Flows.{answered_by, fated}
 use Rattle.link_table.specs.declared.destination.Fate.TheVariants as fate
 use Rattle.imp_node.specs.Arrival.{Arrival, Passing, Old, Undeliverable, Replying, Piece, NoSlot, Whole, Unmarked, Answering, arrival, arrived, arrival_has_room, frame_taken, taken_frame, from_line}
-use Rattle.imp_node.specs.Offering.{Way, Nowhere, Here, Away, way_of, offered}
-use Rattle.imp_node.specs.Asking.{asked_by}
-use Rattle.imp_node.specs.Queries.{outstanding}
-use Rattle.imp_node.specs.Stopping.{message_returned, all_returned, stopped}
-use Rattle.imp_node.specs.Taking.{is_from_here, replied, reply_has_room, taken_by, to_host}
-use Rattle.subnet.specs.declared.imp_call.ImpCall.{ImpCall}
 use Rattle.subnet.specs.declared.imp_call.ImpCall.TheVariants as call
-use Rattle.subnet.specs.Inside.Calling.{call_turn}
 
 answered_own : (r : Release) (kind : Answer) (f : Flow) (n : ℕ) (s : State) → number (answered_by r kind f n s) ≡ number s
 answered_own release.Freed kind f n s = refl

@@ -1,12 +1,6 @@
 -- A frame that an IMP passes on at once.
-use Rattle.std.proofs.Common.{◌≡◌, ℕ, ◌≤◌, zero, suc, true, false, List, [], ◌∷◌, length, set, Option, Some, None, refl, ap, sym, subst, arith}
-use Rattle.imp_channel.specs.declared.frame.Frame.{Frame}
-use Rattle.imp_node.specs.declared.outgoing.Outgoing.{Outgoing}
-use Rattle.imp_node.specs.State.{State, ImpTurn}
-use Rattle.subnet.specs.Events.{at_imp}
-use Rattle.subnet.specs.Inside.Calling.{imps_by, frames_by}
+use Rattle.subnet.proofs.Common.{◌≡◌, ℕ, ◌≤◌, zero, suc, true, false, List, [], ◌∷◌, length, set, Option, Some, None, refl, ap, sym, subst, arith, Frame, Outgoing, State, ImpTurn, at_imp, imps_by, frames_by, Net, imp_at, put_all}
 use Rattle.subnet.specs.Inside.Passing.{passes_at}
-use Rattle.subnet.specs.Net.{Net, imp_at, put_all}
 
 -- an IMP that passes something on is there
 none_there : (imps : List (Option State)) (i : ℕ) → length imps ≤ i → imp_at imps i ≡ None

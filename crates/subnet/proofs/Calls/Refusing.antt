@@ -1,15 +1,10 @@
 -- An offer that a subnet refuses: it leaves the subnet as it is.
+use Rattle.subnet.proofs.Common.{is_host, CarrierFault, HostMessage, is_idle, is_own, way_of, way_has_room, from_host_refusal, Net, imp_at}
 use Rattle.std.proofs.Common.{◌≡◌, Bool, true, false, not, Option, Some, None, if◌then◌else◌, is_some, refl, ap, sym, subst, ◌∙◌}
 use Rattle.interface.specs.Calls.{is_halt, is_memory}
-use Rattle.interface.specs.Host.{is_host}
-use Rattle.interface.specs.declared.carrier.CarrierFault.{CarrierFault}
 use Rattle.interface.specs.declared.carrier.CarrierFault.TheVariants as fault
-use Rattle.interface.specs.declared.message.HostMessage.{HostMessage}
 use Rattle.interface.specs.Rest.{RefusesOffer}
-use Rattle.imp_node.specs.Flows.{is_idle}
-use Rattle.imp_node.specs.Offering.{is_own, way_of, way_has_room, from_host_refusal}
 use Rattle.imp_node.specs.State.{State, is_up}
-use Rattle.subnet.specs.Net.{Net, imp_at}
 use Rattle.subnet.specs.Calls.{Kept, Fails, refusal_of}
 use Rattle.subnet.specs.Events.{at_up, first_of, offer_alive, offer_refusal}
 use Rattle.subnet.specs.Working.{SubnetOffer}

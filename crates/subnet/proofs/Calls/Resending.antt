@@ -1,21 +1,10 @@
 -- An IMP that sends again and does nothing else: its frames are put on lines one by one.
+use Rattle.subnet.proofs.Common.{PacketFields, Channel, Frame, packets_in, Outgoing, Port, on_port, resent_by, resent_from, resend, State, port_at, down_port, Net, Wire, imp_at, put_one, put_all, at_imp, grows_at, call_turn, call_grows}
 use Rattle.std.proofs.Common.{◌≡◌, ℕ, ◌+◌, ◌<◌, Bool, true, List, [], ◌∷◌, ◌++◌, length, drop, map, Option, Some, None, IsSome, Result, OnOk, OnErr, refl, ap, sym, ◌∙◌, arith}
 use Rattle.std.proofs.lemmas.List.{drop_more, map-append}
-use Rattle.packetiser.specs.PacketFields.{PacketFields}
-use Rattle.imp_channel.specs.declared.channel.Channel.{Channel}
-use Rattle.imp_channel.specs.declared.frame.Frame.{Frame}
-use Rattle.imp_channel.specs.Holding.{packets_in}
 use Rattle.imp_channel.specs.Line.{End, opening_channel, channel_at, frames_of, frames_from}
-use Rattle.imp_node.specs.declared.outgoing.Outgoing.{Outgoing}
-use Rattle.imp_node.specs.declared.port.Port.{Port}
-use Rattle.imp_node.specs.Lines.{on_port, resent_by, resent_from, resend}
-use Rattle.imp_node.specs.State.{State, port_at, down_port}
 use Rattle.imp_node.proofs.lemmas.{none_resent, pump_with, resent_some}
-use Rattle.subnet.specs.Net.{Net, Wire, imp_at, put_one, put_all}
-use Rattle.subnet.specs.Events.{at_imp}
-use Rattle.subnet.specs.Calls.{grows_at}
 use Rattle.subnet.specs.declared.imp_call.ImpCall.TheVariants as call
-use Rattle.subnet.specs.Inside.Calling.{call_turn, call_grows}
 use Rattle.subnet.specs.Inside.Telling.{OnlyResends, resent, sends_again}
 use Rattle.subnet.proofs.Calls.Telling.{all_from, put_alone, put_both, put_grows, some_of_all}
 

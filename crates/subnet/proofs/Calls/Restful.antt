@@ -1,18 +1,12 @@
 -- A subnet that rests: no quiet round and no taking changes anything.
+use Rattle.subnet.proofs.Common.{nat_tests, Host, same_host, is_host, CarrierFault, same_host-true, taking_has_room, to_host_refusal, Net, imp_at, SubnetRound, SubnetTake}
 use Rattle.std.proofs.Common.{◌≡◌, ℕ, ◌+◌, ◌<◌, suc, Bool, true, false, not, ◌||◌, ◌==◌, List, [], ◌∷◌, length, slice_get, Option, Some, None, Ok, Err, if◌then◌else◌, refl, ap, sym, subst, ◌∙◌, inl, inr, arith}
 use Rattle.std.proofs.lemmas.Bool.{eqb-true}
-use Rattle.std.proofs.lemmas.Bool.Decides.{nat_tests}
 use Rattle.interface.specs.Rest.{Rests, TakesNothing}
-use Rattle.interface.specs.Host.{Host, same_host, is_host}
-use Rattle.interface.specs.declared.carrier.CarrierFault.{CarrierFault}
 use Rattle.interface.specs.declared.carrier.CarrierFault.TheVariants as fault
-use Rattle.interface.proofs.lemmas.{same_host-true}
 use Rattle.imp_node.specs.State.{State, host_at, is_there, is_up}
-use Rattle.imp_node.specs.Taking.{taking_has_room, to_host_refusal}
-use Rattle.subnet.specs.Net.{Net, imp_at}
 use Rattle.subnet.specs.Calls.{Kept, Fails, refusal_of, take_grows}
 use Rattle.subnet.specs.Events.{at_up, first_of, take_refusal, taken_by_host, take_in, quiet_round}
-use Rattle.subnet.specs.Working.{SubnetRound, SubnetTake}
 use Rattle.subnet.specs.Inside.Resting.{IsRefused, TakesNone, TakesNoneAt, is_away}
 use Rattle.subnet.proofs.Calls.Working.{nothing_given, rested_round}
 

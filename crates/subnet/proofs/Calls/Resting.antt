@@ -1,18 +1,6 @@
 -- Calls that would change nothing, and need not be made.
+use Rattle.subnet.proofs.Common.{◌≡◌, ℕ, Bool, true, false, ◌&&◌, List, set, Option, Some, None, Result, Ok, Err, refl, ap, sym, ◌∙◌, set-get_or, is_memory, Host, CarrierFault, Inbound, State, ImpTurn, ignored, route, resend, to_host, Net, imp_at, with_turn, imp_is_up, at_imp, refreshed, logging, crossings_of, taken_by_host, take_in, quiet_round}
 use Rattle.std.specs.Prelude.{not}
-use Rattle.std.proofs.Common.{◌≡◌, ℕ, Bool, true, false, ◌&&◌, List, set, Option, Some, None, Result, Ok, Err, refl, ap, sym, ◌∙◌}
-use Rattle.std.proofs.lemmas.List.{set-get_or}
-use Rattle.interface.specs.Calls.{is_memory}
-use Rattle.interface.specs.Host.{Host}
-use Rattle.interface.specs.declared.carrier.CarrierFault.{CarrierFault}
-use Rattle.interface.specs.declared.crossing.Inbound.{Inbound}
-use Rattle.imp_node.specs.State.{State, ImpTurn}
-use Rattle.imp_node.specs.Arrival.{ignored}
-use Rattle.imp_node.specs.Lines.{route, resend}
-use Rattle.imp_node.specs.Taking.{to_host}
-use Rattle.subnet.specs.Net.{Net, imp_at, with_turn}
-use Rattle.subnet.specs.Flows.{imp_is_up}
-use Rattle.subnet.specs.Events.{at_imp, refreshed, logging, crossings_of, taken_by_host, take_in, quiet_round}
 use Rattle.subnet.specs.Inside.Calling.{CallEnds, Fails}
 use Rattle.subnet.specs.Inside.Remembering.{is_refused}
 

@@ -1,31 +1,15 @@
 -- When a quiet round may need memory.
+use Rattle.subnet.proofs.Common.{list_any, nat_tests, set-get_or, Direction, or_false, PacketFields, Frame, Outgoing, Port, State, ImpTurn, port_at, down_port, told_from, route, resent_from, resend, from_line, ignored, at_set, Net, Wire, no_wire, imp_at, wire_at, frames_on, far_end, dropping, put_all, port_of, with_turn, imp_is_up, at_imp, delivered, drop_frame, refreshed, call_turn, call_grows, carried_first}
 use Rattle.std.specs.Prelude.{if◌then◌else◌}
 use Rattle.std.proofs.Common.{◌≡◌, ℕ, zero, suc, ◌+◌, Bool, false, true, List, [], ◌∷◌, ◌++◌, length, nat_lt, take, drop, get_or, set, slice_get, Option, Some, None, ◌||◌, ◌&&◌, refl, ap, sym, subst, ◌∙◌, arith}
-use Rattle.std.specs.List.{list_any}
-use Rattle.std.proofs.lemmas.Bool.Decides.{nat_tests}
 use Rattle.std.proofs.lemmas.Bool.{or_from, and_right}
-use Rattle.std.proofs.lemmas.List.{set-get_or}
-use Rattle.interface.specs.declared.event.Direction.{Direction}
 use Rattle.interface.specs.declared.event.Direction.TheVariants as way
-use Rattle.interface.proofs.lemmas.{or_false}
-use Rattle.packetiser.specs.PacketFields.{PacketFields}
 use Rattle.routing.specs.RouteTable.{Table, next_of, vector_of}
 use Rattle.imp_channel.specs.Line.{End, submitted}
-use Rattle.imp_channel.specs.declared.frame.Frame.{Frame}
-use Rattle.imp_node.specs.declared.outgoing.Outgoing.{Outgoing}
-use Rattle.imp_node.specs.declared.port.Port.{Port}
-use Rattle.imp_node.specs.State.{State, ImpTurn, port_at, down_port}
 use Rattle.imp_node.specs.Pump.{Pumped, target, sent_on, packet_sent, pumped, pump}
-use Rattle.imp_node.specs.Lines.{told_from, route, resent_from, resend}
-use Rattle.imp_node.specs.Arrival.{from_line, ignored}
 use Rattle.imp_node.specs.Turns.{resend_grows, route_grows, from_line_grows}
-use Rattle.imp_node.proofs.lemmas.{at_set}
-use Rattle.subnet.specs.Net.{Net, Wire, no_wire, imp_at, wire_at, frames_on, far_end, dropping, put_all, port_of, with_turn}
-use Rattle.subnet.specs.Flows.{imp_is_up}
 use Rattle.subnet.specs.Calls.{grows_at, copy_grows, delivered_grows, brings_bits, round_grows}
-use Rattle.subnet.specs.Events.{at_imp, delivered, drop_frame, refreshed}
 use Rattle.subnet.specs.declared.imp_call.ImpCall.TheVariants as call
-use Rattle.subnet.specs.Inside.Calling.{call_turn, call_grows, carried_first}
 
 -- ---- small facts
 

@@ -1,12 +1,8 @@
 -- A quiet round: distances are sent, packets sent again, and frames delivered and dropped. What these four keep, it keeps.
-use Rattle.std.proofs.Common.{ℕ, zero, suc, List, [], ◌∷◌, length}
-use Rattle.std.specs.List.{range_with_len}
-use Rattle.interface.specs.declared.event.Direction.{Direction}
+use Rattle.subnet.proofs.Common.{ℕ, zero, suc, List, [], ◌∷◌, length, range_with_len, Direction, Net, imp_at, wire_at, frames_on, IsSound}
 use Rattle.interface.specs.declared.event.Direction.TheVariants as way
 use Rattle.imp_node.specs.Lines.{resend, route}
-use Rattle.subnet.specs.Net.{Net, imp_at, wire_at, frames_on}
 use Rattle.subnet.specs.Events.{at_imp, deliver, drop_frame, refreshed, all_refreshed, carried, turn_of, all_turns, quiet_round}
-use Rattle.subnet.specs.Sound.{IsSound}
 use Rattle.subnet.proofs.Moves.Deliveries.{deliver_sound}
 use Rattle.subnet.proofs.Moves.QuietCalls.{drop_sound, resend_sound, route_sound}
 

@@ -1,26 +1,13 @@
 -- A quiet round of a settled network changes nothing: the frames that it puts on lines repeat what was heard, or go to an end that is down, and
 -- are gone at its end.
+use Rattle.subnet.proofs.Common.{AllByRecursion, range_with_len, list_all, sum_by-cons, nat_tests, Direction, Frame, vector_of, Outgoing, Port, State, ImpTurn, port_at, from_line, ignored, packets_in, pump, on_port, told_by, told_from, route, resent_by, resent_from, resend, Net, Wire, no_wire, imp_at, wire_at, ends_at, port_of, line_places, line_from, followed_by, with_frame, put_on, put_one, put_all, with_turn, frames_on, far_end, without_at, dropping}
 use Rattle.std.specs.Prelude.{if◌then◌else◌, IfSome}
-use Rattle.std.specs.List.{AllByRecursion, range_with_len, list_all}
 use Rattle.std.proofs.Common.{◌≡◌, ℕ, ◌+◌, ◌-◌, ◌<◌, ◌≤◌, zero, suc, Bool, true, false, List, [], ◌∷◌, ◌++◌, length, map, take, set, slice_get, nat_lt, ◌==◌, ◌||◌, ◌&&◌, count_by, Option, Some, None, refl, ap, sym, subst, ◌∙◌, arith}
 use Rattle.std.proofs.lemmas.List.{set-get_or, length-map}
-use Rattle.std.proofs.lemmas.List.Sums.{sum_by-cons}
 use Rattle.std.proofs.lemmas.Bool.{eqb-true, and_parts}
-use Rattle.std.proofs.lemmas.Bool.Decides.{nat_tests}
-use Rattle.interface.specs.declared.event.Direction.{Direction}
 use Rattle.interface.specs.declared.event.Direction.TheVariants as way
 use Rattle.imp_channel.specs.Line.{resent, routes_frame}
-use Rattle.imp_channel.specs.declared.frame.Frame.{Frame}
-use Rattle.routing.specs.RouteTable.{vector_of}
-use Rattle.imp_node.specs.declared.outgoing.Outgoing.{Outgoing}
-use Rattle.imp_node.specs.declared.port.Port.{Port}
-use Rattle.imp_node.specs.State.{State, ImpTurn, port_at}
-use Rattle.imp_node.specs.Arrival.{from_line, ignored}
-use Rattle.imp_channel.specs.Holding.{packets_in}
-use Rattle.imp_node.specs.Pump.{pump}
-use Rattle.imp_node.specs.Lines.{on_port, told_by, told_from, route, resent_by, resent_from, resend}
 use Rattle.imp_node.proofs.lemmas.{at_set, none_resent, pump_still, quiet_down, routes_again}
-use Rattle.subnet.specs.Net.{Net, Wire, no_wire, imp_at, wire_at, ends_at, port_of, line_places, line_from, followed_by, with_frame, put_on, put_one, put_all, with_turn, frames_on, far_end, without_at, dropping}
 use Rattle.subnet.specs.Events.{at_imp, delivered, deliver, drop_frame, refreshed, all_refreshed, carried, turn_of, all_turns, quiet_round}
 use Rattle.subnet.specs.Inside.Settled.{near_end, IsFree, IsStill, IsStillOn, IsSettled, is_silent, waits_at}
 use Rattle.subnet.proofs.Calls.Resending.{all_resent}

@@ -1,39 +1,19 @@
 -- What hosts see of each call.
+use Rattle.subnet.proofs.Common.{cases_Bool, nat_tests, Host, same_host, is_host, Flow, CarrierFault, Crossing, Inbound, Direction, NetEvent, HostMessage, Frame, Message, Told, State, HostState, ImpTurn, no_host, host_at, from_line, resend, route, from_host, Net, imp_at, wire_at, port_of, frames_on, far_end, at_imp, at_up, logging, accepted, is_imp, site_at, imp_refusal, offer_out, given_at, taken_by_host, crossings_of, take_in, delivered, deliver, downs_from, downs_at, quiet_round, step_refusal, stepped, host_there, hosts_of_one, hosts_from, IsAt, IsSound}
 use Rattle.std.proofs.Common.{◌≡◌, ℕ, zero, suc, ◌+◌, ◌<◌, Bool, true, false, not, List, [], ◌∷◌, ◌++◌, map, get_or, Option, Some, None, is_some, refl, ap, sym, subst, ◌∙◌, ◌==◌, ◌&&◌, if◌then◌else◌, inl, inr, eqb-true, eq-eqb, append-nil, arith, reverse, filter, All}
 use Rattle.std.specs.Prelude.{slice_get, slice_index_or, nat_lt}
-use Rattle.std.proofs.lemmas.Bool.{cases_Bool}
-use Rattle.std.proofs.lemmas.Bool.Decides.{nat_tests}
 use Rattle.std.proofs.lemmas.List.{reverse-append}
 use Rattle.std.proofs.lemmas.List.Elements.{All-head, filter-append}
 use Rattle.interface.specs.Calls.{IsFor, step_crossings}
-use Rattle.interface.specs.Host.{Host, same_host, is_host}
 use Rattle.interface.specs.Mailboxes.{Mail, is_up, UpsAreHosts}
-use Rattle.interface.specs.declared.address.Flow.{Flow}
-use Rattle.interface.specs.declared.carrier.CarrierFault.{CarrierFault}
 use Rattle.interface.specs.declared.carrier.CarrierFault.TheVariants as fault
-use Rattle.interface.specs.declared.crossing.Crossing.{Crossing}
 use Rattle.interface.specs.declared.crossing.Crossing.TheVariants as crossing
-use Rattle.interface.specs.declared.crossing.Inbound.{Inbound}
 use Rattle.interface.specs.declared.crossing.Inbound.TheVariants as inbound
-use Rattle.interface.specs.declared.event.Direction.{Direction}
-use Rattle.interface.specs.declared.event.NetEvent.{NetEvent}
 use Rattle.interface.specs.declared.event.NetEvent.TheVariants as event
-use Rattle.interface.specs.declared.message.HostMessage.{HostMessage}
 use Rattle.interface.proofs.lemmas.{guard, mail_is, same_host-true}
-use Rattle.imp_channel.specs.declared.frame.Frame.{Frame}
-use Rattle.imp_node.specs.declared.waiting.Message.{Message}
-use Rattle.imp_node.specs.declared.waiting.Told.{Told}
-use Rattle.imp_node.specs.State.{State, HostState, ImpTurn, no_host, host_at}
-use Rattle.imp_node.specs.Arrival.{from_line}
-use Rattle.imp_node.specs.Lines.{resend, route}
-use Rattle.imp_node.specs.Offering.{from_host}
 use Rattle.imp_node.specs.Taking.{to_host, first_of}
-use Rattle.subnet.specs.Net.{Net, imp_at, wire_at, port_of, frames_on, far_end}
-use Rattle.subnet.specs.Events.{at_imp, at_up, logging, accepted, is_imp, site_at, imp_refusal, offer_out, given_at, taken_by_host, crossings_of, take_in, delivered, deliver, downs_from, downs_at, quiet_round, step_refusal, stepped}
 use Rattle.subnet.specs.Flows.{sender_at, host_is_up}
-use Rattle.subnet.specs.Opening.{host_there, hosts_of_one, hosts_from}
 use Rattle.subnet.specs.Seen.{seen, IsListed, SameNetwork}
-use Rattle.subnet.specs.Sound.{IsAt, IsSound}
 use Rattle.subnet.proofs.Calls.Rounds.{round_keeps}
 use Rattle.subnet.proofs.Calls.SiteHosts.{hosts_fit}
 

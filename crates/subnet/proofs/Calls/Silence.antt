@@ -1,20 +1,10 @@
 -- What is answered to a question that finds nothing alive.
+use Rattle.subnet.proofs.Common.{list_any, flat_map, All-nil, All-cons, All-head, All-tail, All-append, same_flow, Flow, or_false, PacketFields, Message, State, HostState, no_host, host_at, messages_of, Net, Wire, imp_at, receiver_at}
 use Rattle.std.proofs.Common.{◌≡◌, ℕ, zero, suc, Bool, true, false, List, [], ◌∷◌, ◌++◌, ◌&&◌, ◌||◌, ◌==◌, get_or, Option, Some, None, refl, cond, All}
-use Rattle.std.specs.List.{list_any, flat_map}
-use Rattle.std.proofs.lemmas.List.Elements.{All-nil, All-cons, All-head, All-tail, All-append}
-use Rattle.interface.specs.Flow.{same_flow}
-use Rattle.interface.specs.declared.address.Flow.{Flow}
-use Rattle.interface.proofs.lemmas.{or_false}
-use Rattle.packetiser.specs.PacketFields.{PacketFields}
-use Rattle.imp_node.specs.declared.waiting.Message.{Message}
-use Rattle.imp_node.specs.State.{State, HostState, no_host, host_at}
 use Rattle.imp_node.specs.Contents as imp
 use Rattle.imp_node.specs.Queries.{packet_has, message_has}
-use Rattle.imp_node.specs.Sides.{messages_of}
 use Rattle.imp_node.proofs.lemmas.{not_found}
-use Rattle.subnet.specs.Net.{Net, Wire, imp_at}
 use Rattle.subnet.specs.Alive.{packets_on_wire, packets_at_imp, messages_at_imp, packets, messages, says, carries, anywhere, is_alive}
-use Rattle.subnet.specs.Flows.{receiver_at}
 
 -- ---- nothing alive passes a test
 

@@ -1,12 +1,9 @@
 -- The hosts of sites are those that the sites say.
+use Rattle.subnet.proofs.Common.{list_any, cases_Bool, nat_tests, host_there, AreHosts, hosts_of_one, hosts_from}
 use Rattle.std.proofs.Common.{◌≡◌, ℕ, zero, suc, ◌+◌, ◌<◌, Bool, true, false, List, [], ◌∷◌, ◌++◌, Option, Some, None, refl, ap, ◌∙◌, ◌==◌, ◌||◌, inl, inr, eqb-true, eq-eqb, arith}
 use Rattle.std.specs.Prelude.{nat_lt, slice_index_or}
-use Rattle.std.specs.List.{list_any}
-use Rattle.std.proofs.lemmas.Bool.{cases_Bool}
-use Rattle.std.proofs.lemmas.Bool.Decides.{nat_tests}
 use Rattle.interface.specs.Host.{Host, same_host, is_host, host_before, InOrder}
 use Rattle.interface.proofs.lemmas.{before_from_numbers, both_ways, or_nothing, same_host-refl}
-use Rattle.subnet.specs.Opening.{host_there, AreHosts, hosts_of_one, hosts_from}
 use Rattle.subnet.proofs.Calls.Carrying.{any_append}
 
 -- ---- tests of numbers

@@ -1,18 +1,9 @@
 -- An IMP starts.
+use Rattle.subnet.proofs.Common.{cases_Bool, IfSome, All-head, All-tail, most_imps, host_down, at_set, Wire, Net, ends_at, port_of, says, started_imp, hosts_at, is_imp, IsLive, AreLive}
 use Rattle.std.proofs.Common.{◌≡◌, ℕ, ◌+◌, ◌-◌, ◌<◌, ◌≤◌, zero, suc, ◌==◌, ◌&&◌, not, Bool, true, false, List, [], ◌∷◌, ◌++◌, length, replicate, get_or, set, count_by, Option, Some, None, is_some, refl, ap, sym, subst, ◌∙◌, arith, All, eqb-true, eq-eqb, inl, inr}
-use Rattle.std.proofs.lemmas.Bool.{cases_Bool}
-use Rattle.std.specs.Prelude.{IfSome}
-use Rattle.std.proofs.lemmas.List.Elements.{All-head, All-tail}
 use Rattle.std.proofs.Math.Seq.{take-length}
-use Rattle.interface.specs.Host.{most_imps}
 use Rattle.imp_node.specs.State.{State, HostState, number, host_at, no_host, up_host, opening_node}
 use Rattle.imp_node.specs.Queries as queries
-use Rattle.imp_node.specs.Stopping.{host_down}
-use Rattle.imp_node.proofs.lemmas.{at_set}
-use Rattle.subnet.specs.Net.{Wire, Net, ends_at, port_of}
-use Rattle.subnet.specs.Alive.{says}
-use Rattle.subnet.specs.Events.{started_imp, hosts_at, is_imp}
-use Rattle.subnet.specs.Inside.Calling.{IsLive, AreLive}
 use Rattle.subnet.proofs.Calls.SiteHosts.{unlike}
 
 -- ---- hosts that go down one after another

@@ -1,15 +1,10 @@
 -- An IMP stops.
+use Rattle.subnet.proofs.Common.{list_any, or_right, Crossing, State, HostState, no_host, at_set, downs_from, downs_at}
 use Rattle.std.proofs.Common.{◌≡◌, ℕ, ◌+◌, zero, suc, Bool, true, false, List, [], ◌∷◌, ◌++◌, drop, reverse, get_or, set, Option, Some, None, ◌||◌, refl, ap, sym, subst, ◌∙◌, ◌≤◌, ◌<◌, length, arith, append_assoc, append-nil}
 use Rattle.std.specs.Prelude.{if◌then◌else◌}
-use Rattle.std.specs.List.{list_any}
-use Rattle.std.proofs.lemmas.Bool.{or_right}
 use Rattle.std.proofs.lemmas.List.{reverse-append, reverse-reverse, length-reverse}
-use Rattle.interface.specs.declared.crossing.Crossing.{Crossing}
 use Rattle.interface.specs.declared.crossing.Crossing.TheVariants as crossing
-use Rattle.imp_node.specs.State.{State, HostState, no_host}
-use Rattle.imp_node.proofs.lemmas.{at_set}
 use Rattle.subnet.specs.Calls.{grows_at, has_host_up}
-use Rattle.subnet.specs.Events.{downs_from, downs_at}
 use Rattle.subnet.specs.Inside.Calling.{IsLive, AreLive, down_of, downs_in_order}
 
 pub stopped_lives : (imps : List (Option State)) (i : ℕ) → AreLive imps → AreLive (set imps i None)

@@ -1,16 +1,9 @@
 -- IMPs in which all packets that wait are stuck.
+use Rattle.subnet.proofs.Common.{AllByRecursion, list_all, ◌≡◌, ℕ, ◌<◌, Bool, true, false, ◌&&◌, List, [], ◌∷◌, length, Option, Some, None, refl, ap, arith, PacketFields, Inbound, Message, Told, ignored, State, host_at}
 use Rattle.std.specs.Prelude.{is_some}
-use Rattle.std.specs.List.{AllByRecursion, list_all}
-use Rattle.std.proofs.Common.{◌≡◌, ℕ, ◌<◌, Bool, true, false, ◌&&◌, List, [], ◌∷◌, length, Option, Some, None, refl, ap, arith}
 use Rattle.std.proofs.lemmas.Bool.{and_parts}
-use Rattle.packetiser.specs.PacketFields.{PacketFields}
 use Rattle.routing.specs.RouteTable.{next_of}
-use Rattle.interface.specs.declared.crossing.Inbound.{Inbound}
-use Rattle.imp_node.specs.declared.waiting.Message.{Message}
-use Rattle.imp_node.specs.declared.waiting.Told.{Told}
-use Rattle.imp_node.specs.Arrival.{ignored}
 use Rattle.imp_node.specs.Pump.{packet_sent, pump, sent_on, target}
-use Rattle.imp_node.specs.State.{State, host_at}
 use Rattle.imp_node.specs.Taking.{first_of, next_for}
 use Rattle.imp_node.proofs.lemmas.{Rests, stays, stuck_rests, taking_still}
 use Rattle.subnet.specs.Inside.Settled.{is_stuck, is_stuck_by, only_waits}

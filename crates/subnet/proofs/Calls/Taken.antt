@@ -1,16 +1,10 @@
 -- A frame that is taken off its line before it is delivered: once it is dropped there, nothing shows the difference.
+use Rattle.subnet.proofs.Common.{Direction, Frame, Outgoing, State, ImpTurn, Net, Wire, line_places, imp_at, wire_at, ends_at, line_from, frames_on, far_end, port_of, followed_by, with_frame, put_on, put_one, put_all, with_turn, without_at, dropping, at_imp, deliver, drop_frame, call_turn, call_grows, carried_first, imps_by, frames_by, AreLive, SameLog}
 use Rattle.std.specs.Prelude.{if◌then◌else◌}
 use Rattle.std.proofs.Common.{◌≡◌, ℕ, ◌+◌, ◌-◌, ◌<◌, zero, suc, Bool, true, false, List, [], ◌∷◌, ◌++◌, length, nat_lt, set, slice_get, ◌==◌, Option, Some, None, Result, Ok, Err, OnOk, OnErr, refl, ap, sym, subst, ◌∙◌, arith}
-use Rattle.interface.specs.declared.event.Direction.{Direction}
 use Rattle.interface.specs.declared.event.Direction.TheVariants as way
-use Rattle.imp_channel.specs.declared.frame.Frame.{Frame}
-use Rattle.imp_node.specs.declared.outgoing.Outgoing.{Outgoing}
-use Rattle.imp_node.specs.State.{State, ImpTurn}
-use Rattle.subnet.specs.Net.{Net, Wire, line_places, imp_at, wire_at, ends_at, line_from, frames_on, far_end, port_of, followed_by, with_frame, put_on, put_one, put_all, with_turn, without_at, dropping}
-use Rattle.subnet.specs.Events.{at_imp, deliver, drop_frame}
 use Rattle.subnet.specs.Calls.{grows_at, delivered_grows}
 use Rattle.subnet.specs.declared.imp_call.ImpCall.TheVariants as call
-use Rattle.subnet.specs.Inside.Calling.{call_turn, call_grows, carried_first, imps_by, frames_by, AreLive, SameLog}
 use Rattle.subnet.specs.Inside.Taking.{hollow, hollowed, frame_taken}
 use Rattle.subnet.proofs.Calls.Delivering.{brought, bring_grows_on}
 

@@ -1,20 +1,11 @@
 -- An IMP that sends its distances, or sends again, and does nothing else: its frames are put on lines one by one.
+use Rattle.subnet.proofs.Common.{nat_tests, vector_of, Outgoing, Port, on_port, told_by, told_from, route, State, ImpTurn, port_at, down_port, Net, Wire, imp_at, put_one, put_all, with_turn, at_imp, grows_at, call_turn, call_grows, AreLive}
 use Rattle.std.specs.Prelude.{if◌then◌else◌}
 use Rattle.std.proofs.Common.{◌≡◌, ℕ, ◌+◌, ◌<◌, ◌≤◌, zero, suc, Bool, true, false, List, [], ◌∷◌, ◌++◌, length, drop, set, nat_lt, Option, Some, None, Result, Ok, Err, OnOk, OnErr, refl, ap, sym, subst, ◌∙◌, arith}
 use Rattle.std.proofs.lemmas.List.{drop_more, set-get_or, length-append}
-use Rattle.std.proofs.lemmas.Bool.Decides.{nat_tests}
 use Rattle.imp_channel.specs.Line.{routes_frame}
-use Rattle.routing.specs.RouteTable.{vector_of}
-use Rattle.imp_node.specs.declared.outgoing.Outgoing.{Outgoing}
-use Rattle.imp_node.specs.declared.port.Port.{Port}
-use Rattle.imp_node.specs.Lines.{on_port, told_by, told_from, route}
 use Rattle.imp_node.proofs.lemmas.{pump_with}
-use Rattle.imp_node.specs.State.{State, ImpTurn, port_at, down_port}
-use Rattle.subnet.specs.Net.{Net, Wire, imp_at, put_one, put_all, with_turn}
-use Rattle.subnet.specs.Events.{at_imp}
-use Rattle.subnet.specs.Calls.{grows_at}
 use Rattle.subnet.specs.declared.imp_call.ImpCall.TheVariants as call
-use Rattle.subnet.specs.Inside.Calling.{call_turn, call_grows, AreLive}
 use Rattle.subnet.specs.Inside.Telling.{OnlyPuts, OnlyTells, frames_by_up, tells, told}
 use Rattle.imp_node.specs.Turns.{sends}
 

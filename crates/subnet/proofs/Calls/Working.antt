@@ -1,43 +1,21 @@
 -- A subnet as a carrier: what each call keeps, and what it shows.
+use Rattle.subnet.proofs.Common.{Host, is_host, most_imps, IsRun, Flow, CarrierFault, Crossing, Inbound, Direction, NetEvent, HostMessage, guard, sound_run, has_outstanding, is_idle, is_own, way_of, way_has_room, from_host_refusal, ask_refusal, outstanding, has_room_to, own_host, give_up_refusal, host_down_refusal, host_up_refusal, Net, imp_at, wire_at, port_of, frames_on, has_data, has_flow, is_remembered, is_awaited, is_awaited_at, Alive, view, Ends, hosts_from, opening_subnet, IsAt}
 use Rattle.std.proofs.Common.{◌≡◌, ℕ, ◌+◌, ◌≤◌, length, Bool, true, false, not, List, [], ◌∷◌, ◌++◌, Option, Some, None, Result, Ok, Err, is_some, is_none, refl, ap, sym, subst, ◌∙◌, if◌then◌else◌, ◌&&◌, ◌==◌}
 use Rattle.std.specs.Prelude.{nat_lt, OnErr, ◌||◌}
 use Rattle.interface.specs.Calls.{Seen, InOrder, halted, is_memory, is_halt, step_crossings, crossing_of, ShowsRefusal, ShowsCrossings, ShowsOffer, ShowsTake, ShowsStep, ShowsRound}
-use Rattle.interface.specs.Host.{Host, is_host, most_imps}
-use Rattle.interface.specs.Mailboxes.{IsRun}
-use Rattle.interface.specs.declared.address.Flow.{Flow}
-use Rattle.interface.specs.declared.carrier.CarrierFault.{CarrierFault}
 use Rattle.interface.specs.declared.carrier.CarrierFault.TheVariants as fault
-use Rattle.interface.specs.declared.crossing.Crossing.{Crossing}
 use Rattle.interface.specs.declared.crossing.Crossing.TheVariants as crossing
-use Rattle.interface.specs.declared.crossing.Inbound.{Inbound}
-use Rattle.interface.specs.declared.event.Direction.{Direction}
-use Rattle.interface.specs.declared.event.NetEvent.{NetEvent}
 use Rattle.interface.specs.declared.event.NetEvent.TheVariants as event
-use Rattle.interface.specs.declared.message.HostMessage.{HostMessage}
-use Rattle.interface.proofs.lemmas.{guard}
-use Rattle.flow_law.proofs.lemmas.{sound_run}
-use Rattle.link_table.specs.Flows.{has_outstanding}
 use Rattle.packetiser.specs.Slots.{slot_of}
 use Rattle.imp_node.specs.State.{State, host_at, is_there, is_up, port_at}
-use Rattle.imp_node.specs.Flows.{is_idle}
-use Rattle.imp_node.specs.Offering.{is_own, way_of, way_has_room, from_host_refusal}
 use Rattle.imp_node.specs.Taking.{host_refusal, taking_has_room, to_host_refusal}
-use Rattle.imp_node.specs.Asking.{ask_refusal}
-use Rattle.imp_node.specs.Queries.{outstanding}
-use Rattle.imp_node.specs.Room.{has_room_to}
 use Rattle.imp_node.specs.Lines.{end_down_refusal, end_up_refusal}
-use Rattle.imp_node.specs.Stopping.{own_host, give_up_refusal, host_down_refusal, host_up_refusal}
-use Rattle.subnet.specs.Net.{Net, imp_at, wire_at, port_of, frames_on}
-use Rattle.subnet.specs.Alive.{has_data, has_flow, is_remembered, is_awaited, is_awaited_at}
 use Rattle.subnet.specs.Calls.{Kept, running, refusal_of, HasHalted, Fails, take_grows, step_grows, round_grows}
 use Rattle.subnet.specs.Events.{at_up, first_of, accepted, is_imp, has_end, give_up_alive, outstanding_at, offer_refusal, offer_out, take_refusal, taken_by_host, crossings_of, take_in, frame_refusal, imp_refusal, at_end_refusal, at_host_refusal, starting_refusal, abandoning_refusal, asking_refusal, giving_up_refusal, forgetting_refusal, step_refusal, stepped, quiet_round}
-use Rattle.subnet.specs.Flows.{Alive, view}
-use Rattle.subnet.specs.Opening.{Ends, hosts_from, opening_subnet}
 use Rattle.subnet.specs.Routed.{IsHostMessage}
 use Rattle.subnet.specs.Seen.{IsListed, SameNetwork}
 use Rattle.subnet.specs.Inside.Calling as ends
 use Rattle.subnet.specs.Inside.Calling.{IsLive, AreLive, SameLog, runs_out}
-use Rattle.subnet.specs.Sound.{IsAt}
 use Rattle.subnet.specs.Working.{IsWhole, IsWorking, seen_of, SubnetOffer, SubnetTake, SubnetStep, SubnetRound}
 use Rattle.subnet.proofs.Moves.EventSteps.{step_sound}
 use Rattle.subnet.proofs.Moves.Offers.{offer_sound}

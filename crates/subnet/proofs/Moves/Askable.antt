@@ -1,16 +1,9 @@
 -- Only an offer makes a message outstanding: so after moves that begin none, a question about what is outstanding is a packet by
 -- the format if it was before.
+use Rattle.subnet.proofs.Common.{Flow, or_false, IsPacket, View, answer_packet, Net, view, IsSound}
 use Rattle.std.proofs.Common.{◌≡◌, ℕ, Bool, true, false, List, [], ◌∷◌, ◌||◌, Some, ap, sym, ◌∙◌}
-use Rattle.interface.specs.declared.address.Flow.{Flow}
-use Rattle.interface.proofs.lemmas.{or_false}
-use Rattle.packetiser.specs.PacketFields.{IsPacket}
 use Rattle.packetiser.specs.declared.packet.PacketKind.TheVariants as kind
-use Rattle.flow_law.specs.View.{View}
 use Rattle.flow_law.specs.Moves.{Move, view_moved, after_all}
-use Rattle.imp_node.specs.Flows.{answer_packet}
-use Rattle.subnet.specs.Net.{Net}
-use Rattle.subnet.specs.Flows.{view}
-use Rattle.subnet.specs.Sound.{IsSound}
 
 -- a move that makes a number outstanding
 abbrev pub begins : Move → Bool

@@ -1,31 +1,14 @@
 -- An IMP asks what became of a message.
+use Rattle.subnet.proofs.Common.{All-nil, All-cons, is_host, Flow, CarrierFault, guard, PacketFields, IsPacket, flow_of, Kind, makes_one, State, ImpTurn, ask, ask_refusal, answer_packet, is_own, outstanding, has_room_to, Net, imp_at, with_turn, Alive, packet_of, sender_at, view, OnlyNew, made_at, IsAt, IsSound}
 use Rattle.std.proofs.Common.{◌≡◌, ℕ, false, not, List, [], ◌∷◌, Option, Some, None, refl, ap, sym, ◌∙◌, subst, inl, All, if◌then◌else◌}
 use Rattle.std.specs.Prelude.{is_none}
-use Rattle.std.proofs.lemmas.List.Elements.{All-nil, All-cons}
-use Rattle.interface.specs.Host.{is_host}
-use Rattle.interface.specs.declared.address.Flow.{Flow}
-use Rattle.interface.specs.declared.carrier.CarrierFault.{CarrierFault}
 use Rattle.interface.specs.declared.carrier.CarrierFault.TheVariants as fault
-use Rattle.interface.proofs.lemmas.{guard}
-use Rattle.packetiser.specs.PacketFields.{PacketFields, IsPacket, flow_of}
 use Rattle.packetiser.specs.declared.packet.PacketKind.TheVariants as kind
-use Rattle.flow_law.specs.View.{Kind}
 use Rattle.flow_law.specs.Moves.{Move, Asks, IsTold}
-use Rattle.flow_law.proofs.lemmas.{makes_one}
-use Rattle.imp_node.specs.State.{State, ImpTurn}
-use Rattle.imp_node.specs.Asking.{ask, ask_refusal}
 use Rattle.imp_node.specs.Contents as contents
-use Rattle.imp_node.specs.Flows.{answer_packet}
 use Rattle.imp_node.specs.Making.{ask_makes}
-use Rattle.imp_node.specs.Offering.{is_own}
-use Rattle.imp_node.specs.Queries.{outstanding}
-use Rattle.imp_node.specs.Room.{has_room_to}
 use Rattle.imp_node.proofs.lemmas.{ask_imp, ask_unmoved}
-use Rattle.subnet.specs.Net.{Net, imp_at, with_turn}
 use Rattle.subnet.specs.Events.{at_imp, at_up, asking_refusal}
-use Rattle.subnet.specs.Flows.{Alive, packet_of, sender_at, view}
-use Rattle.subnet.specs.Making.{OnlyNew, made_at}
-use Rattle.subnet.specs.Sound.{IsAt, IsSound}
 use Rattle.subnet.proofs.Packets.HavingByEvents.{ask_only}
 use Rattle.subnet.proofs.Moves.Turns.{Answerable, answerable, alive_or_made, none_cross, followed_turn}
 use Rattle.subnet.proofs.Moves.Views.{turn_view}

@@ -1,61 +1,35 @@
 -- A frame is delivered.
+use Rattle.subnet.proofs.Common.{flat_map, map-append, All-nil, All-cons, All-head, All-push, All-weaker, All-contains, All-contains_itself, Contains-append_left, Flow, Answer, Direction, outstanding_in, release_in, kept_in, fate_in, Fate, Release, Standing, PacketKind, carried_by, answer_to, ChannelFault, Frame, Received, makes_one, Message, State, ImpTurn, number, host_at, port_at, answer_packet, pump, Sender, Receiver, sender, receiver, ended_with, noted_with, queued_with, IsImp, AllUnmoved, Moved, Net, imp_at, wire_at, port_of, with_turn, frames_on, far_end, packets, at_imp, delivered, deliver, Alive, kind_of, packet_of, queued_of, imp_is_up, sender_at, receiver_at, view_of, view, IsAt, IsSound}
 use Rattle.std.proofs.Common.{◌≡◌, ℕ, Bool, true, false, List, [], ◌∷◌, ◌++◌, Option, Some, None, Result, Ok, Err, refl, ap, sym, ◌∙◌, subst, inl, inr, ◌==◌, eqb-true, cond, append-nil, All, Contains}
 use Rattle.std.specs.Prelude.{slice_get}
 use Rattle.std.specs.FinMap as finite
-use Rattle.std.specs.List.{flat_map}
-use Rattle.std.proofs.lemmas.List.{map-append}
-use Rattle.std.proofs.lemmas.List.Elements.{All-nil, All-cons, All-head, All-push, All-weaker, All-contains, All-contains_itself, Contains-append_left}
 use Rattle.bit_messages.specs.Body.{body, text_of}
 use Rattle.bit_messages.proofs.lemmas.{text_of-body}
-use Rattle.interface.specs.declared.address.Flow.{Flow}
-use Rattle.interface.specs.declared.crossing.Answer.{Answer}
 use Rattle.interface.specs.declared.crossing.Answer.TheVariants as answer
-use Rattle.interface.specs.declared.event.Direction.{Direction}
-use Rattle.link_table.specs.Flows.{outstanding_in, release_in, kept_in, fate_in}
-use Rattle.link_table.specs.declared.destination.Fate.{Fate}
 use Rattle.link_table.specs.declared.destination.Fate.TheVariants as fate
 use Rattle.link_table.specs.Numbers.{is_new}
-use Rattle.link_table.specs.declared.source.Release.{Release}
 use Rattle.link_table.specs.declared.source.Release.TheVariants as release
-use Rattle.link_table.specs.declared.source.Standing.{Standing}
 use Rattle.link_table.specs.declared.source.Standing.TheVariants as standing
 use Rattle.packetiser.specs.PacketFields.{PacketFields, Carries, IsPacket, flow_of}
 use Rattle.packetiser.specs.Pieces.{CarriesPieceOf}
 use Rattle.packetiser.specs.Rejoining.{IsRejoined}
 use Rattle.packetiser.specs.Slots as slots
 use Rattle.packetiser.specs.Slots.{IsPieceFor, gathered, joined_pieces}
-use Rattle.packetiser.specs.declared.packet.PacketKind.{PacketKind}
 use Rattle.packetiser.specs.declared.packet.PacketKind.TheVariants as kind
 use Rattle.packetiser.proofs.lemmas.{joined_whole, rejoined}
-use Rattle.imp_channel.specs.Holding.{carried_by}
-use Rattle.imp_channel.specs.Line.{answer_to}
-use Rattle.imp_channel.specs.declared.fault.ChannelFault.{ChannelFault}
-use Rattle.imp_channel.specs.declared.frame.Frame.{Frame}
-use Rattle.imp_channel.specs.declared.line.Received.{Received}
 use Rattle.imp_channel.specs.declared.line.Received.TheVariants as received
 use Rattle.imp_channel.proofs.lemmas.{fresh_carried}
 use Rattle.flow_law.specs.View.{View, Packet, Queued, is_refusal}
 use Rattle.flow_law.specs.Moves as law
 use Rattle.flow_law.specs.Moves.{Move, NoteGone, Whole, Freed, Reply, Brings, CanNote, Joined, IsLost, IsRefusal, IsTold, view_moved}
-use Rattle.flow_law.proofs.lemmas.{makes_one}
-use Rattle.imp_node.specs.declared.waiting.Message.{Message}
-use Rattle.imp_node.specs.State.{State, ImpTurn, number, host_at, port_at}
 use Rattle.imp_node.specs.Arrival as arrivals
 use Rattle.imp_node.specs.Arrival.{Arrival, Passing, Old, Undeliverable, Replying, Piece, NoSlot, Unmarked, Answering, arrival, arrival_has_room, arrived, frame_taken, acknowledged, vector_heard, ignored, taken_frame, from_line}
 use Rattle.imp_node.specs.Contents as contents
-use Rattle.imp_node.specs.Flows.{answer_packet}
 use Rattle.imp_node.specs.Making.{told_for}
 use Rattle.imp_node.specs.Moves.{IsNewHere, IsAskedHere, IsRefused, TellsFate, MakesWhole, Tells, ArrivalSays, ArrivalMoves, AnswerMoves, FrameMoves}
-use Rattle.imp_node.specs.Pump.{pump}
-use Rattle.imp_node.specs.Sides.{Sender, Receiver, sender, receiver, ended_with, noted_with, queued_with, IsImp, AllUnmoved, Moved}
 use Rattle.imp_node.proofs.lemmas.{Has, OutgoingHas, TurnHas, arrival_says, from_line_has, from_line_imp, from_line_moves, noted_moved, pump_has, quiet_has, taken_has}
-use Rattle.subnet.specs.Net.{Net, imp_at, wire_at, port_of, with_turn, frames_on, far_end}
-use Rattle.subnet.specs.Alive.{packets}
-use Rattle.subnet.specs.Events.{at_imp, delivered, deliver}
 use Rattle.subnet.specs.Flows as flows
-use Rattle.subnet.specs.Flows.{Alive, kind_of, packet_of, queued_of, imp_is_up, sender_at, receiver_at, view_of, view}
 use Rattle.subnet.specs.Making.{NothingNew, OnlyNew, told_made}
-use Rattle.subnet.specs.Sound.{IsAt, IsSound}
 use Rattle.subnet.proofs.Packets.Having.{FrameHas, ImpHas, GotHas, net_itself, content_has, frame_packets, imp_has, got_has}
 use Rattle.subnet.proofs.Packets.OnLines.{way_holds, wire_holds}
 use Rattle.subnet.proofs.Packets.HavingByEvents.{brings}

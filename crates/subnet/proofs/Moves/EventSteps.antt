@@ -1,10 +1,6 @@
 -- Each event keeps a subnet sound.
-use Rattle.std.proofs.Common.{◌≡◌, None}
-use Rattle.interface.specs.declared.event.NetEvent.{NetEvent}
+use Rattle.subnet.proofs.Common.{◌≡◌, None, NetEvent, Net, port_of, step_refusal, stepped, IsSound}
 use Rattle.interface.specs.declared.event.NetEvent.TheVariants as event
-use Rattle.subnet.specs.Net.{Net, port_of}
-use Rattle.subnet.specs.Events.{step_refusal, stepped}
-use Rattle.subnet.specs.Sound.{IsSound}
 use Rattle.subnet.proofs.Moves.Asking.{ask_sound}
 use Rattle.subnet.proofs.Moves.Deliveries.{deliver_sound}
 use Rattle.subnet.proofs.Moves.Forgetting.{forget_sound}

@@ -1,21 +1,13 @@
 -- The fate of a number at its flow's destination, as the flow's law sees it.
+use Rattle.subnet.proofs.Common.{Box, Fate, Noted, PacketKind, is_request, Message, Sender, Receiver, messages_of, fated_with, Flow, kind_of, queued_of, view_of}
 use Rattle.std.proofs.Common.{◌≡◌, ℕ, Bool, true, false, List, [], ◌∷◌, map, Option, Some, None, refl, ap, ◌∙◌, ◌==◌, if◌then◌else◌}
 use Rattle.std.specs.Option.{option_map}
-use Rattle.interface.specs.Mailboxes.{Box}
 use Rattle.link_table.specs.Flows.{kept_in, fate_in, ended_in}
-use Rattle.link_table.specs.declared.destination.Fate.{Fate}
 use Rattle.link_table.specs.declared.destination.Fate.TheVariants as fate
-use Rattle.link_table.specs.declared.destination.Noted.{Noted}
-use Rattle.packetiser.specs.declared.packet.PacketKind.{PacketKind}
 use Rattle.packetiser.specs.declared.packet.PacketKind.TheVariants as kind
-use Rattle.flow_law.specs.View.{is_request}
 use Rattle.flow_law.specs.Moves.{with_fate, with_fates}
-use Rattle.imp_node.specs.declared.waiting.Message.{Message}
 use Rattle.imp_node.specs.Moves.{without_first}
 use Rattle.imp_node.specs.Queries as queries
-use Rattle.imp_node.specs.Sides.{Sender, Receiver, messages_of, fated_with}
-use Rattle.interface.specs.declared.address.Flow.{Flow}
-use Rattle.subnet.specs.Flows.{kind_of, queued_of, view_of}
 
 -- data and questions are what travels to the destination
 pub request_is : (k : PacketKind) → is_request (kind_of k) ≡ queries.is_request k

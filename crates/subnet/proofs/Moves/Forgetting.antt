@@ -1,33 +1,17 @@
 -- An IMP forgets the numbers of flows from another one: those flows forget, and no other moves.
+use Rattle.subnet.proofs.Common.{slice_set, All-contains, Box, box_of, Flow, CarrierFault, and_true, guard, or_false, outstanding_to_none, PacketFields, flow_of, View, Packet, is_request, Follows, AllFollow, State, ImpTurn, Sender, Receiver, sender, receiver, forget, Net, imp_at, with_turn, packets, messages_at_imp, has_data, is_awaited_at, NothingNew, IsAt, IsSound}
 use Rattle.std.proofs.Common.{◌≡◌, ℕ, Bool, true, false, not, List, [], ◌∷◌, Option, Some, None, refl, ap, sym, subst, ◌∙◌, ◌==◌, ◌&&◌, ◌||◌, if◌then◌else◌, inl, All, eqb-true}
-use Rattle.std.specs.Prelude.{slice_set}
 use Rattle.std.specs.FinMap as finite
-use Rattle.std.proofs.lemmas.List.Elements.{All-contains}
-use Rattle.interface.specs.Mailboxes.{Box, box_of}
-use Rattle.interface.specs.declared.address.Flow.{Flow}
-use Rattle.interface.specs.declared.carrier.CarrierFault.{CarrierFault}
 use Rattle.interface.specs.declared.carrier.CarrierFault.TheVariants as fault
-use Rattle.interface.proofs.lemmas.{and_true, guard, or_false}
-use Rattle.link_table.proofs.lemmas.{outstanding_to_none}
 use Rattle.link_table.specs.Keys.{is_from}
-use Rattle.packetiser.specs.PacketFields.{PacketFields, flow_of}
-use Rattle.flow_law.specs.View.{View, Packet, is_request}
 use Rattle.flow_law.specs.Moves.{Move, CanForget, after_all, shown_by}
-use Rattle.flow_law.specs.Follows.{Follows, AllFollow}
 use Rattle.flow_law.proofs.lemmas.{makes_one, stays}
-use Rattle.imp_node.specs.State.{State, ImpTurn}
 use Rattle.imp_node.specs.Queries as queries
 use Rattle.imp_node.specs.Queries.{is_request_between, is_message_between}
-use Rattle.imp_node.specs.Sides.{Sender, Receiver, sender, receiver}
 use Rattle.imp_node.specs.Moves.{Becomes}
-use Rattle.imp_node.specs.Stopping.{forget}
 use Rattle.imp_node.proofs.lemmas.{at_set, forget_becomes, forget_imp, same_at}
-use Rattle.subnet.specs.Net.{Net, imp_at, with_turn}
-use Rattle.subnet.specs.Alive.{packets, messages_at_imp, has_data, is_awaited_at}
 use Rattle.subnet.specs.Events.{at_imp, at_up, first_of, accepted, is_imp, forgetting_refusal}
 use Rattle.subnet.specs.Flows.{Piece, Alive, imp_is_up, sender_at, receiver_at, view_of, view}
-use Rattle.subnet.specs.Making.{NothingNew}
-use Rattle.subnet.specs.Sound.{IsAt, IsSound}
 use Rattle.subnet.proofs.Packets.HavingByEvents.{forget_nothing}
 use Rattle.subnet.proofs.Moves.QuietCalls.{formats_less}
 use Rattle.subnet.proofs.Calls.Silence.{nowhere}

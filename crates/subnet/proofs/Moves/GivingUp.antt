@@ -1,36 +1,17 @@
 -- A message is given up.
+use Rattle.subnet.proofs.Common.{flat_map, cases_Bool, and_from, All-contains, All-head, All-tail, All-cons, All-nil, same_flow, is_host, Flow, CarrierFault, guard, same_flow-refl, same_flow-true, PacketFields, IsPacket, flow_of, Packet, Queued, Message, State, HostState, ImpTurn, no_host, host_at, answer_packet, given, is_own, sender, receiver, ended_with, Moved, give_up, give_up_refusal, Net, imp_at, with_turn, packets, messages, is_alive, NothingNew, IsAt, IsSound}
 use Rattle.std.proofs.Common.{◌≡◌, ◌≢◌, ℕ, zero, suc, Bool, true, false, not, List, [], ◌∷◌, ◌++◌, ◌&&◌, ◌==◌, get_or, set, map, Option, Some, None, refl, ap, sym, ◌∙◌, subst, inl, inr, eq-eqb, All, Contains}
 use Rattle.std.specs.Prelude.{is_none, slice_set}
-use Rattle.std.specs.List.{flat_map}
-use Rattle.std.proofs.lemmas.Bool.{cases_Bool, and_from}
-use Rattle.std.proofs.lemmas.List.Elements.{All-contains, All-head, All-tail, All-cons, All-nil}
-use Rattle.interface.specs.Flow.{same_flow}
-use Rattle.interface.specs.Host.{is_host}
-use Rattle.interface.specs.declared.address.Flow.{Flow}
-use Rattle.interface.specs.declared.carrier.CarrierFault.{CarrierFault}
 use Rattle.interface.specs.declared.carrier.CarrierFault.TheVariants as fault
 use Rattle.interface.specs.declared.crossing.Answer.TheVariants as answer
-use Rattle.interface.proofs.lemmas.{guard, same_flow-refl, same_flow-true}
-use Rattle.packetiser.specs.PacketFields.{PacketFields, IsPacket, flow_of}
 use Rattle.packetiser.specs.declared.packet.PacketKind.TheVariants as kind
-use Rattle.flow_law.specs.View.{Packet, Queued}
 use Rattle.flow_law.specs.Moves.{GiveUp, CanGiveUp, view_moved}
 use Rattle.flow_law.specs.Follows.{OneFollows}
 use Rattle.flow_law.proofs.lemmas.{makes_one, one_follows}
-use Rattle.imp_node.specs.declared.waiting.Message.{Message}
-use Rattle.imp_node.specs.State.{State, HostState, ImpTurn, no_host, host_at}
-use Rattle.imp_node.specs.Flows.{answer_packet, given}
-use Rattle.imp_node.specs.Offering.{is_own}
 use Rattle.imp_node.specs.Queries.{outstanding, packet_has}
-use Rattle.imp_node.specs.Sides.{sender, receiver, ended_with, Moved}
-use Rattle.imp_node.specs.Stopping.{give_up, give_up_refusal}
 use Rattle.imp_node.proofs.lemmas.{at_set, give_up_imp, give_up_moves, same_at}
-use Rattle.subnet.specs.Net.{Net, imp_at, with_turn}
-use Rattle.subnet.specs.Alive.{packets, messages, is_alive}
 use Rattle.subnet.specs.Events.{at_imp, at_up, first_of, give_up_alive, outstanding_at, giving_up_refusal}
 use Rattle.subnet.specs.Flows.{Piece, Alive, queued_of, imp_is_up, sender_at, receiver_at, view}
-use Rattle.subnet.specs.Making.{NothingNew}
-use Rattle.subnet.specs.Sound.{IsAt, IsSound}
 use Rattle.subnet.proofs.Packets.HavingByEvents.{give_up_nothing}
 use Rattle.subnet.proofs.Moves.Askable.{Askable, same_askable, moved_askable}
 use Rattle.subnet.proofs.Moves.QuietCalls.{formats_less}

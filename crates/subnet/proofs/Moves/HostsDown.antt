@@ -1,51 +1,24 @@
 -- A host goes down: so do the sources and the destinations of all its flows. The messages that waited for it give Dead: as
 -- packets to other IMPs, and at once to the hosts of its own.
+use Rattle.subnet.proofs.Common.{slice_set, flat_map, cases_Bool, All-nil, All-cons, All-head, All-tail, All-append, All-weaker, All-contains, All-contains_itself, Contains-append_right, Contains-append_cases, same_flow, Host, same_host, is_host, Box, box_of, Flow, CarrierFault, Crossing, release_in, kept_in, fate_in, Release, PacketFields, IsPacket, flow_of, View, Packet, Queued, Kind, Follows, AllFollow, passed_over, Invariant, Message, answer_packet, freed, fated, stored, outstanding, IsImp, Sender, Receiver, sender, receiver, messages_of, ended_with, fated_with, message_returned, all_returned, stopped, host_down, host_down_refusal, is_from_here, reply_has_room, Net, imp_at, with_turn, packets, at_imp, at_up, at_host_refusal, logging, host_stopped, OnlyNew, made_at, IsAt, IsSound}
 use Rattle.std.proofs.Common.{◌≡◌, ℕ, Bool, true, false, not, List, [], ◌∷◌, ◌++◌, map, Option, Some, None, refl, ap, sym, subst, ◌∙◌, ◌==◌, ◌&&◌, if◌then◌else◌, cond, ◌⊎◌, inl, inr, eqb-true, All, Contains}
-use Rattle.std.specs.Prelude.{slice_set}
 use Rattle.std.specs.FinMap as finite
-use Rattle.std.specs.List.{flat_map}
-use Rattle.std.proofs.lemmas.Bool.{cases_Bool}
-use Rattle.std.proofs.lemmas.List.Elements.{All-nil, All-cons, All-head, All-tail, All-append, All-weaker, All-contains, All-contains_itself, Contains-append_right, Contains-append_cases}
-use Rattle.interface.specs.Flow.{same_flow}
-use Rattle.interface.specs.Host.{Host, same_host, is_host}
-use Rattle.interface.specs.Mailboxes.{Box, box_of}
-use Rattle.interface.specs.declared.address.Flow.{Flow}
-use Rattle.interface.specs.declared.carrier.CarrierFault.{CarrierFault}
 use Rattle.interface.specs.declared.carrier.CarrierFault.TheVariants as fault
 use Rattle.interface.specs.declared.crossing.Answer.TheVariants as answer
-use Rattle.interface.specs.declared.crossing.Crossing.{Crossing}
 use Rattle.interface.specs.declared.crossing.Crossing.TheVariants as crossing
 use Rattle.interface.proofs.lemmas.{and_true, guard, not_false, same_flow-refl, same_flow-true, same_host-refl, same_host-true}
-use Rattle.link_table.specs.Flows.{release_in, kept_in, fate_in}
 use Rattle.link_table.specs.declared.destination.Fate.TheVariants as fate
-use Rattle.link_table.specs.declared.source.Release.{Release}
-use Rattle.packetiser.specs.PacketFields.{PacketFields, IsPacket, flow_of}
 use Rattle.packetiser.specs.declared.packet.PacketKind.TheVariants as kind
-use Rattle.flow_law.specs.View.{View, Packet, Queued, Kind}
 use Rattle.flow_law.specs.Moves.{Move, IsDeadOf, with_fates, view_moved, after_all, shown_by}
-use Rattle.flow_law.specs.Follows.{Follows, AllFollow, passed_over}
-use Rattle.flow_law.specs.Invariant.{Invariant}
 use Rattle.flow_law.specs.Local as local
 use Rattle.flow_law.specs.Local.{stopped_host, stopped_host_queued}
 use Rattle.flow_law.proofs.lemmas.{down_shown, queued_alone, queued_awaited}
-use Rattle.imp_node.specs.declared.waiting.Message.{Message}
 use Rattle.imp_node.specs.State.{State, ImpTurn, no_host, number, host_at, is_up, is_there}
 use Rattle.imp_node.specs.Contents as contents
-use Rattle.imp_node.specs.Flows.{answer_packet, freed, fated}
 use Rattle.imp_node.specs.Making.{reply_for, host_down_makes}
-use Rattle.imp_node.specs.Pump.{stored}
-use Rattle.imp_node.specs.Queries.{outstanding}
-use Rattle.imp_node.specs.Sides.{IsImp, Sender, Receiver, sender, receiver, messages_of, ended_with, fated_with}
 use Rattle.imp_node.specs.Moves.{sender_told, source_down, destination_down}
-use Rattle.imp_node.specs.Stopping.{message_returned, all_returned, stopped, host_down, host_down_refusal}
-use Rattle.imp_node.specs.Taking.{is_from_here, reply_has_room}
 use Rattle.imp_node.proofs.lemmas.{at_set, freed_with, host_down_imp, returned_moves, returned_number, same_at, stopped_becomes}
-use Rattle.subnet.specs.Net.{Net, imp_at, with_turn}
-use Rattle.subnet.specs.Alive.{packets}
-use Rattle.subnet.specs.Events.{at_imp, at_up, at_host_refusal, logging, host_stopped}
 use Rattle.subnet.specs.Flows.{Piece, Alive, packet_of, queued_of, imp_is_up, sender_at, receiver_at, view_of, view}
-use Rattle.subnet.specs.Making.{OnlyNew, made_at}
-use Rattle.subnet.specs.Sound.{IsAt, IsSound}
 use Rattle.subnet.proofs.Packets.HavingByEvents.{stop_only}
 use Rattle.subnet.proofs.Calls.Silence.{at_host_all}
 use Rattle.subnet.proofs.Moves.Takes.{freed_messages}

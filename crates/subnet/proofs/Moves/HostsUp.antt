@@ -1,32 +1,16 @@
 -- A host comes up: so do the sources and the destinations of all its flows.
+use Rattle.subnet.proofs.Common.{slice_set, nat_tests, Host, same_host, is_host, Box, box_of, Flow, CarrierFault, guard, not_false, same_host-true, has_outstanding, View, Packet, Follows, AllFollow, IsImp, Sender, Receiver, sender, receiver, own_host, host_up, host_up_refusal, Net, imp_at, with_turn, messages_at_imp, at_imp, at_up, at_host_refusal, logging, host_started, NothingNew, IsAt, IsSound}
 use Rattle.std.proofs.Common.{◌≡◌, ℕ, ◌<◌, Bool, true, false, not, List, [], ◌∷◌, length, Option, Some, None, refl, ap, sym, subst, ◌∙◌, ◌==◌, if◌then◌else◌, inl, arith, All}
-use Rattle.std.specs.Prelude.{slice_set}
-use Rattle.std.proofs.lemmas.Bool.Decides.{nat_tests}
-use Rattle.interface.specs.Host.{Host, same_host, is_host}
-use Rattle.interface.specs.Mailboxes.{Box, box_of}
-use Rattle.interface.specs.declared.address.Flow.{Flow}
-use Rattle.interface.specs.declared.carrier.CarrierFault.{CarrierFault}
 use Rattle.interface.specs.declared.carrier.CarrierFault.TheVariants as fault
 use Rattle.interface.specs.declared.crossing.Crossing.TheVariants as crossing
-use Rattle.interface.proofs.lemmas.{guard, not_false, same_host-true}
-use Rattle.link_table.specs.Flows.{has_outstanding}
 use Rattle.link_table.proofs.lemmas.{outstanding_none}
-use Rattle.flow_law.specs.View.{View, Packet}
 use Rattle.flow_law.specs.Moves.{Move, CanStartSource, after_all}
-use Rattle.flow_law.specs.Follows.{Follows, AllFollow}
 use Rattle.flow_law.specs.Local.{started_host}
 use Rattle.flow_law.proofs.lemmas.{makes_one, stays, up_shown}
 use Rattle.imp_node.specs.State.{State, HostState, ImpTurn, host_at, is_up, is_there}
-use Rattle.imp_node.specs.Sides.{IsImp, Sender, Receiver, sender, receiver}
 use Rattle.imp_node.specs.Moves.{Becomes, source_up, destination_up}
-use Rattle.imp_node.specs.Stopping.{own_host, host_up, host_up_refusal}
 use Rattle.imp_node.proofs.lemmas.{at_set, host_up_becomes, host_up_imp, same_at}
-use Rattle.subnet.specs.Net.{Net, imp_at, with_turn}
-use Rattle.subnet.specs.Alive.{messages_at_imp}
-use Rattle.subnet.specs.Events.{at_imp, at_up, at_host_refusal, logging, host_started}
 use Rattle.subnet.specs.Flows.{Piece, Alive, imp_is_up, sender_at, receiver_at, view_of, view}
-use Rattle.subnet.specs.Making.{NothingNew}
-use Rattle.subnet.specs.Sound.{IsAt, IsSound}
 use Rattle.subnet.proofs.Moves.GivingUp.{given_queue}
 use Rattle.subnet.proofs.Packets.HavingByEvents.{start_host_nothing}
 use Rattle.subnet.proofs.Moves.QuietCalls.{formats_less}

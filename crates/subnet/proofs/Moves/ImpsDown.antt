@@ -1,29 +1,12 @@
 -- An IMP stops: its hosts go down one after another, and then the ends of all flows from it and to it.
+use Rattle.subnet.proofs.Common.{slice_set, cases_Bool, All-nil, Host, same_host, Box, box_of, Flow, CarrierFault, Crossing, and_true, guard, View, Packet, Move, after_all, shown_by, State, HostState, no_host, Sender, Receiver, at_set, Net, imp_at, at_up, accepted, is_imp, imp_refusal, downs_from, downs_at, imp_stopped, NothingNew, IsAt, IsSound}
 use Rattle.std.proofs.Common.{◌≡◌, ℕ, zero, suc, ◌+◌, ◌<◌, Bool, true, false, not, List, [], ◌∷◌, ◌++◌, get_or, Option, Some, None, refl, ap, sym, subst, ◌∙◌, ◌==◌, ◌&&◌, if◌then◌else◌, inl, inr, cond, eqb-true, eq-eqb, append_assoc, arith}
-use Rattle.std.specs.Prelude.{slice_set}
-use Rattle.std.proofs.lemmas.Bool.{cases_Bool}
-use Rattle.std.proofs.lemmas.List.Elements.{All-nil}
-use Rattle.interface.specs.Host.{Host, same_host}
-use Rattle.interface.specs.Mailboxes.{Box, box_of}
-use Rattle.interface.specs.declared.address.Flow.{Flow}
-use Rattle.interface.specs.declared.carrier.CarrierFault.{CarrierFault}
 use Rattle.interface.specs.declared.carrier.CarrierFault.TheVariants as fault
-use Rattle.interface.specs.declared.crossing.Crossing.{Crossing}
 use Rattle.interface.specs.declared.crossing.Crossing.TheVariants as crossing
-use Rattle.interface.proofs.lemmas.{and_true, guard}
-use Rattle.flow_law.specs.View.{View, Packet}
-use Rattle.flow_law.specs.Moves.{Move, after_all, shown_by}
 use Rattle.flow_law.specs.Follows.{Follows, AllSound, AllFollow}
 use Rattle.flow_law.specs.Local.{stopped_host}
 use Rattle.flow_law.proofs.lemmas.{all_follow, down_shown, makes_one, stays}
-use Rattle.imp_node.specs.State.{State, HostState, no_host}
-use Rattle.imp_node.specs.Sides.{Sender, Receiver}
-use Rattle.imp_node.proofs.lemmas.{at_set}
-use Rattle.subnet.specs.Net.{Net, imp_at}
-use Rattle.subnet.specs.Events.{at_up, accepted, is_imp, imp_refusal, downs_from, downs_at, imp_stopped}
 use Rattle.subnet.specs.Flows.{Piece, Alive, no_sender, no_receiver, imp_is_up, sender_at, receiver_at, view_of, view}
-use Rattle.subnet.specs.Making.{NothingNew}
-use Rattle.subnet.specs.Sound.{IsAt, IsSound}
 use Rattle.subnet.proofs.Packets.HavingByEvents.{stop_imp_nothing}
 use Rattle.subnet.proofs.Moves.QuietCalls.{formats_less}
 use Rattle.subnet.proofs.Moves.Views.{view_parts, alive_less}

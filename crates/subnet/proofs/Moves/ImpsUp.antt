@@ -1,34 +1,14 @@
 -- An IMP starts, empty: so do the ends of all flows from it and to it.
+use Rattle.subnet.proofs.Common.{get-empty, flat_map, list_any, All-nil, All-head, All-tail, All-contains, same_flow, flow_cmp, Box, box_of, Flow, CarrierFault, guard, or_false, same_flow-true, last_in, outstanding_in, PacketFields, View, Packet, is_request, Move, after_all, shown_by, Follows, AllFollow, Message, Told, State, HostState, no_host, host_at, number, IsImp, Sender, Receiver, sender, receiver, answers_of, messages_of, Net, imp_at, ends_at, packets, messages, messages_at_imp, has_flow, is_remembered, says, is_awaited, NothingNew, IsAt, IsSound}
 use Rattle.std.proofs.Common.{◌≡◌, ℕ, zero, suc, Bool, true, false, not, List, [], ◌∷◌, ◌++◌, map, get_or, Option, Some, None, is_some, refl, ap, sym, subst, ◌∙◌, ◌==◌, ◌&&◌, ◌||◌, if◌then◌else◌, eqb-true, inl, inr, ◌⊎◌, cond, replicate, All}
 use Rattle.std.specs.Prelude.{slice_set, count_by}
-use Rattle.std.specs.FinMap.{get-empty}
-use Rattle.std.specs.List.{flat_map, list_any}
-use Rattle.std.proofs.lemmas.List.Elements.{All-nil, All-head, All-tail, All-contains}
-use Rattle.interface.specs.Flow.{same_flow, flow_cmp}
-use Rattle.interface.specs.Mailboxes.{Box, box_of}
-use Rattle.interface.specs.declared.address.Flow.{Flow}
-use Rattle.interface.specs.declared.carrier.CarrierFault.{CarrierFault}
 use Rattle.interface.specs.declared.carrier.CarrierFault.TheVariants as fault
-use Rattle.interface.proofs.lemmas.{guard, or_false, same_flow-true}
-use Rattle.link_table.specs.Flows.{last_in, outstanding_in}
-use Rattle.packetiser.specs.PacketFields.{PacketFields}
-use Rattle.flow_law.specs.View.{View, Packet, is_request}
-use Rattle.flow_law.specs.Moves.{Move, after_all, shown_by}
-use Rattle.flow_law.specs.Follows.{Follows, AllFollow}
 use Rattle.flow_law.proofs.lemmas.{makes_one, stays}
-use Rattle.imp_node.specs.declared.waiting.Message.{Message}
-use Rattle.imp_node.specs.declared.waiting.Told.{Told}
-use Rattle.imp_node.specs.State.{State, HostState, no_host, host_at, number}
 use Rattle.imp_node.specs.State as imp
 use Rattle.imp_node.specs.Queries.{is_at_end, packet_touches, message_touches, awaits}
-use Rattle.imp_node.specs.Sides.{IsImp, Sender, Receiver, sender, receiver, answers_of, messages_of}
 use Rattle.imp_node.proofs.lemmas.{at_set, opening_imp, same_at, same_receiver, same_sender}
-use Rattle.subnet.specs.Net.{Net, imp_at, ends_at}
-use Rattle.subnet.specs.Alive.{packets, messages, messages_at_imp, has_flow, is_remembered, says, is_awaited}
 use Rattle.subnet.specs.Events.{first_of, is_imp, site_at, hosts_at, started_imp, starting_refusal, imp_started}
 use Rattle.subnet.specs.Flows.{Piece, Alive, queued_of, no_sender, no_receiver, imp_is_up, sender_at, receiver_at, view_of, view}
-use Rattle.subnet.specs.Making.{NothingNew}
-use Rattle.subnet.specs.Sound.{IsAt, IsSound}
 use Rattle.subnet.proofs.Packets.HavingByEvents.{start_imp_nothing}
 use Rattle.subnet.proofs.Moves.Forgetting.{none_awaited}
 use Rattle.subnet.proofs.Moves.QuietCalls.{formats_less}

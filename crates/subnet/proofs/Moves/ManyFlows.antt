@@ -1,22 +1,8 @@
 -- Steps in which many flows move at once.
+use Rattle.subnet.proofs.Common.{slice_set, flat_map, cases_Bool, get_or-set_other, All-append, Flow, Crossing, IsPacket, Move, AllFollow, Message, State, Net, Wire, imp_at, packets, messages, messages_at_imp, IsAt, IsSound}
 use Rattle.std.proofs.Common.{◌≡◌, ℕ, zero, suc, Bool, true, false, List, [], ◌∷◌, ◌++◌, Option, None, refl, ap, sym, ◌∙◌, ◌==◌, ◌&&◌, inl, inr, eqb-true, eq-eqb, All}
-use Rattle.std.specs.Prelude.{slice_set}
-use Rattle.std.specs.List.{flat_map}
-use Rattle.std.proofs.lemmas.Bool.{cases_Bool}
-use Rattle.std.proofs.lemmas.List.{get_or-set_other}
-use Rattle.std.proofs.lemmas.List.Elements.{All-append}
-use Rattle.interface.specs.declared.address.Flow.{Flow}
-use Rattle.interface.specs.declared.crossing.Crossing.{Crossing}
-use Rattle.packetiser.specs.PacketFields.{IsPacket}
-use Rattle.flow_law.specs.Moves.{Move}
-use Rattle.flow_law.specs.Follows.{AllFollow}
 use Rattle.flow_law.proofs.lemmas.{all_follow}
-use Rattle.imp_node.specs.declared.waiting.Message.{Message}
-use Rattle.imp_node.specs.State.{State}
-use Rattle.subnet.specs.Net.{Net, Wire, imp_at}
-use Rattle.subnet.specs.Alive.{packets, messages, messages_at_imp}
 use Rattle.subnet.specs.Flows.{Piece, Alive, view}
-use Rattle.subnet.specs.Sound.{IsAt, IsSound}
 use Rattle.subnet.proofs.Calls.Silence.{parts_left, parts_right}
 use Rattle.subnet.proofs.Moves.Askable.{one_begins, moved_askable}
 use Rattle.subnet.proofs.Moves.Turns.{Answerable}

@@ -1,41 +1,26 @@
 -- A message is offered.
+use Rattle.subnet.proofs.Common.{map-append, All-nil, All-push, All-weaker, All-contains, All-contains_itself, list_any, body, is_host, Box, box_of, Flow, CarrierFault, Answer, Crossing, HostMessage, Standing, PacketKind, View, Packet, Queued, Message, Told, Sender, Receiver, sender, receiver, answers_of, begun_with, told_with, noted_with, queued_with, IsImp, Net, imp_at, with_turn, packets, is_alive, says, OnlyNew, IsCarriable, CanGo, CanGoFrom, IsAt, IsSound}
 use Rattle.std.proofs.Common.{arith, ◌≡◌, ◌≢◌, ℕ, ◌+◌, ◌<◌, ◌≤◌, ◌==◌, ◌||◌, eq-eqb, inl, inr, Bool, true, false, not, List, [], ◌∷◌, ◌++◌, length, Option, Some, None, refl, ap, sym, ◌∙◌, subst, All, Contains}
-use Rattle.std.proofs.lemmas.List.{map-append}
-use Rattle.std.proofs.lemmas.List.Elements.{All-nil, All-push, All-weaker, All-contains, All-contains_itself}
 use Rattle.std.specs.FinMap as finite
-use Rattle.std.specs.List.{list_any}
 use Rattle.std.proofs.lemmas.Option.{same_Some}
-use Rattle.bit_messages.specs.Body.{body}
 use Rattle.interface.specs.Flow.{message_numbers, same_flow}
-use Rattle.interface.specs.Host.{is_host}
-use Rattle.interface.specs.Mailboxes.{Box, box_of}
-use Rattle.interface.specs.declared.address.Flow.{Flow}
-use Rattle.interface.specs.declared.carrier.CarrierFault.{CarrierFault}
 use Rattle.interface.specs.declared.carrier.CarrierFault.TheVariants as fault
-use Rattle.interface.specs.declared.crossing.Answer.{Answer}
 use Rattle.interface.specs.declared.crossing.Answer.TheVariants as answer
-use Rattle.interface.specs.declared.crossing.Crossing.{Crossing}
 use Rattle.interface.specs.declared.crossing.Crossing.TheVariants as crossing
-use Rattle.interface.specs.declared.message.HostMessage.{HostMessage}
 use Rattle.interface.proofs.lemmas.{and_true, guard, not_false, or_false, same_flow-refl, not_true}
 use Rattle.link_table.specs.Flows.{last_in, outstanding_in, is_idle_in, number_in, kept_in}
 use Rattle.link_table.specs.declared.destination.Fate.TheVariants as fate
 use Rattle.link_table.specs.Numbers.{modulus, oldest}
-use Rattle.link_table.specs.declared.source.Standing.{Standing}
 use Rattle.link_table.specs.declared.source.Standing.TheVariants as standing
 use Rattle.link_table.proofs.lemmas.{number_begun}
 use Rattle.packetiser.specs.PacketFields.{PacketFields, IsPacketHost, IsPiece, Carries, IsPacket, flow_of}
 use Rattle.packetiser.specs.Pieces.{piece_count, piece, packets_of, CarriesPieceOf}
 use Rattle.packetiser.specs.Slots.{IsPieceFor}
-use Rattle.packetiser.specs.declared.packet.PacketKind.{PacketKind}
 use Rattle.packetiser.specs.declared.packet.PacketKind.TheVariants as kind
 use Rattle.packetiser.proofs.lemmas.{body_sized, few_pieces, packets_are, piece_fits}
-use Rattle.flow_law.specs.View.{View, Packet, Queued}
 use Rattle.flow_law.specs.Moves as moves
 use Rattle.flow_law.specs.Moves.{Move, DeadNow, Begin, BeginLocal, CanOffer, CanBegin, NumberFree, IsPieceOf, view_moved}
 use Rattle.flow_law.proofs.lemmas.{makes_one, out_here}
-use Rattle.imp_node.specs.declared.waiting.Message.{Message}
-use Rattle.imp_node.specs.declared.waiting.Told.{Told}
 use Rattle.imp_node.specs.State.{State, number, host_at, is_up}
 use Rattle.imp_node.specs.Contents as contents
 use Rattle.imp_node.specs.Flows.{answer_packet, given, is_about, is_idle, next_number}
@@ -43,15 +28,9 @@ use Rattle.imp_node.specs.Making.{cut_for}
 use Rattle.imp_node.specs.Moves.{OfferMoves}
 use Rattle.imp_node.specs.Offering.{Way, Nowhere, Here, Away, way_of, way_has_room, is_own, goes, begins, offered, from_host, from_host_refusal}
 use Rattle.imp_node.specs.Queries.{last, kept}
-use Rattle.imp_node.specs.Sides.{Sender, Receiver, sender, receiver, answers_of, begun_with, told_with, noted_with, queued_with, IsImp}
 use Rattle.imp_node.proofs.lemmas.{from_host_has, from_host_imp, from_host_moves, here_imp}
-use Rattle.subnet.specs.Net.{Net, imp_at, with_turn}
-use Rattle.subnet.specs.Alive.{packets, is_alive, says}
 use Rattle.subnet.specs.Events.{at_imp, at_up, first_of, logging, alive_behind, is_number, is_kept, offer_alive, offer_refusal, offer_out}
 use Rattle.subnet.specs.Flows.{Piece, Alive, kind_of, packet_of, queued_of, imp_is_up, sender_at, receiver_at, view_of, view}
-use Rattle.subnet.specs.Making.{OnlyNew}
-use Rattle.subnet.specs.Offers.{IsCarriable, CanGo, CanGoFrom}
-use Rattle.subnet.specs.Sound.{IsAt, IsSound}
 use Rattle.subnet.proofs.Moves.GivingUp.{no_packet}
 use Rattle.subnet.proofs.Calls.Silence.{not_alive, at_host_all}
 use Rattle.subnet.proofs.Moves.Turns.{Answerable, turn_only, alive_or_made, set_queue, answerable, source_changed, destination_changed, destination_same, moved_view, out_crosses, followed_turn}

@@ -1,33 +1,16 @@
 -- A subnet at its opening is sound.
+use Rattle.subnet.proofs.Common.{get-empty, flat_map, nat_tests, All-nil, All-cons, All-head, flow_cmp, Host, is_host, Flow, last_in, outstanding_in, PacketFields, IsPacket, Message, Told, answer_packet, IsImp, answers_of, messages_of, Net, imp_at, ends_at, packets, messages_at_imp, Alive, imp_is_up, sender_at, receiver_at, queued_of, view, Ends, empty_wire, opened_imp, opened_from, opening_subnet, host_there, AreHosts, IsAt, IsSound}
 use Rattle.std.proofs.Common.{◌≡◌, ℕ, zero, suc, ◌+◌, Bool, true, false, List, [], ◌∷◌, ◌++◌, map, get_or, replicate, Option, Some, None, refl, ap, sym, ◌∙◌, subst, All, arith}
 use Rattle.std.specs.Prelude.{nat_lt, slice_index_or, count_by}
-use Rattle.std.specs.FinMap.{get-empty}
-use Rattle.std.specs.List.{flat_map}
-use Rattle.std.proofs.lemmas.Bool.Decides.{nat_tests}
-use Rattle.std.proofs.lemmas.List.Elements.{All-nil, All-cons, All-head}
-use Rattle.interface.specs.Flow.{flow_cmp}
-use Rattle.interface.specs.Host.{Host, is_host}
 use Rattle.interface.specs.Mailboxes.{Box, Mail, opening_mail}
-use Rattle.interface.specs.declared.address.Flow.{Flow}
 use Rattle.interface.proofs.lemmas.{both_ways}
-use Rattle.link_table.specs.Flows.{last_in, outstanding_in}
-use Rattle.packetiser.specs.PacketFields.{PacketFields, IsPacket}
 use Rattle.packetiser.specs.declared.packet.PacketKind.TheVariants as kind
 use Rattle.flow_law.specs.View.{Packet, mail_now}
 use Rattle.flow_law.specs.Runs.{IsOpening}
 use Rattle.flow_law.proofs.lemmas.{all_open}
-use Rattle.imp_node.specs.declared.waiting.Message.{Message}
-use Rattle.imp_node.specs.declared.waiting.Told.{Told}
 use Rattle.imp_node.specs.State.{State, HostState, up_host, no_host}
 use Rattle.imp_node.specs.State as imp
-use Rattle.imp_node.specs.Flows.{answer_packet}
-use Rattle.imp_node.specs.Sides.{IsImp, answers_of, messages_of}
 use Rattle.imp_node.proofs.lemmas.{opening_answers, opening_imp, opening_queue, start_has}
-use Rattle.subnet.specs.Net.{Net, imp_at, ends_at}
-use Rattle.subnet.specs.Alive.{packets, messages_at_imp}
-use Rattle.subnet.specs.Flows.{Alive, imp_is_up, sender_at, receiver_at, queued_of, view}
-use Rattle.subnet.specs.Opening.{Ends, empty_wire, opened_imp, opened_from, opening_subnet, host_there, AreHosts}
-use Rattle.subnet.specs.Sound.{IsAt, IsSound}
 use Rattle.subnet.proofs.Packets.Having.{FrameHas, WireHas, ImpHas, NetHas, net_packets, net_at}
 use Rattle.subnet.proofs.Calls.SiteHosts.{below_both}
 

@@ -1,24 +1,8 @@
 -- Events that make no packet, move no flow and show nothing.
-use Rattle.std.proofs.Common.{◌≡◌, ℕ, Option, Some, None, refl, sym, subst, All, Contains}
-use Rattle.std.proofs.lemmas.List.Elements.{All-weaker, All-contains}
-use Rattle.interface.specs.declared.address.Flow.{Flow}
-use Rattle.interface.specs.declared.event.Direction.{Direction}
-use Rattle.packetiser.specs.PacketFields.{IsPacket}
+use Rattle.subnet.proofs.Common.{◌≡◌, ℕ, Option, Some, None, refl, sym, subst, All, Contains, All-weaker, All-contains, Flow, Direction, IsPacket, Message, State, ImpTurn, answer_packet, resend, route, end_down, end_up, abandon, IsImp, AllUnmoved, Net, imp_at, with_turn, packets, at_imp, drop_frame, Alive, view, NothingNew, IsAt, IsSound}
 use Rattle.packetiser.specs.declared.packet.PacketKind.TheVariants as kind
 use Rattle.flow_law.proofs.lemmas.{silent_follows}
-use Rattle.imp_node.specs.declared.waiting.Message.{Message}
-use Rattle.imp_node.specs.State.{State, ImpTurn}
-use Rattle.imp_node.specs.Flows.{answer_packet}
-use Rattle.imp_node.specs.Lines.{resend, route, end_down, end_up}
-use Rattle.imp_node.specs.Stopping.{abandon}
-use Rattle.imp_node.specs.Sides.{IsImp, AllUnmoved}
 use Rattle.imp_node.proofs.lemmas.{abandon_imp, abandon_unmoved, at_set, end_down_imp, end_down_unmoved, end_up_imp, end_up_unmoved, resend_imp, resend_unmoved, route_imp, route_unmoved}
-use Rattle.subnet.specs.Net.{Net, imp_at, with_turn}
-use Rattle.subnet.specs.Alive.{packets}
-use Rattle.subnet.specs.Events.{at_imp, drop_frame}
-use Rattle.subnet.specs.Flows.{Alive, view}
-use Rattle.subnet.specs.Making.{NothingNew}
-use Rattle.subnet.specs.Sound.{IsAt, IsSound}
 use Rattle.subnet.proofs.Moves.Askable.{same_askable}
 use Rattle.subnet.proofs.Moves.Views.{turn_view, alive_less, same_messages}
 use Rattle.subnet.proofs.Packets.HavingByEvents.{drop_nothing, resend_nothing, route_nothing, end_down_nothing, end_up_nothing, abandon_nothing}

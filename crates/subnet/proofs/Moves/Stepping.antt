@@ -1,18 +1,9 @@
 -- An event as the call of one IMP that it is.
+use Rattle.subnet.proofs.Common.{nat_tests, and_from, CarrierFault, Net, imp_at, port_of, State, number, is_memory, Host, is_host, HostMessage, has_data, is_awaited_at, grows_at}
 use Rattle.std.proofs.Common.{◌≡◌, ℕ, ◌==◌, ◌&&◌, ◌||◌, Bool, true, false, not, Option, Some, None, Result, Err, refl, ap, subst, arith}
-use Rattle.std.proofs.lemmas.Bool.Decides.{nat_tests}
-use Rattle.std.proofs.lemmas.Bool.{and_from}
-use Rattle.interface.specs.declared.carrier.CarrierFault.{CarrierFault}
 use Rattle.interface.specs.declared.carrier.CarrierFault.TheVariants as fault
 use Rattle.interface.specs.declared.event.NetEvent.TheVariants as event
-use Rattle.subnet.specs.Net.{Net, imp_at, port_of}
-use Rattle.imp_node.specs.State.{State, number}
 use Rattle.imp_node.specs.Stopping.{forget_refusal}
-use Rattle.interface.specs.Calls.{is_memory}
-use Rattle.interface.specs.Host.{Host, is_host}
-use Rattle.interface.specs.declared.message.HostMessage.{HostMessage}
-use Rattle.subnet.specs.Alive.{has_data, is_awaited_at}
-use Rattle.subnet.specs.Calls.{grows_at}
 use Rattle.subnet.specs.Events.{first_of, has_end, at_up, at_imp, accepted, is_imp, offer_alive, offer_refusal, offer_out, host_stopped, host_started}
 use Rattle.subnet.specs.declared.imp_call.ImpCall.TheVariants as call
 use Rattle.subnet.specs.Inside.Calling.{call_turn, call_grows, IsLive, AreLive, Fails, CallEnds, Makes, Steps}

@@ -1,48 +1,27 @@
 -- A host takes what waits for it.
+use Rattle.subnet.proofs.Common.{All-nil, All-cons, All-head, All-tail, same_flow, Host, is_host, Flow, CarrierFault, Answer, Crossing, HostMessage, guard, not_false, same_flow-refl, release_in, Release, PacketFields, IsPacket, flow_of, Packet, Queued, Kind, Follows, Message, answer_packet, given, answered_by, freed, fated, stored, Sender, Receiver, sender, receiver, fated_with, answers_of, messages_of, ended_with, IsImp, Moved, Net, imp_at, with_turn, packets, NothingNew, OnlyNew, IsAt, IsSound}
 use Rattle.std.proofs.Common.{◌≡◌, ℕ, Bool, true, false, not, List, [], ◌∷◌, ◌++◌, map, Option, Some, None, refl, ap, sym, ◌∙◌, subst, ◌⊎◌, inl, inr, eqb-true, cond, All, Contains}
-use Rattle.std.proofs.lemmas.List.Elements.{All-nil, All-cons, All-head, All-tail}
 use Rattle.std.specs.FinMap as finite
-use Rattle.interface.specs.Flow.{same_flow}
-use Rattle.interface.specs.Host.{Host, is_host}
 use Rattle.interface.specs.Mailboxes.{Box, box_of, fetched}
-use Rattle.interface.specs.declared.address.Flow.{Flow}
-use Rattle.interface.specs.declared.carrier.CarrierFault.{CarrierFault}
 use Rattle.interface.specs.declared.carrier.CarrierFault.TheVariants as fault
-use Rattle.interface.specs.declared.crossing.Answer.{Answer}
 use Rattle.interface.specs.declared.crossing.Answer.TheVariants as answer
-use Rattle.interface.specs.declared.crossing.Crossing.{Crossing}
 use Rattle.interface.specs.declared.crossing.Crossing.TheVariants as crossing
-use Rattle.interface.specs.declared.message.HostMessage.{HostMessage}
-use Rattle.interface.proofs.lemmas.{guard, not_false, same_flow-refl}
-use Rattle.link_table.specs.Flows.{release_in}
 use Rattle.link_table.specs.declared.destination.Fate.TheVariants as fate
-use Rattle.link_table.specs.declared.source.Release.{Release}
 use Rattle.link_table.specs.declared.source.Release.TheVariants as release
-use Rattle.packetiser.specs.PacketFields.{PacketFields, IsPacket, flow_of}
 use Rattle.packetiser.specs.declared.packet.PacketKind.TheVariants as kind
-use Rattle.flow_law.specs.View.{Packet, Queued, Kind}
 use Rattle.flow_law.specs.Moves.{Move, TakeMessage, TakeAnswer, CanTakeMessage, IsTold}
-use Rattle.flow_law.specs.Follows.{Follows}
 use Rattle.flow_law.specs.Local.{taken_here, view_taken_here}
 use Rattle.flow_law.proofs.lemmas.{answer_here, in_here, makes_one, queued_awaited, take_here}
-use Rattle.imp_node.specs.declared.waiting.Message.{Message}
 use Rattle.imp_node.specs.declared.waiting.Told.{Told}
 use Rattle.imp_node.specs.State.{State, number, host_at, is_there, is_up, with_host}
 use Rattle.imp_node.specs.Contents as contents
-use Rattle.imp_node.specs.Flows.{answer_packet, given, answered_by, freed, fated}
 use Rattle.imp_node.specs.Making.{rfnm_for}
 use Rattle.imp_node.specs.Moves.{without_first, sender_told}
-use Rattle.imp_node.specs.Pump.{stored}
-use Rattle.imp_node.specs.Sides.{Sender, Receiver, sender, receiver, fated_with, answers_of, messages_of, ended_with, IsImp, Moved}
 use Rattle.imp_node.specs.Taking.{first_of, is_from_here, replied, taking_has_room, taken_by, to_host, to_host_refusal}
 use Rattle.imp_node.proofs.lemmas.{answer_taken, freed_with, message_taken, nothing_taken, to_host_has, to_host_imp}
-use Rattle.subnet.specs.Net.{Net, imp_at, with_turn}
-use Rattle.subnet.specs.Alive.{packets}
 use Rattle.subnet.specs.Events as events
 use Rattle.subnet.specs.Events.{at_imp, at_up, logging, given_at, crossings_of, take_refusal, take_in}
 use Rattle.subnet.specs.Flows.{Piece, Alive, packet_of, queued_of, imp_is_up, sender_at, receiver_at, view}
-use Rattle.subnet.specs.Making.{NothingNew, OnlyNew}
-use Rattle.subnet.specs.Sound.{IsAt, IsSound}
 use Rattle.subnet.proofs.Calls.Silence.{at_host_all}
 use Rattle.subnet.proofs.Moves.Fates.{taken_view}
 use Rattle.subnet.proofs.Moves.Turns.{Answerable, turn_only, turn_nothing, alive_or_made, set_queue, answerable, source_changed, source_same, destination_changed, destination_same, moved_view, in_crosses, answer_crosses, followed_turn, silent_turn}

@@ -1,36 +1,13 @@
 -- A call of one IMP that moves one flow.
+use Rattle.subnet.proofs.Common.{slice_set, flat_map, cases_Bool, All-append, All-weaker, All-contains, All-contains_itself, Contains-append_left, Contains-append_right, Contains-append_cases, same_flow, Host, Flow, Answer, Crossing, HostMessage, same_flow-refl, same_flow-true, PacketFields, IsPacket, flow_of, Packet, Move, shown_by, Follows, passed_over, Message, State, HostState, ImpTurn, answer_packet, Sender, Receiver, sender, receiver, IsImp, Unmoved, Net, imp_at, with_turn, packets, messages_at_imp, logging, NothingNew, OnlyNew, IsAt, IsSound}
 use Rattle.std.proofs.Common.{◌≡◌, ℕ, zero, suc, Bool, true, false, List, [], ◌∷◌, ◌++◌, set, Option, Some, None, refl, ap, sym, ◌∙◌, subst, ◌⊎◌, inl, inr, All, Contains}
-use Rattle.std.specs.Prelude.{slice_set}
-use Rattle.std.specs.List.{flat_map}
-use Rattle.std.proofs.lemmas.Bool.{cases_Bool}
-use Rattle.std.proofs.lemmas.List.Elements.{All-append, All-weaker, All-contains, All-contains_itself, Contains-append_left, Contains-append_right, Contains-append_cases}
-use Rattle.interface.specs.Flow.{same_flow}
-use Rattle.interface.specs.Host.{Host}
 use Rattle.interface.specs.Mailboxes.{Box, box_of, UpsAreHosts}
-use Rattle.interface.specs.declared.address.Flow.{Flow}
-use Rattle.interface.specs.declared.crossing.Answer.{Answer}
-use Rattle.interface.specs.declared.crossing.Crossing.{Crossing}
 use Rattle.interface.specs.declared.crossing.Crossing.TheVariants as crossing
-use Rattle.interface.specs.declared.message.HostMessage.{HostMessage}
-use Rattle.interface.proofs.lemmas.{same_flow-refl, same_flow-true}
-use Rattle.packetiser.specs.PacketFields.{PacketFields, IsPacket, flow_of}
 use Rattle.packetiser.specs.declared.packet.PacketKind.TheVariants as kind
-use Rattle.flow_law.specs.View.{Packet}
-use Rattle.flow_law.specs.Moves.{Move, shown_by}
-use Rattle.flow_law.specs.Follows.{Follows, passed_over}
 use Rattle.flow_law.proofs.lemmas.{answer_elsewhere, in_elsewhere, one_follows, out_elsewhere, silent_follows}
-use Rattle.imp_node.specs.declared.waiting.Message.{Message}
-use Rattle.imp_node.specs.State.{State, HostState, ImpTurn}
 use Rattle.imp_node.specs.Contents as contents
-use Rattle.imp_node.specs.Flows.{answer_packet}
-use Rattle.imp_node.specs.Sides.{Sender, Receiver, sender, receiver, IsImp, Unmoved}
 use Rattle.imp_node.proofs.lemmas.{Has, TurnHas, at_set, same_at}
-use Rattle.subnet.specs.Net.{Net, imp_at, with_turn}
-use Rattle.subnet.specs.Alive.{packets, messages_at_imp}
-use Rattle.subnet.specs.Events.{logging}
 use Rattle.subnet.specs.Flows.{Piece, Alive, packet_of, imp_is_up, sender_at, receiver_at, view_of, view}
-use Rattle.subnet.specs.Making.{NothingNew, OnlyNew}
-use Rattle.subnet.specs.Sound.{IsAt, IsSound}
 use Rattle.subnet.proofs.Packets.Having.{ImpHas, NetHas, net_packets, packets_net, net_itself, imp_has, with_turn_has}
 use Rattle.subnet.proofs.Moves.Askable.{Askable, one_begins, same_askable, moved_askable}
 use Rattle.subnet.proofs.Moves.QuietCalls.{formats_less}

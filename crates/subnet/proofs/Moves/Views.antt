@@ -1,20 +1,6 @@
 -- What is so of each flow after a call of one IMP.
-use Rattle.std.proofs.Common.{◌≡◌, ℕ, zero, suc, Bool, List, [], ◌∷◌, ◌++◌, Option, Some, None, refl, ap, sym, ◌∙◌, Contains}
-use Rattle.std.specs.Prelude.{slice_set}
-use Rattle.std.specs.List.{flat_map}
-use Rattle.std.proofs.lemmas.List.Elements.{All-contains}
-use Rattle.interface.specs.Mailboxes.{Box, box_of}
-use Rattle.interface.specs.declared.address.Flow.{Flow}
-use Rattle.flow_law.specs.View.{Packet}
-use Rattle.imp_node.specs.declared.waiting.Message.{Message}
-use Rattle.imp_node.specs.State.{State, HostState, ImpTurn}
+use Rattle.subnet.proofs.Common.{◌≡◌, ℕ, zero, suc, Bool, List, [], ◌∷◌, ◌++◌, Option, Some, None, refl, ap, sym, ◌∙◌, Contains, slice_set, flat_map, All-contains, Box, box_of, Flow, Packet, Message, State, HostState, ImpTurn, Sender, Receiver, Unmoved, same_at, Net, imp_at, with_turn, packets, messages_at_imp, Alive, imp_is_up, sender_at, receiver_at, view_of, view, NothingNew}
 use Rattle.imp_node.specs.Contents as imp
-use Rattle.imp_node.specs.Sides.{Sender, Receiver, Unmoved}
-use Rattle.imp_node.proofs.lemmas.{same_at}
-use Rattle.subnet.specs.Net.{Net, imp_at, with_turn}
-use Rattle.subnet.specs.Alive.{packets, messages_at_imp}
-use Rattle.subnet.specs.Flows.{Alive, imp_is_up, sender_at, receiver_at, view_of, view}
-use Rattle.subnet.specs.Making.{NothingNew}
 
 -- two views with the same parts
 pub view_parts : (u v : Bool) (s t : Sender) (w x : Bool) (q r : Receiver) (b : Box) → u ≡ v → s ≡ t → w ≡ x → q ≡ r → view_of u s w q b ≡ view_of v t x r b

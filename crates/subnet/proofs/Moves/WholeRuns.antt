@@ -1,18 +1,7 @@
 -- Whatever happens from the opening on, the subnet is sound, and so its log is a run of the mailboxes.
-use Rattle.std.proofs.Common.{◌≡◌, ℕ, ◌+◌, ◌≤◌, List, [], ◌∷◌, length, Option, Some, None, refl, subst, ◌∙◌}
-use Rattle.interface.specs.Host.{Host, most_imps}
-use Rattle.interface.specs.Mailboxes.{IsRun}
-use Rattle.interface.specs.declared.carrier.CarrierFault.{CarrierFault}
-use Rattle.interface.specs.declared.event.NetEvent.{NetEvent}
-use Rattle.interface.specs.declared.message.HostMessage.{HostMessage}
-use Rattle.flow_law.proofs.lemmas.{sound_run}
-use Rattle.subnet.specs.Net.{Net}
-use Rattle.subnet.specs.Events.{quiet_round}
-use Rattle.subnet.specs.Flows.{Alive, view}
-use Rattle.subnet.specs.Opening.{Ends, AreHosts, opening_subnet}
+use Rattle.subnet.proofs.Common.{◌≡◌, ℕ, ◌+◌, ◌≤◌, List, [], ◌∷◌, length, Option, Some, None, refl, subst, ◌∙◌, Host, most_imps, IsRun, CarrierFault, NetEvent, HostMessage, sound_run, Net, quiet_round, Alive, view, Ends, AreHosts, opening_subnet, IsSound}
 use Rattle.subnet.specs.Routed.{IsHostMessage, IsRouted}
 use Rattle.subnet.specs.Run.{Call, Offer, Take, Happen, Round, refusal, net_after, done_by, ran, OffersMessages}
-use Rattle.subnet.specs.Sound.{IsSound}
 use Rattle.subnet.proofs.Moves.EventSteps.{step_sound}
 use Rattle.subnet.proofs.Moves.Offers.{offer_sound}
 use Rattle.subnet.proofs.Moves.Openings.{opening_sound}

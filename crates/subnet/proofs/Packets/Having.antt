@@ -1,22 +1,9 @@
 -- A property of every packet of a subnet: what holds of all packets before an event, and of what the event makes, holds of all
 -- packets after it.
-use Rattle.std.proofs.Common.{ℕ, zero, suc, List, [], ◌∷◌, Option, Some, None, All, Contains}
+use Rattle.subnet.proofs.Common.{ℕ, zero, suc, List, [], ◌∷◌, Option, Some, None, All, Contains, flat_map, All-nil, All-cons, All-head, All-tail, All-append, All-set, All-contains, All-contains_itself, Direction, PacketFields, All_left, All_right, carried_by, Content, Frame, ContentHas, State, ImpTurn, Net, Wire, imp_at, with_turn, packets_on, packets_on_wire, packets_at_imp, packets, drop_frame}
 use Rattle.std.specs.Prelude.{slice_get}
-use Rattle.std.specs.List.{flat_map}
-use Rattle.std.proofs.lemmas.List.Elements.{All-nil, All-cons, All-head, All-tail, All-append, All-set, All-contains, All-contains_itself}
-use Rattle.interface.specs.declared.event.Direction.{Direction}
-use Rattle.packetiser.specs.PacketFields.{PacketFields}
-use Rattle.packetiser.proofs.lemmas.{All_left, All_right}
-use Rattle.imp_channel.specs.Holding.{carried_by}
-use Rattle.imp_channel.specs.declared.frame.Content.{Content}
 use Rattle.imp_channel.specs.declared.frame.Content.TheVariants as content
-use Rattle.imp_channel.specs.declared.frame.Frame.{Frame}
-use Rattle.imp_channel.proofs.lemmas.{ContentHas}
-use Rattle.imp_node.specs.State.{State, ImpTurn}
 use Rattle.imp_node.proofs.lemmas.{Has, TurnHas, has_packets, packets_has}
-use Rattle.subnet.specs.Net.{Net, Wire, imp_at, with_turn}
-use Rattle.subnet.specs.Alive.{packets_on, packets_on_wire, packets_at_imp, packets}
-use Rattle.subnet.specs.Events.{drop_frame}
 use Rattle.subnet.proofs.Packets.OnLines.{WireHolds, dropped_holds, put_all_holds}
 
 -- ---- the property

@@ -1,33 +1,12 @@
 -- A property of every packet, over each event.
-use Rattle.std.proofs.Common.{ℕ, List, [], ◌∷◌, ◌++◌, Option, Some, None, All, Contains}
+use Rattle.subnet.proofs.Common.{ℕ, List, [], ◌∷◌, ◌++◌, Option, Some, None, All, Contains, flat_map, All-nil, All-cons, All-set, All-weaker, All-contains_itself, Contains-append_left, Contains-append_right, Host, Flow, Crossing, Direction, HostMessage, PacketFields, carried_by, Content, Frame, ContentHas, State, ImpTurn, from_host, to_host, resend, route, end_down, end_up, ask, give_up, forget, abandon, host_down, host_up, Net, imp_at, wire_at, ends_at, port_of, frames_on, far_end, packets, at_imp, logging, offer_out, taken_by_host, crossings_of, take_in, delivered, deliver, drop_frame, host_stopped, host_started, started_imp, hosts_at, site_at, imp_started, imp_stopped}
 use Rattle.std.specs.Prelude.{slice_get, count_by}
-use Rattle.std.specs.List.{flat_map}
-use Rattle.std.proofs.lemmas.List.Elements.{All-nil, All-cons, All-set, All-weaker, All-contains_itself, Contains-append_left, Contains-append_right}
-use Rattle.interface.specs.Host.{Host}
-use Rattle.interface.specs.declared.address.Flow.{Flow}
-use Rattle.interface.specs.declared.crossing.Crossing.{Crossing}
 use Rattle.interface.specs.declared.crossing.Crossing.TheVariants as crossing
-use Rattle.interface.specs.declared.event.Direction.{Direction}
-use Rattle.interface.specs.declared.message.HostMessage.{HostMessage}
-use Rattle.packetiser.specs.PacketFields.{PacketFields}
-use Rattle.imp_channel.specs.Holding.{carried_by}
-use Rattle.imp_channel.specs.declared.frame.Content.{Content}
 use Rattle.imp_channel.specs.declared.frame.Content.TheVariants as content
-use Rattle.imp_channel.specs.declared.frame.Frame.{Frame}
-use Rattle.imp_channel.proofs.lemmas.{ContentHas}
-use Rattle.imp_node.specs.State.{State, ImpTurn}
 use Rattle.imp_node.specs.State as imp
 use Rattle.imp_node.specs.Arrival.{arrival, from_line}
-use Rattle.imp_node.specs.Offering.{from_host}
-use Rattle.imp_node.specs.Taking.{to_host}
-use Rattle.imp_node.specs.Lines.{resend, route, end_down, end_up}
-use Rattle.imp_node.specs.Asking.{ask}
-use Rattle.imp_node.specs.Stopping.{give_up, forget, abandon, host_down, host_up}
 use Rattle.imp_node.specs.Making.{told_for, ask_makes, from_host_makes, from_line_makes, to_host_makes, host_down_makes}
 use Rattle.imp_node.proofs.lemmas.{Has, TurnHas, abandon_has, ask_has, end_down_has, end_up_has, forget_has, from_host_has, from_line_has, give_up_has, host_down_has, host_up_has, resend_has, route_has, start_has, to_host_has}
-use Rattle.subnet.specs.Net.{Net, imp_at, wire_at, ends_at, port_of, frames_on, far_end}
-use Rattle.subnet.specs.Alive.{packets}
-use Rattle.subnet.specs.Events.{at_imp, logging, offer_out, taken_by_host, crossings_of, take_in, delivered, deliver, drop_frame, host_stopped, host_started, started_imp, hosts_at, site_at, imp_started, imp_stopped}
 use Rattle.subnet.specs.Making.{NothingNew, OnlyNew, made_at, offer_makes, take_makes, asking_makes, stop_makes, told_made, frame_makes, deliver_makes}
 use Rattle.subnet.proofs.Packets.Having.{FrameHas, ImpHas, NetHas, GotHas, net_packets, packets_net, net_itself, imp_has, got_has, with_turn_has, dropped_has}
 use Rattle.subnet.proofs.Packets.OnLines.{way_holds, wire_holds}

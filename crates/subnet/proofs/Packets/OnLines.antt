@@ -1,13 +1,10 @@
 -- A property of every frame on lines: what holds of all frames on lines before a call, and of those that the call puts there, holds
 -- of all frames on lines after it.
+use Rattle.subnet.proofs.Common.{Direction, Frame, Outgoing, Wire, wire_at, line_places, line_from, followed_by, with_frame, put_on, put_one, put_all, frames_on, without_at, dropping}
 use Rattle.std.proofs.Common.{ℕ, zero, suc, ◌+◌, ◌==◌, Bool, true, false, List, [], ◌∷◌, ◌++◌, Option, Some, None, cond, All, take, drop, length}
 use Rattle.std.specs.Prelude.{nat_lt, slice_set}
 use Rattle.std.proofs.lemmas.List.Elements.{All-nil, All-head, All-tail, All-append, All-push, All-set, All-take, All-drop}
-use Rattle.interface.specs.declared.event.Direction.{Direction}
 use Rattle.interface.specs.declared.event.Direction.TheVariants as way
-use Rattle.imp_channel.specs.declared.frame.Frame.{Frame}
-use Rattle.imp_node.specs.declared.outgoing.Outgoing.{Outgoing}
-use Rattle.subnet.specs.Net.{Wire, wire_at, line_places, line_from, followed_by, with_frame, put_on, put_one, put_all, frames_on, without_at, dropping}
 
 pub record WireHolds (F : Frame → Type 0) (w : Wire) : Type 0 where
   pub forward : All F w.forward

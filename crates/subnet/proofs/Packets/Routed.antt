@@ -1,60 +1,31 @@
 -- Distances are sent of the subnet's IMPs only.
+use Rattle.subnet.proofs.Common.{Flow, Answer, Crossing, Direction, NetEvent, HostMessage, Release, PacketKind, Channel, ChannelFault, Content, Frame, Received, Outgoing, Port, Message, Told, State, ImpTurn, number, host_at, with_host, port_at, answered_by, fated, Way, Nowhere, Here, Away, way_of, offered, from_host, on_port, resent_by, resent_from, resend, told_by, told_from, route, end_down, end_up, asked_by, ask, outstanding, give_up, forget, abandon, message_returned, all_returned, stopped, host_down, host_up, is_from_here, reply_has_room, replied, taken_by, to_host, Net, Wire, imp_at, wire_at, ends_at, port_of, put_all, with_turn, frames_on, far_end, dropping, at_imp, logging, offer_out, crossings_of, take_in, delivered, deliver, drop_frame, quiet_round, host_stopped, host_started, started_imp, hosts_at, site_at, imp_stopped, imp_started, downs_at, stepped, IsCarriable, CanGo, CanGoFrom, Ends, empty_wire, opened_imp, opened_from, opening_subnet, IsAt, IsSound}
 use Rattle.std.proofs.Common.{◌≡◌, ℕ, zero, suc, ◌+◌, ◌-◌, ◌<◌, ◌≤◌, ◌==◌, Bool, true, false, List, [], ◌∷◌, length, map, min, Option, Some, None, Result, Ok, Err, refl, ap, sym, ◌∙◌, subst, inl, inr, eqb-true, eq-eqb, cond, arith, All, if◌then◌else◌}
 use Rattle.std.specs.Prelude.{is_some, slice_get, slice_set, count_by}
 use Rattle.std.proofs.lemmas.Bool.{cases_Bool, cases_lt}
 use Rattle.std.proofs.lemmas.List.{get_or_past, length-set}
 use Rattle.std.proofs.lemmas.List.Elements.{All-weaker, All-nil, All-cons, All-head, All-tail, All-append, All-set, All-replicate, All-map}
 use Rattle.interface.specs.Host.{Host, IsAddress, most_imps}
-use Rattle.interface.specs.declared.address.Flow.{Flow}
-use Rattle.interface.specs.declared.crossing.Answer.{Answer}
 use Rattle.interface.specs.declared.crossing.Answer.TheVariants as answer
-use Rattle.interface.specs.declared.crossing.Crossing.{Crossing}
 use Rattle.interface.specs.declared.crossing.Crossing.TheVariants as crossing
-use Rattle.interface.specs.declared.event.Direction.{Direction}
-use Rattle.interface.specs.declared.event.NetEvent.{NetEvent}
 use Rattle.interface.specs.declared.event.NetEvent.TheVariants as event
-use Rattle.interface.specs.declared.message.HostMessage.{HostMessage}
-use Rattle.link_table.specs.declared.source.Release.{Release}
 use Rattle.link_table.specs.declared.source.Release.TheVariants as release
 use Rattle.packetiser.specs.PacketFields.{PacketFields, IsPacketHost}
-use Rattle.packetiser.specs.declared.packet.PacketKind.{PacketKind}
 use Rattle.packetiser.specs.declared.packet.PacketKind.TheVariants as kind
 use Rattle.imp_channel.specs.Line.{End, answer_to, is_foreign, brought, has_expected_bit, frames_of, frames_from, resent, submitted, submitted_on, routes_frame, acknowledgement}
-use Rattle.imp_channel.specs.declared.channel.Channel.{Channel}
-use Rattle.imp_channel.specs.declared.fault.ChannelFault.{ChannelFault}
 use Rattle.imp_channel.specs.declared.fault.ChannelFault.TheVariants as refused
-use Rattle.imp_channel.specs.declared.frame.Content.{Content}
 use Rattle.imp_channel.specs.declared.frame.Content.TheVariants as content
-use Rattle.imp_channel.specs.declared.frame.Frame.{Frame}
-use Rattle.imp_channel.specs.declared.line.Received.{Received}
 use Rattle.imp_channel.specs.declared.line.Received.TheVariants as received
 use Rattle.routing.specs.RouteTable.{Table, heard_distance, least_heard, distance_to, next_of, vector_of}
 use Rattle.routing.specs.Vector.{infinite, IsVector}
 use Rattle.routing.proofs.lemmas.{distance-other, next-nowhere, vector-is}
-use Rattle.imp_node.specs.declared.outgoing.Outgoing.{Outgoing}
-use Rattle.imp_node.specs.declared.port.Port.{Port}
-use Rattle.imp_node.specs.declared.waiting.Message.{Message}
-use Rattle.imp_node.specs.declared.waiting.Told.{Told}
-use Rattle.imp_node.specs.State.{State, ImpTurn, number, host_at, with_host, port_at}
 use Rattle.imp_node.specs.Room.{has_route}
-use Rattle.imp_node.specs.Flows.{answered_by, fated}
 use Rattle.link_table.specs.declared.destination.Fate.TheVariants as fate
 use Rattle.imp_node.specs.Arrival as arrivals
 use Rattle.imp_node.specs.Arrival.{Arrival, Passing, Old, Undeliverable, Replying, Piece, NoSlot, Unmarked, Answering, arrival, arrived, arrival_has_room, frame_taken, acknowledged, vector_heard, ignored, taken_frame, from_line}
-use Rattle.imp_node.specs.Offering.{Way, Nowhere, Here, Away, way_of, offered, from_host}
 use Rattle.imp_node.specs.Pump.{Pumped, target, sent_on, packet_sent, pumped, pump}
-use Rattle.imp_node.specs.Lines.{on_port, resent_by, resent_from, resend, told_by, told_from, route, end_down, end_up}
-use Rattle.imp_node.specs.Asking.{asked_by, ask}
-use Rattle.imp_node.specs.Queries.{outstanding}
-use Rattle.imp_node.specs.Stopping.{give_up, forget, abandon, message_returned, all_returned, stopped, host_down, host_up}
-use Rattle.imp_node.specs.Taking.{is_from_here, reply_has_room, replied, taken_by, to_host}
-use Rattle.subnet.specs.Net.{Net, Wire, imp_at, wire_at, ends_at, port_of, put_all, with_turn, frames_on, far_end, dropping}
 use Rattle.subnet.specs.Events as events
-use Rattle.subnet.specs.Events.{at_imp, logging, offer_out, crossings_of, take_in, delivered, deliver, drop_frame, quiet_round, host_stopped, host_started, started_imp, hosts_at, site_at, imp_stopped, imp_started, downs_at, stepped}
-use Rattle.subnet.specs.Offers.{IsCarriable, CanGo, CanGoFrom}
-use Rattle.subnet.specs.Opening.{Ends, empty_wire, opened_imp, opened_from, opening_subnet}
 use Rattle.subnet.specs.Routed.{TellsVector, FrameTells, WireTells, HeardVector, ImpHeard, IsRouted, IsHostMessage}
-use Rattle.subnet.specs.Sound.{IsAt, IsSound}
 use Rattle.subnet.proofs.Calls.Rounds.{round_keeps}
 use Rattle.subnet.proofs.Packets.OnLines.{WireHolds, dropped_holds, put_all_holds, way_holds, wire_holds}
 use Rattle.subnet.proofs.Calls.Opens.{places_opened}

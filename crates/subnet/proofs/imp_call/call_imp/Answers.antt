@@ -1,11 +1,4 @@
-use Rattle.std.proofs.Common.{◌≡◌, Option, None, subst, Vec, Global}
-use Rattle.std.proofs.lemmas.List.{get_or_default}
-use Rattle.imp_node.specs.State.{State}
-use Rattle.imp_node.specs.declared.outgoing.Outgoing.{Outgoing}
-use Rattle.subnet.specs.Events.{at_up}
-use Rattle.subnet.specs.Calls.{grows_at}
-use Rattle.subnet.specs.Net.{imp_at}
-use Rattle.subnet.specs.Inside.Calling.{call_refusal, call_turn, call_grows, CallEnds, imp_by, frames_by}
+use Rattle.subnet.proofs.Common.{◌≡◌, Option, None, subst, Vec, Global, get_or_default, State, Outgoing, at_up, grows_at, imp_at, call_refusal, call_turn, call_grows, CallEnds, imp_by, frames_by}
 use Rattle.subnet.proofs.Calls.Living.{live_call}
 use Rattle.subnet.proofs.imp_call.call_imp.Goals as goal
 

@@ -1,6 +1,4 @@
-use Rattle.flow_law.proofs.lemmas.{sound_run}
-use Rattle.subnet.specs.Net.{port_of}
-use Rattle.subnet.specs.Flows.{Alive, view}
+use Rattle.subnet.proofs.Common.{sound_run, port_of, Alive, view}
 use Rattle.subnet.proofs.Moves.Asking.{ask_sound}
 use Rattle.subnet.proofs.Moves.GivingUp.{give_up_sound}
 use Rattle.subnet.proofs.Moves.QuietCalls.{drop_sound, resend_sound, route_sound, end_down_sound, end_up_sound, abandon_sound}

@@ -1,9 +1,6 @@
-use Rattle.std.proofs.Common.{refl}
-use Rattle.std.specs.FinMap.{get-empty}
-use Rattle.interface.specs.Flow.{flow_cmp}
+use Rattle.subnet.proofs.Common.{refl, get-empty, flow_cmp, ours}
 use Rattle.imp_channel.specs.Line.{submitted}
 use Rattle.routing.specs.RouteTable.{next_of, distance_to, vector_of}
-use Rattle.subnet.specs.Examples.{ours}
 use Rattle.subnet.proofs.Calls.Awaiting.{is_begun}
 use Rattle.subnet.proofs.law.worked_asking.Goals as goal
 

@@ -1,12 +1,7 @@
-use Rattle.std.proofs.Common.{◌≡◌, ℕ, Some, refl}
-use Rattle.std.specs.FinMap.{get, insert, empty}
-use Rattle.interface.specs.Flow.{flow_cmp}
+use Rattle.subnet.proofs.Common.{◌≡◌, ℕ, Some, refl, get, insert, empty, flow_cmp, Noted, Standing, ours}
 use Rattle.link_table.specs.declared.destination.Fate.TheVariants as fate
-use Rattle.link_table.specs.declared.destination.Noted.{Noted}
-use Rattle.link_table.specs.declared.source.Standing.{Standing}
 use Rattle.link_table.specs.declared.source.Standing.TheVariants as standing
 use Rattle.link_table.proofs.lemmas.{get_put}
-use Rattle.subnet.specs.Examples.{ours}
 use Rattle.imp_channel.specs.Line.{submitted}
 use Rattle.link_table.specs.Numbers.{is_new, oldest, modulus, next, window}
 use Rattle.routing.specs.RouteTable.{next_of, distance_to, vector_of}

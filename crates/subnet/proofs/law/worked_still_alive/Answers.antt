@@ -1,14 +1,10 @@
+use Rattle.subnet.proofs.Common.{get, insert, empty, get-empty, flow_cmp, same_flow, Flow, Noted, ours}
 use Rattle.std.proofs.Common.{◌≡◌, ℕ, Bool, true, false, [], ◌∷◌, Some, None, refl, ap, sym, ◌∙◌, if◌then◌else◌}
-use Rattle.std.specs.FinMap.{get, insert, empty, get-empty}
-use Rattle.interface.specs.Flow.{flow_cmp, same_flow}
-use Rattle.interface.specs.declared.address.Flow.{Flow}
 use Rattle.link_table.specs.Flows.{begun, outstanding_in, has_outstanding_to}
 use Rattle.link_table.specs.Keys.{has_from, drop_from}
 use Rattle.link_table.specs.declared.destination.Fate.TheVariants as fate
-use Rattle.link_table.specs.declared.destination.Noted.{Noted}
 use Rattle.link_table.specs.declared.source.Standing.TheVariants as standing
 use Rattle.link_table.proofs.lemmas.{asked, get_dropped, get_put}
-use Rattle.subnet.specs.Examples.{ours}
 use Rattle.subnet.proofs.Calls.Awaiting.{is_begun, some_outstanding, none_outstanding, nothing_begun, none_kept}
 use Rattle.imp_channel.specs.Line.{submitted}
 use Rattle.link_table.specs.Numbers.{is_new, oldest, modulus, next, window}

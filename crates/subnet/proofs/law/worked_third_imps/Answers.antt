@@ -1,16 +1,9 @@
+use Rattle.subnet.proofs.Common.{get, insert, empty, get-empty, flow_cmp, same_flow, same_host, Flow, has_from, Noted, Standing, asked, get_begun, outstanding_to_one}
 use Rattle.std.proofs.Common.{◌≡◌, Bool, true, false, [], ◌∷◌, Option, Some, None, IsSome, is_some, refl, ap, sym, ◌∙◌, ◌==◌, ◌&&◌, eqb, arith, inl, inr}
 use Rattle.std.proofs.lemmas.Bool.{cases_Bool, eqb-true, ne_eqb}
-use Rattle.std.specs.FinMap.{get, insert, empty, get-empty}
-use Rattle.interface.specs.Flow.{flow_cmp, same_flow}
-use Rattle.interface.specs.Host.{same_host}
-use Rattle.interface.specs.declared.address.Flow.{Flow}
 use Rattle.link_table.specs.Flows.{begun, number_in, outstanding_in, has_outstanding_to}
-use Rattle.link_table.specs.Keys.{has_from}
 use Rattle.link_table.specs.declared.destination.Fate.TheVariants as fate
-use Rattle.link_table.specs.declared.destination.Noted.{Noted}
-use Rattle.link_table.specs.declared.source.Standing.{Standing}
 use Rattle.link_table.specs.declared.source.Standing.TheVariants as standing
-use Rattle.link_table.proofs.lemmas.{asked, get_begun, outstanding_to_one}
 use Rattle.imp_node.specs.Examples.{host, flow}
 use Rattle.subnet.specs.Examples.{flow_1_3}
 use Rattle.subnet.proofs.Calls.Awaiting.{some_outstanding, nothing_begun, none_kept}

@@ -1,5 +1,5 @@
+use Rattle.subnet.proofs.Common.{lines_from}
 use Rattle.std.proofs.Common.{◌≡◌, ◌<◌, ℕ, [], length, get_or}
-use Rattle.subnet.specs.Inside.Joined.{lines_from}
 use Rattle.subnet.proofs.lines.all_port_lines.Given as goal
 
 -- the IMPs so far

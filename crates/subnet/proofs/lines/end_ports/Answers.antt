@@ -1,5 +1,4 @@
-use Rattle.std.proofs.Common.{rules}
-use Rattle.subnet.specs.Inside.Joined.{ports_from}
+use Rattle.subnet.proofs.Common.{rules, ports_from}
 use Rattle.subnet.proofs.Calls.Joining.{ports_pushed}
 use Rattle.subnet.proofs.lines.end_ports.Goals as goal
 

@@ -1,5 +1,4 @@
-use Rattle.std.proofs.Common.{◌≡◌, ◌++◌, drop}
-use Rattle.subnet.specs.Inside.Joined.{ports_from}
+use Rattle.subnet.proofs.Common.{◌≡◌, ◌++◌, drop, ports_from}
 use Rattle.subnet.proofs.lines.end_ports.Given as goal
 
 -- the ports so far, and those of the lines that are left

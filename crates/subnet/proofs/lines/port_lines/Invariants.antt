@@ -1,5 +1,4 @@
-use Rattle.std.proofs.Common.{◌≡◌, ◌++◌, drop}
-use Rattle.subnet.specs.Inside.Joined.{lines_from}
+use Rattle.subnet.proofs.Common.{◌≡◌, ◌++◌, drop, lines_from}
 use Rattle.subnet.proofs.lines.port_lines.Given as goal
 
 -- the lines so far, and those of the lines that are left

@@ -1,6 +1,5 @@
+use Rattle.subnet.proofs.Common.{ends_at, opened_from}
 use Rattle.std.proofs.Common.{◌≡◌, ◌++◌, ℕ, drop, count_by}
-use Rattle.subnet.specs.Net.{ends_at}
-use Rattle.subnet.specs.Opening.{opened_from}
 use Rattle.subnet.proofs.opening.opened_imps.Given as goal
 
 -- the IMPs so far, and those of the sites that are left

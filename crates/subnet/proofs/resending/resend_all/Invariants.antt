@@ -1,6 +1,4 @@
-use Rattle.std.proofs.Common.{◌≡◌, drop, length}
-use Rattle.imp_node.specs.Lines.{resent_from}
-use Rattle.subnet.specs.Net.{put_all}
+use Rattle.subnet.proofs.Common.{◌≡◌, drop, length, resent_from, put_all}
 use Rattle.subnet.proofs.resending.resend_all.Given as goal
 
 -- the frames of the ports that are left, after those so far

@@ -1,7 +1,6 @@
+use Rattle.subnet.proofs.Common.{on_port, put_all}
 use Rattle.std.proofs.Common.{◌≡◌, drop, length, map}
 use Rattle.imp_channel.specs.Line.{resent, frames_from}
-use Rattle.imp_node.specs.Lines.{on_port}
-use Rattle.subnet.specs.Net.{put_all}
 use Rattle.subnet.proofs.resending.resend_port.Given as goal
 
 -- the frames of the channels that are left, after those so far

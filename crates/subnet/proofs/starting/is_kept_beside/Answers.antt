@@ -1,7 +1,4 @@
-use Rattle.std.proofs.Common.{Option, None, sym, subst, ◌∙◌}
-use Rattle.std.proofs.lemmas.List.{get_or_default}
-use Rattle.imp_node.specs.State.{State}
-use Rattle.subnet.specs.Inside.Calling.{IsLive}
+use Rattle.subnet.proofs.Common.{Option, None, sym, subst, ◌∙◌, get_or_default, State, IsLive}
 use Rattle.subnet.proofs.starting.is_kept_beside.Goals as goal
 
 pub is_kept_at-requires : goal.is_kept_at-requires

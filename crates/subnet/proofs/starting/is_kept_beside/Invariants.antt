@@ -1,5 +1,4 @@
-use Rattle.std.proofs.Common.{◌≡◌, drop}
-use Rattle.std.specs.List.{list_any}
+use Rattle.subnet.proofs.Common.{◌≡◌, drop, list_any}
 use Rattle.subnet.proofs.Calls.Starts.{is_beside}
 use Rattle.subnet.proofs.starting.is_kept_beside.Given as goal
 

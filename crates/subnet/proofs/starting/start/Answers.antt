@@ -1,6 +1,4 @@
-use Rattle.std.proofs.Common.{ap, ◌∙◌}
-use Rattle.imp_node.specs.State.{State}
-use Rattle.imp_node.specs.Stopping.{host_down}
+use Rattle.subnet.proofs.Common.{ap, ◌∙◌, State, host_down}
 use Rattle.subnet.proofs.Calls.Starts.{opened, one_more_down}
 use Rattle.subnet.proofs.starting.start.Goals as goal
 

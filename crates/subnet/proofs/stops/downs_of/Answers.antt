@@ -1,7 +1,4 @@
-use Rattle.std.proofs.Common.{◌+◌, ◌++◌, List, drop, ap, ◌∙◌}
-use Rattle.std.proofs.lemmas.Result.{err_from_is_err_and}
-use Rattle.interface.specs.declared.crossing.Crossing.{Crossing}
-use Rattle.subnet.specs.Inside.Calling.{downs_in_order}
+use Rattle.subnet.proofs.Common.{◌+◌, ◌++◌, List, drop, ap, ◌∙◌, err_from_is_err_and, Crossing, downs_in_order}
 use Rattle.subnet.proofs.Calls.Stopping.{one_more, up_among}
 use Rattle.subnet.proofs.stops.downs_of.Goals as goal
 

@@ -1,5 +1,4 @@
-use Rattle.std.proofs.Common.{◌≡◌, ◌<◌, ◌≤◌, ◌++◌, drop, length}
-use Rattle.subnet.specs.Inside.Calling.{downs_in_order}
+use Rattle.subnet.proofs.Common.{◌≡◌, ◌<◌, ◌≤◌, ◌++◌, drop, length, downs_in_order}
 use Rattle.subnet.proofs.stops.downs_of.Given as goal
 
 -- the crossings so far, and those of the hosts that are left

@@ -1,5 +1,4 @@
-use Rattle.std.proofs.Common.{◌≡◌, ◌<◌, None, length, rules, true}
-use Rattle.imp_node.specs.State.{host_at}
+use Rattle.subnet.proofs.Common.{◌≡◌, ◌<◌, None, length, rules, true, host_at}
 use Rattle.imp_node.specs.Taking.{next_for}
 use Rattle.subnet.specs.Inside.Settled.{only_waits}
 use Rattle.subnet.proofs.Calls.Stuck.{stuck_takes}

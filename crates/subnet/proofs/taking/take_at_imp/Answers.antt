@@ -1,7 +1,4 @@
-use Rattle.std.proofs.Common.{◌≡◌}
-use Rattle.imp_node.specs.Taking.{to_host}
-use Rattle.subnet.specs.Events.{given_at}
-use Rattle.subnet.specs.Inside.Calling.{frames_by}
+use Rattle.subnet.proofs.Common.{◌≡◌, to_host, given_at, frames_by}
 use Rattle.subnet.proofs.Calls.Living.{live_taking_read}
 use Rattle.subnet.proofs.taking.take_at_imp.Goals as goal
 

@@ -1,7 +1,4 @@
-use Rattle.std.proofs.Common.{◌≡◌, drop, length}
-use Rattle.routing.specs.RouteTable.{vector_of}
-use Rattle.imp_node.specs.Lines.{told_from}
-use Rattle.subnet.specs.Net.{put_all}
+use Rattle.subnet.proofs.Common.{◌≡◌, drop, length, vector_of, told_from, put_all}
 use Rattle.subnet.proofs.telling.tell_all.Given as goal
 
 -- the frames of the ports that are left, after those so far

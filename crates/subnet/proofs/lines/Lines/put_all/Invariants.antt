@@ -1,5 +1,4 @@
-use Rattle.std.proofs.Common.{◌≡◌, ◌≤◌, length}
-use Rattle.subnet.specs.Net.{put_all}
+use Rattle.subnet.proofs.Common.{◌≡◌, ◌≤◌, length, put_all}
 use Rattle.subnet.proofs.lines.Lines.put_all.Given as goal
 
 -- the frames that are left, after those so far

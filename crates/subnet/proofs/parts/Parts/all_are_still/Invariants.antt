@@ -1,5 +1,4 @@
-use Rattle.std.proofs.Common.{ℕ, ◌<◌}
-use Rattle.interface.specs.declared.event.Direction.{Direction}
+use Rattle.subnet.proofs.Common.{ℕ, ◌<◌, Direction}
 use Rattle.subnet.specs.Inside.Settled.{IsStillOn}
 use Rattle.subnet.proofs.parts.Parts.all_are_still.Given as goal
 

@@ -1,5 +1,4 @@
-use Rattle.std.proofs.Common.{ℕ, ap, sym, ◌∙◌}
-use Rattle.subnet.specs.Net.{port_of}
+use Rattle.subnet.proofs.Common.{ℕ, ap, sym, ◌∙◌, port_of}
 use Rattle.subnet.proofs.Calls.Delivering.{brought_ok, bring_grows_on}
 use Rattle.subnet.proofs.parts.Parts.bring.Goals as goal
 

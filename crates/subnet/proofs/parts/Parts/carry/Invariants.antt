@@ -1,7 +1,5 @@
-use Rattle.std.proofs.Common.{◌≡◌, ◌-◌, true}
-use Rattle.subnet.specs.Calls.{round_grows}
+use Rattle.subnet.proofs.Common.{◌≡◌, ◌-◌, true, round_grows, AreLive, SameLog}
 use Rattle.subnet.specs.Events.{carried}
-use Rattle.subnet.specs.Inside.Calling.{AreLive, SameLog}
 use Rattle.subnet.proofs.parts.Parts.carry.Given as goal
 
 -- the frames that are left, after those so far

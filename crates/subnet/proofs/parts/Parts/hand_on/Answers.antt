@@ -1,5 +1,4 @@
-use Rattle.std.proofs.Common.{ℕ, ap, sym, ◌∙◌}
-use Rattle.subnet.specs.Net.{port_of}
+use Rattle.subnet.proofs.Common.{ℕ, ap, sym, ◌∙◌, port_of}
 use Rattle.subnet.proofs.Calls.Taken.{handed_ok, handed_grows}
 use Rattle.subnet.proofs.parts.Parts.hand_on.Goals as goal
 

@@ -1,5 +1,4 @@
-use Rattle.std.proofs.Common.{sym, ◌∙◌}
-use Rattle.std.proofs.lemmas.Result.{err_from_is_err_and}
+use Rattle.subnet.proofs.Common.{sym, ◌∙◌, err_from_is_err_and}
 use Rattle.subnet.proofs.Moves.Stepping.{host_down_failed}
 use Rattle.subnet.proofs.parts.Parts.host_down.Goals as goal
 

@@ -1,5 +1,4 @@
-use Rattle.std.proofs.Common.{sym, ◌∙◌}
-use Rattle.std.proofs.lemmas.Result.{err_from_is_err_and}
+use Rattle.subnet.proofs.Common.{sym, ◌∙◌, err_from_is_err_and}
 use Rattle.subnet.proofs.Moves.Stepping.{offer_failed}
 use Rattle.subnet.proofs.parts.Parts.offer_out.Goals as goal
 

@@ -1,8 +1,5 @@
-use Rattle.std.proofs.Common.{◌≡◌, ◌-◌, true}
-use Rattle.std.specs.List.{range_with_len}
-use Rattle.subnet.specs.Calls.{round_grows}
+use Rattle.subnet.proofs.Common.{◌≡◌, ◌-◌, true, range_with_len, round_grows, AreLive, SameLog}
 use Rattle.subnet.specs.Events.{all_refreshed}
-use Rattle.subnet.specs.Inside.Calling.{AreLive, SameLog}
 use Rattle.subnet.proofs.parts.Parts.refresh_all.Given as goal
 
 -- the IMPs that are left, after those so far

@@ -1,7 +1,6 @@
-use Rattle.std.proofs.Common.{◌≡◌, true, false, subst, rules}
+use Rattle.subnet.proofs.Common.{◌≡◌, true, false, subst, rules, SubnetRound, SubnetTake}
 use Rattle.interface.specs.Rest.{Rests}
 use Rattle.subnet.specs.Calls.{Kept}
-use Rattle.subnet.specs.Working.{SubnetRound, SubnetTake}
 use Rattle.subnet.proofs.Calls.Restful.{subnet_rests}
 use Rattle.subnet.proofs.subnet.Subnet.is_at_rest.Goals as goal
 
