@@ -1,12 +1,17 @@
 -- Why octets are no input.
-use Rattle.command_line.proofs.Common.{false≢true, TopologyFields, Describes, IsInputFault, IsInput, ScriptFault, IsParted, IsBlank}
-use Rattle.std.proofs.Common.{◌≡◌, Bool, true, false, List, ℕ, Result, Ok, Err, IfErr, ap, inl, inr, refl, subst, sym, ◌∙◌, IsUtf8, ◌↔◌, ◌≤◌, length}
-use Rattle.command_line.specs.Steps.{IsReplayFault, IsNetworkFault, IsEventsFault}
+use Rattle.command_line.proofs.Common.{◌≡◌, Bool, true, false, List, ℕ, Result, Ok, Err, IfErr, ap, inl, inr, refl, subst}
+use Rattle.command_line.proofs.Common.{sym, ◌∙◌, false≢true, TopologyFields, Describes, IsInputFault, IsReplayFault}
+use Rattle.command_line.proofs.Common.{ScriptFault, IsUtf8, IsParted, IsNetworkFault}
+use Rattle.std.proofs.Common.{◌↔◌, ◌≤◌, length}
+use Rattle.toml.specs.Errors.{IsBlank}
 use Rattle.replay.specs.Failing.{TellsCannotWrite}
 use Rattle.replay.specs.declared.events.ReplayFault.{ReplayFault}
 use Rattle.replay.specs.declared.events.ReplayFault.TheVariants as replay
-use Rattle.command_line.specs.Events.{Asked, IsFirstBadIn}
+use Rattle.command_line.proofs.Common.{IsInput}
+use Rattle.command_line.specs.Events.{Asked}
 use Rattle.command_line.specs.Faults.{told_as}
+use Rattle.command_line.specs.Events.{IsFirstBadIn}
+use Rattle.command_line.specs.Steps.{IsEventsFault}
 use Rattle.command_line.specs.declared.fault.ScriptFault.TheVariants as fault
 
 pub network_fault : (octets document script : List ℕ) (f : ScriptFault) → IsParted octets document script → IsNetworkFault f → (f ≡ fault.BadTopology → IsUtf8 document → (t : TopologyFields) → ¬ (Describes document t))

@@ -1,19 +1,31 @@
 -- What `--log` writes of a network without strangers, `--audit` reads and calls kept.
-use Rattle.command_line.proofs.Common.{reverse-reverse, Host, is_host, IsRun, SafeMessages, Crossing, Says, AreFated, ClosesWhole, IsBeside, Fate, Life, Calls, TopologyFields, CarrierKind, IsSomeRun, Verdict, plain_calls, subnet_calls, plain_of, subnet_of, AuditFault, AreMade, beside_among, lives_among, SafeBook, EachWasSent, made_twice, made_with}
-use Rattle.std.proofs.Common.{◌≡◌, ℕ, Bool, true, List, [], ◌∷◌, Option, Some, Err, inl, inr, map, refl, sym, subst, ap, ◌∙◌, reverse}
-use Rattle.book_log.specs.Log.{fates_of, lives_of, Book, logged_fate}
-use Rattle.book_log.proofs.lemmas.{lives_back, alone, book_once, fates_back, strangers_once}
-use Rattle.book_judge.specs.Fates.{AreSuited, Outlasts, IsSuited, suits}
-use Rattle.command_line.specs.Audits.{AuditsLog, IsAuditFault, Judged, SaysOf, kept, IsKeptLog, SaysKept}
-use Rattle.command_line.specs.Events.{Raw, World, Asked}
-use Rattle.command_line.specs.Logs.{LogsFrom, LogsOver, raw_book, world_book, Logged}
+use Rattle.command_line.proofs.Common.{◌≡◌, ℕ, Bool, true, List, [], ◌∷◌, Option, Some, Err, inl, inr, map, refl, sym}
+use Rattle.command_line.proofs.Common.{subst, reverse-reverse, fates_of, lives_of, lives_back, Host, IsRun}
+use Rattle.command_line.proofs.Common.{SafeMessages, Crossing, Says, AreFated, ClosesWhole, Fate, Life, Calls}
+use Rattle.command_line.proofs.Common.{TopologyFields, CarrierKind, AreSuited, IsSomeRun, AuditsLog, IsAuditFault}
+use Rattle.command_line.proofs.Common.{Judged, SaysOf, kept, Verdict, plain_calls, subnet_calls, plain_of, subnet_of}
+use Rattle.command_line.proofs.Common.{Raw, World, LogsFrom, LogsOver, raw_book, world_book, AuditFault, ap, ◌∙◌}
+use Rattle.std.proofs.Common.{reverse}
+use Rattle.book_log.specs.Log.{Book, logged_fate}
+use Rattle.book_log.proofs.lemmas.{alone, book_once, fates_back, strangers_once}
+use Rattle.book_judge.specs.Lives.{AreMade}
+use Rattle.interface.specs.Host.{is_host}
+use Rattle.mixed_worlds.specs.Book.{beside_among, lives_among}
+use Rattle.promise.specs.Safe.{SafeBook}
+use Rattle.world_keeps_streams.specs.Sent.{EachWasSent}
 use Rattle.headline.proofs.lemmas.{kept_promise}
 use Rattle.net_sim.specs.declared.auditing.said.Audit.{Audit}
 use Rattle.net_sim.specs.declared.auditing.said.Audit.TheVariants as audit
 use Rattle.net_sim.specs.Book.{Kept}
 use Rattle.promise.specs.Ends.{Asking, Closed, Dropped, Going, Over, Stage, Stopped, stage}
+use Rattle.promise.specs.Fates.{IsBeside}
 use Rattle.promise.specs.declared.life.Fate.TheVariants as fate
 use Rattle.topology.specs.declared.network.CarrierKind.TheVariants as kind
+use Rattle.book_judge.specs.Fates.{Outlasts, IsSuited, suits}
+use Rattle.book_judge.proofs.lemmas.{made_twice, made_with}
+use Rattle.command_line.specs.Audits.{IsKeptLog, SaysKept}
+use Rattle.command_line.specs.Events.{Asked}
+use Rattle.command_line.specs.Logs.{Logged}
 use Rattle.command_line.specs.declared.auditing.AuditFault.TheVariants as fault
 use Rattle.command_line.proofs.Verdicts.Among.{all_beside, all_lives, none_toward}
 use Rattle.command_line.proofs.Verdicts.Named.{kept_from_safe, only_kept}

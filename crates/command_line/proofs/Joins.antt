@@ -1,17 +1,20 @@
 -- An input has one log, and its outputs are of one replay.
-use Rattle.command_line.proofs.Common.{reverse-reverse, Crossing, shown, WorldState, opening_world, Life, Calls, AreSettled, Detail, TopologyFields, CarrierKind, plain_calls, subnet_calls, plain_of, subnet_of, subnet_settled, plain_settled}
-use Rattle.std.proofs.Common.{◌≡◌, Bool, List, [], ◌++◌, Some, codes, sym, ap, ap₂, subst, ◌∙◌, ℕ, reverse}
-use Rattle.book_log.specs.Log.{lives_of, log_text}
-use Rattle.book_log.proofs.lemmas.{lives_back, alone}
-use Rattle.replay.specs.Output.{crossings_of, output, Shown}
-use Rattle.replay.proofs.lemmas.{OneReplay, replays_once}
-use Rattle.command_line.specs.Events.{Raw, World, Asked}
-use Rattle.command_line.specs.Logs.{LogsFrom, LogsOn, LogsOver, raw_book, world_book, LogsInput}
-use Rattle.command_line.specs.Replayed.{ReplaysFrom, ReplaysInput, ReplaysOn, ReplaysOver, book_text}
+use Rattle.command_line.proofs.Common.{◌≡◌, Bool, List, [], ◌++◌, Some, codes, sym, ap, ap₂, subst, ◌∙◌, ℕ}
+use Rattle.command_line.proofs.Common.{reverse-reverse, lives_of, log_text, lives_back, Crossing, shown, WorldState}
+use Rattle.command_line.proofs.Common.{opening_world, Life, crossings_of, output, Calls, AreSettled, Detail, OneReplay}
+use Rattle.command_line.proofs.Common.{replays_once, TopologyFields, CarrierKind, plain_calls, subnet_calls, plain_of}
+use Rattle.command_line.proofs.Common.{subnet_of, Raw, World, LogsFrom, LogsOn, LogsOver, raw_book}
+use Rattle.command_line.proofs.Common.{world_book, ReplaysFrom, ReplaysInput, ReplaysOn, ReplaysOver, book_text}
+use Rattle.command_line.proofs.Common.{subnet_settled, plain_settled}
+use Rattle.std.proofs.Common.{reverse}
+use Rattle.book_log.proofs.lemmas.{alone}
+use Rattle.replay.specs.Output.{Shown}
 use Rattle.topology.specs.declared.network.CarrierKind.TheVariants as kind
 use Rattle.world_replay.specs.Output as lines
 use Rattle.world_replay.proofs.lemmas.Replays as worlds
+use Rattle.command_line.specs.Events.{Asked}
 use Rattle.command_line.specs.Joins.{PrintTheSame, TellTheSame}
+use Rattle.command_line.specs.Logs.{LogsInput}
 use Rattle.command_line.proofs.Once.{raw_once, world_once}
 use Rattle.command_line.proofs.OneInput.{OneInput, input_once}
 use Rattle.command_line.proofs.Printed.{as_world, no_lives, same_crossings, same_output}

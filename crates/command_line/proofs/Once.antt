@@ -1,15 +1,19 @@
 -- An input leaves a replay no choice.
-use Rattle.command_line.proofs.Common.{append_assoc, shown, WorldState, opening_world, Life, Calls, AreSettled, Detail, TopologyFields, CarrierKind, WorldEvent, plain_calls, subnet_calls, plain_of, subnet_of, RawEvent, subnet_settled, plain_settled}
-use Rattle.std.proofs.Common.{◌≡◌, Bool, List, ◌++◌, Some, codes, sym, ap, subst, ◌∙◌, ℕ}
-use Rattle.replay.specs.Output.{output, Shown}
-use Rattle.command_line.specs.Events.{Raw, World, Asked}
-use Rattle.command_line.specs.Replayed.{ReplaysFrom, ReplaysInput, ReplaysOn, ReplaysOver, ShowsFrom, StopsFrom, WorldShowsFrom, WorldStopsFrom, book_text, StopsInput, EndsFrom, EndsOn, EndsOver}
-use Rattle.replay.proofs.lemmas.{OneReplay, replays_once, StartsWith, output-append}
+use Rattle.command_line.proofs.Common.{◌≡◌, Bool, List, ◌++◌, Some, codes, sym, ap, subst, ◌∙◌, ℕ, append_assoc, shown}
+use Rattle.command_line.proofs.Common.{WorldState, opening_world, Life, output, Calls, AreSettled, Detail}
+use Rattle.command_line.proofs.Common.{TopologyFields, CarrierKind, WorldEvent, plain_calls, subnet_calls, plain_of}
+use Rattle.command_line.proofs.Common.{subnet_of, Raw, World, ReplaysFrom, ReplaysInput, ReplaysOn, ReplaysOver}
+use Rattle.command_line.proofs.Common.{ShowsFrom, StopsFrom, WorldShowsFrom, WorldStopsFrom, book_text, RawEvent}
+use Rattle.command_line.proofs.Common.{OneReplay, replays_once, subnet_settled, plain_settled}
+use Rattle.command_line.specs.Replayed.{StopsInput, EndsFrom, EndsOn, EndsOver}
+use Rattle.replay.specs.Output.{Shown}
 use Rattle.topology.specs.declared.network.CarrierKind.TheVariants as kind
 use Rattle.world_replay.specs.Output as lines
 use Rattle.world_replay.proofs.lemmas.News as lines_of
 use Rattle.world_replay.proofs.lemmas.Replays as worlds
+use Rattle.command_line.specs.Events.{Asked}
 use Rattle.command_line.proofs.OneInput.{OneInput, input_once}
+use Rattle.replay.proofs.lemmas.{StartsWith, output-append}
 use Rattle.replay.proofs.lemmas.Settled as replay
 
 -- ---- a whole replay

@@ -1,9 +1,10 @@
 -- Octets are one input.
-use Rattle.command_line.proofs.Common.{TopologyFields, Describes, IsInput, world_asked_once}
-use Rattle.std.proofs.Common.{◌≡◌, ℕ, Bool, true, false, List, Some, ap, sym, ◌∙◌, subst}
-use Rattle.script.proofs.lemmas.{parted_once, SameInput, asked_once}
-use Rattle.command_line.specs.Events.{Raw, World, AsksFor, Asked}
+use Rattle.command_line.proofs.Common.{◌≡◌, ℕ, Bool, true, false, List, Some, ap, sym, ◌∙◌, subst, parted_once, TopologyFields, Describes, Raw, World, IsInput}
+use Rattle.command_line.specs.Events.{AsksFor}
 use Rattle.script.specs.Script.{lines_of}
+use Rattle.script.proofs.lemmas.{SameInput, asked_once}
+use Rattle.world_script.proofs.lemmas.{world_asked_once}
+use Rattle.command_line.specs.Events.{Asked}
 
 network_once : (document : List ℕ) (network other : TopologyFields) → Describes document network → Describes document other → network ≡ other
 network_once document network other h k =

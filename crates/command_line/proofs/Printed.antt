@@ -1,22 +1,29 @@
 -- What a replay prints is a formed and safe book.
-use Rattle.command_line.proofs.Common.{length-append, Appends, Contains, WorldKeeps, plain_calls, Boxes, Host, IsRun, SafeMessages, Crossing, Told, WorldState, Life, Reported, Detail, TopologyFields, CarrierKind, WorldEvent, subnet_calls, plain_of, subnet_of, AreOneBook, PrintsBook, PrintsPart, log_of, shown_book, plain_settled, FormedBook}
-use Rattle.std.proofs.Common.{arith, ◌≡◌, ◌+◌, ℕ, Bool, true, false, List, [], ◌∷◌, ◌++◌, Option, codes, refl, ap, sym, subst, ◌∙◌, reverse, length}
-use Rattle.interface.specs.Calls.{Calls, Seen}
-use Rattle.promise.specs.Safe.{AreTwo, Match, SafeBook}
-use Rattle.replay.specs.Output.{crossings_of, output, Shown}
+use Rattle.command_line.proofs.Common.{arith, ◌≡◌, ◌+◌, ℕ, Bool, true, false, List, [], ◌∷◌, ◌++◌, Option, codes, refl}
+use Rattle.command_line.proofs.Common.{ap, sym, subst, ◌∙◌, length-append, Appends, Contains, WorldKeeps, plain_calls}
+use Rattle.command_line.proofs.Common.{Calls, Host, IsRun, SafeMessages, Crossing, Told, AreTwo, WorldState, Life}
+use Rattle.command_line.proofs.Common.{Reported, crossings_of, output, Detail, TopologyFields, CarrierKind}
 use Rattle.script.specs.Input.{ended_line}
-use Rattle.command_line.specs.Events.{Raw, World, Asked, is_raw}
-use Rattle.command_line.specs.Lived.{AreLived, lives_in}
-use Rattle.command_line.specs.Replayed.{ReplaysFrom, ReplaysOver, ShowsBook, WorldShowsFrom, book_text, Ran, RanInPart, EndsFrom, EndsOver}
+use Rattle.command_line.proofs.Common.{WorldEvent, subnet_calls, plain_of, subnet_of, Raw, World, AreLived, lives_in}
+use Rattle.command_line.proofs.Common.{AreOneBook, PrintsBook, PrintsPart, ReplaysFrom, ReplaysOver, ShowsBook}
+use Rattle.command_line.proofs.Common.{WorldShowsFrom, book_text, Boxes, plain_settled}
+use Rattle.command_line.specs.Replayed.{Ran, RanInPart, EndsFrom, EndsOver}
+use Rattle.std.proofs.Common.{reverse, length}
+use Rattle.promise.specs.Formed.{FormedBook}
+use Rattle.interface.specs.Calls.{Seen}
 use Rattle.promise.specs.Book.{Book}
 use Rattle.promise.specs.Notices.{FormedNotices}
+use Rattle.promise.specs.Safe.{Match, SafeBook}
 use Rattle.net_sim.specs.declared.event.WorldFault.TheVariants.{Carrier}
 use Rattle.icp.specs.declared.outcome.Outcome.TheVariants as outcome
 use Rattle.host_services.specs.declared.report.Report.TheVariants as report
+use Rattle.replay.specs.Output.{Shown}
 use Rattle.replay.specs.Output as raw
 use Rattle.topology.specs.declared.network.CarrierKind.TheVariants as kind
 use Rattle.promise.specs.Connections.{HasReported, IsEnd, JoinedBook}
 use Rattle.world_replay.specs.Output as lines
+use Rattle.command_line.specs.Events.{Asked, is_raw}
+use Rattle.command_line.specs.Printed.{log_of, shown_book}
 use Rattle.command_line.proofs.Lived.{lived, none_lived}
 use Rattle.command_line.proofs.Once.{world_once}
 

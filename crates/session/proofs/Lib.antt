@@ -1,4 +1,3 @@
-pub mod Common
 mod Heads
 mod Laws
 mod Lines

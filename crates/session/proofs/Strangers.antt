@@ -1,21 +1,30 @@
 -- What is printed of scripts on each kind of network.
-use Rattle.session.proofs.Common.{Host, WorldKeeps, shown, Texts, Kept, TopologyFields, CarrierKind, HappensBy, mixed_kind, world_kind, KeepsAll, KeepsRun, ReplaysWith}
 use Rattle.std.proofs.Common.{◌≡◌, ◌++◌, ℕ, Bool, true, List, [], None, Option, Some, codes, false, refl, subst, sym}
 use Rattle.interface.proofs.lemmas.{safe_messages}
 use Rattle.interface.specs.Calls.{Calls}
+use Rattle.interface.specs.Host.{Host}
+use Rattle.headline.specs.Promise.{WorldKeeps}
 use Rattle.leader1822.specs.Boxes.{Boxes, plain_calls}
+use Rattle.net_sim.specs.Carriers.{shown}
 use Rattle.net_sim.specs.MixedWorlds.{opening_mixed}
 use Rattle.net_sim.specs.World.{WorldState, opening_world}
 use Rattle.replay.specs.Output as raw_lines
 use Rattle.replay.specs.Replay as raw
+use Rattle.replay.specs.declared.print.Detail.TheVariants.{Texts}
 use Rattle.script.specs.Spelling.{IsEvent, spelling}
+use Rattle.subnet.specs.Calls.{Kept}
 use Rattle.subnet.specs.Working.{subnet_calls}
+use Rattle.topology.specs.Topology.{TopologyFields}
+use Rattle.topology.specs.declared.network.CarrierKind.{CarrierKind}
 use Rattle.topology.specs.declared.network.CarrierKind.TheVariants as kind
+use Rattle.world_replay.specs.Kinds.{HappensBy, mixed_kind}
 use Rattle.world_replay.specs.Output as lines
+use Rattle.world_replay.specs.Replay.{world_kind}
 use Rattle.world_script.specs.WorldSpelling.{IsWorldEvent, world_spelling}
 use Rattle.command_line.proofs.lemmas.{mixed_writes_all, world_writes_all, writes_all}
 use Rattle.command_line.specs.Carriers.{plain_of, subnet_of}
 use Rattle.command_line.specs.Events.{Raw, World}
+use Rattle.session.specs.Networks.{KeepsAll, KeepsRun, ReplaysWith}
 use Rattle.session.specs.Session.{PrintsOn, PrintsOver, on, over}
 use Rattle.session.specs.Turns.{Leads, Prints}
 use Rattle.session.proofs.Sessions.{Translates}

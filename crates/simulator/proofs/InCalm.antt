@@ -1,12 +1,10 @@
 -- Rounds of a calm, whatever their events show: they go one way where each event does, and what is shown of a round that ends early is the first part of
 -- what is shown of a whole one.
-use Rattle.simulator.proofs.Common.{Calls, WorldState, Event, AreSettled, ends_front, in_turn_once}
-use Rattle.std.proofs.Common.{◌≡◌, List, ◌++◌, ap, sym, ◌∙◌}
-use Rattle.replay.specs.InTurn.{HappensOnce, ShowsFront, Happening}
-use Rattle.world_replay.specs.Replay.{Happens, HappensInCalm}
-use Rattle.world_replay.specs.Rounds.{EndsRound, Again, EndsAgain, RoundOf, turns_in}
-use Rattle.world_replay.proofs.lemmas.Replays.{SameGains, gains_once, happens_once, same_news}
-use Rattle.world_replay.specs.Output.{Shown, shown_refusal}
+use Rattle.simulator.proofs.Common.{◌≡◌, List, ◌++◌, ap, sym, ◌∙◌, Calls, WorldState, Event, HappensOnce, ShowsFront, AreSettled, ends_front, in_turn_once, Happens, HappensInCalm, EndsRound, SameGains, gains_once, happens_once, Shown}
+use Rattle.replay.specs.InTurn.{Happening}
+use Rattle.world_replay.specs.Output.{shown_refusal}
+use Rattle.world_replay.specs.Rounds.{Again, EndsAgain, RoundOf, turns_in}
+use Rattle.world_replay.proofs.lemmas.Replays.{same_news}
 use Rattle.world_replay.proofs.lemmas.{again_front, again_once}
 use Rattle.world_script.specs.declared.event.WorldEvent.TheVariants as worlds
 

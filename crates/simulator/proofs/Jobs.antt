@@ -1,8 +1,6 @@
 -- How a replay that words ask for ends: where memory runs out before anything is replayed, and by what `run_script` ensures.
-use Rattle.simulator.proofs.Common.{Appends, Keeps, ScriptFault, Options, detail_of}
-use Rattle.std.proofs.Common.{◌≡◌, ◌⊎◌, inl, inr, ℕ, Bool, true, false, List, Option, Some, None, Result, Ok, Err, IfSome, MatchResult, OnOk, codes, refl, sym, subst}
-use Rattle.simulator.specs.Program.{EndsTask, Sides, EndsReplay, HandsOn, Replayed}
-use Rattle.command_line.specs.Either.{IsEitherFault, IsEitherInput, RanEither, ReplaysEither, StopsEither}
+use Rattle.simulator.proofs.Common.{◌≡◌, ◌⊎◌, inl, inr, ℕ, Bool, true, false, List, Option, Some, None, Result, Ok, Err, IfSome, MatchResult, OnOk, codes, refl, sym, subst, Appends, Keeps, EndsTask, Sides, ScriptFault, Options, detail_of, IsEitherFault, IsEitherInput, RanEither, ReplaysEither, StopsEither, EndsReplay}
+use Rattle.simulator.specs.Program.{HandsOn, Replayed}
 use Rattle.command_line.specs.Reading.{ReadsFirst}
 use Rattle.command_line.proofs.lemmas.{reads_none}
 use Rattle.command_line.specs.declared.fault.ScriptFault.TheVariants as script

@@ -1,11 +1,14 @@
 -- What is written is that of the input which was read.
-use Rattle.simulator.proofs.Common.{detail_of, Options, Verdict, IsParted}
-use Rattle.std.proofs.Common.{◌≡◌, inl, inr, ℕ, Bool, true, false, List, [], ◌∷◌, ◌++◌, Option, Some, Ok, Err, codes, refl, subst, sym, ◌∙◌, ◌⊎◌}
-use Rattle.simulator.specs.Program.{EndsReplay, EndsAudit, EndsTrace, Replayed, sides}
+use Rattle.simulator.proofs.Common.{◌≡◌, inl, inr, ℕ, Bool, true, false, List, [], ◌∷◌, ◌++◌, Option, Some, Ok, Err, codes}
+use Rattle.simulator.proofs.Common.{refl, subst, sym, ◌∙◌, ◌⊎◌, EndsReplay, detail_of}
 use Rattle.command_line.proofs.lemmas.{said_kept}
 use Rattle.command_line.specs.Audits.{IsKeptLog, kept, verdict_text}
 use Rattle.command_line.specs.Laws.{FirstPart, OneOutput}
 use Rattle.command_line.specs.declared.fault.ScriptFault.TheVariants as script
+use Rattle.command_line.specs.declared.options.Options.{Options}
+use Rattle.command_line.specs.declared.verdict.Verdict.{Verdict}
+use Rattle.script.specs.Input.{IsParted}
+use Rattle.simulator.specs.Program.{EndsAudit, EndsTrace, Replayed, sides}
 use Rattle.simulator.proofs.Traces.EitherTrace.{either_front}
 
 pub same_replay : OneOutput → (check : Bool) (options : Options) (input before after other : List ℕ)

@@ -1,43 +1,45 @@
 -- What a replay prints is what its trace has as printed.
-use Rattle.simulator.proofs.Common.{Calls, Crossing, plain_calls, shown, WorldState, opening_world, AreSettled, Sizes, ended_line, RawEvent, subnet_calls, subnet_inside, CarrierKind, object, opening_line, Spot, happens_once, shown_settled, WorldEvent, opening_text, world_line, Raw, World, AsksFor, Asked, members_of, AllParts}
-use Rattle.std.proofs.Common.{◌≡◌, inl, inr, ℕ, ◌+◌, Bool, true, false, List, [], ◌∷◌, ◌++◌, Some, codes, map, arith, refl, sym, ap, ap₂, subst, ◌∙◌, suc, length, zip, ◌≤◌, zero}
-use Rattle.replay.proofs.lemmas.{in_turn_once, OneReplay, replays_once}
-use Rattle.replay.specs.InTurn.{text_of, InTurn}
-use Rattle.topology.specs.Topology.{TopologyFields, IsTopology, site_of, sites_of}
-use Rattle.trace.specs.Traces.{Inside, TellsEvent, numbered_from, plain_inside, SaysAll, TellsElement, change_text}
-use Rattle.world_replay.specs.Replay.{Happens, HappensInCalm, Replays, rounds_of}
-use Rattle.world_trace.specs.Traces.{TellsIn, TellsInCalm, TellsOne, TellsRound, change_of, first_rounds, state_of}
-use Rattle.command_line.specs.Carriers.{plain_of, subnet_of, ends_of}
-use Rattle.command_line.specs.Replayed.{ReplaysOver, book_text, ReplaysFrom, ReplaysInput, ReplaysOn}
-use Rattle.simulator.specs.Traced.{TracesAll, TracesFrom, TracesInput, TracesOver, WorldTracesFrom, asked_count}
-use Rattle.std.proofs.lemmas.List.{length-map, length-append, map-append, append-nil}
-use Rattle.interface.specs.Host.{Host, most_imps}
-use Rattle.script.specs.Spelling.{IsEvent}
-use Rattle.subnet_trace.proofs.lemmas.{subnet_settled, Holds, event_holds, opening_holds, says}
-use Rattle.trace.proofs.lemmas.{plain_settled, told}
-use Rattle.std.specs.List.{flat_map, All, range_with_len}
-use Rattle.world_replay.specs.Output.{Shown, shown_text}
-use Rattle.simulator.specs.Recorded.{OfElement, OfWorld, PrintsTrace, Recorded, printed_lines, recorded_text, told_from, told_lines, told_over}
-use Rattle.command_line.proofs.lemmas.{OneInput, input_once, no_lives, same_hosts}
+use Rattle.simulator.proofs.Common.{◌≡◌, inl, inr, ℕ, ◌+◌, Bool, true, false, List, [], ◌∷◌, ◌++◌, Some, codes, map, arith, refl, sym, ap, ap₂, subst, ◌∙◌, Calls, Crossing, plain_calls, shown, WorldState, opening_world, in_turn_once, text_of, AreSettled, Sizes, ended_line, RawEvent, subnet_calls, subnet_inside, TopologyFields, CarrierKind, object, opening_line, Inside, TellsEvent, numbered_from, plain_inside, Spot, happens_once, shown_settled, Happens, HappensInCalm, WorldEvent, opening_text, world_line, TellsIn, TellsInCalm, TellsOne, TellsRound, change_of, first_rounds, state_of, plain_of, subnet_of, Raw, World, ReplaysOver, book_text, TracesAll, TracesFrom, TracesInput, TracesOver, WorldTracesFrom, asked_count, length-map, Host, IsEvent, members_of, AllParts, AsksFor, subnet_settled, plain_settled, suc, length, flat_map, Shown, Asked, OfElement, OfWorld, PrintsTrace, Recorded, printed_lines, recorded_text, OneInput, input_once}
+use Rattle.std.proofs.Common.{zip}
+use Rattle.std.proofs.lemmas.List.{length-append, map-append}
 use Rattle.promise.specs.declared.life.Life.{Life}
+use Rattle.replay.proofs.lemmas.{OneReplay}
+use Rattle.replay.proofs.lemmas.{replays_once}
+use Rattle.command_line.specs.Carriers.{ends_of}
+use Rattle.command_line.specs.Replayed.{ReplaysFrom, ReplaysInput, ReplaysOn}
+use Rattle.std.proofs.Common.{◌≤◌}
 use Rattle.std.proofs.lemmas.List.Elements.{All-head, All-tail}
+use Rattle.std.specs.List.{All, range_with_len}
+use Rattle.std.proofs.Common.{zero}
 use Rattle.std.proofs.lemmas.Grind.{flat_map-append}
+use Rattle.std.proofs.lemmas.List.{append-nil}
 use Rattle.std.proofs.lemmas.List.Folds.{flat_map-map}
+use Rattle.replay.specs.InTurn.{InTurn}
 use Rattle.replay.specs.Output as raw
 use Rattle.replay.specs.Replay as of_network
+use Rattle.interface.specs.Host.{most_imps}
 use Rattle.std.proofs.lemmas.List.FromFn.{length-range_with_len}
 use Rattle.subnet.specs.Calls.{running}
 use Rattle.subnet.specs.Net.{Net}
 use Rattle.subnet.specs.Opening.{opening_subnet}
+use Rattle.subnet_trace.proofs.lemmas.{Holds, event_holds, opening_holds, says}
 use Rattle.topology.proofs.lemmas.{described_keeps, hosts_listed}
+use Rattle.topology.specs.Topology.{IsTopology, site_of, sites_of}
 use Rattle.topology.specs.declared.network.CarrierKind.TheVariants as kind
+use Rattle.trace.proofs.lemmas.{told}
 use Rattle.trace.specs.Elements.{events_of}
+use Rattle.trace.specs.Traces.{SaysAll, TellsElement, change_text}
 use Rattle.trace.specs.declared.element.Element.{Element}
 use Rattle.world_replay.proofs.lemmas.Accounts.{AreParts, ShowsAs, round_as}
 use Rattle.world_replay.proofs.lemmas.CalmRounds.{calm_rounds}
 use Rattle.world_replay.proofs.lemmas.{round_calm}
+use Rattle.world_replay.specs.Output.{shown_text}
+use Rattle.world_replay.specs.Replay.{Replays, rounds_of}
 use Rattle.world_script.specs.declared.event.WorldEvent.TheVariants as worlds
+use Rattle.simulator.specs.Recorded.{told_from, told_lines, told_over}
 use Rattle.simulator.specs.WorkedSides.{starts}
+use Rattle.command_line.proofs.lemmas.{no_lives}
+use Rattle.command_line.proofs.lemmas.{same_hosts}
 
 -- ---- lines of a trace that have these lines as printed
 

@@ -1,18 +1,15 @@
 -- Ends that the program does not have.
-use Rattle.simulator.proofs.Common.{Appends, Keeps, text_of, TopologyFields, CarrierKind, Raw, World, Asked, plain_calls, subnet_calls, ScriptFault, detail_of, MixedFields, WorldEvent, Verdict}
-use Rattle.std.proofs.Common.{◌≡◌, inl, inr, ℕ, true, false, List, [], ◌∷◌, ◌++◌, Option, Some, None, Result, Ok, Err, codes, map, refl, sym, ap, ◌∙◌}
-use Rattle.simulator.specs.Program.{EndsTask, Sides, EndsReplay, Closes, LeavesUntouched, audited_as, finished_as}
-use Rattle.simulator.specs.Traced.{TracesOver}
-use Rattle.command_line.specs.Replayed.{ReplaysOver}
-use Rattle.command_line.specs.Either.{RanEither}
-use Rattle.simulator.specs.MixedTraced.{MixedTracesOver, TracedEither}
+use Rattle.simulator.proofs.Common.{◌≡◌, inl, inr, ℕ, true, false, List, [], ◌∷◌, ◌++◌, Option, Some, None, Result, Ok, Err, codes, map, refl, sym, ap, ◌∙◌, Appends, Keeps, text_of, TopologyFields, CarrierKind, Raw, World, plain_calls, subnet_calls, EndsTask, Sides, TracesOver, ScriptFault, detail_of, ReplaysOver, MixedFields, WorldEvent, RanEither, EndsReplay, Asked, MixedTracesOver, TracedEither}
 use Rattle.std.proofs.lemmas.Bool.{false≢true}
-use Rattle.book_log.specs.Log.{log_text, Book, handed_line, life_line, log_lines, logged_line, strangers_text, text_of_lines}
+use Rattle.book_log.specs.Log.{log_text}
 use Rattle.command_line.specs.Logs.{LogsOver, raw_book, world_book}
 use Rattle.command_line.specs.declared.auditing.AuditFault.{AuditFault}
+use Rattle.command_line.specs.declared.verdict.Verdict.{Verdict}
 use Rattle.command_line.specs.Mixed.{MixedReplaysOver}
+use Rattle.book_log.specs.Log.{Book, handed_line, life_line, log_lines, logged_line, strangers_text, text_of_lines}
 use Rattle.topology.specs.declared.network.CarrierKind.TheVariants as kind
 use Rattle.command_line.specs.MixedLogs.{LoggedEither, MixedLogsOver}
+use Rattle.simulator.specs.Program.{Closes, LeavesUntouched, audited_as, finished_as}
 use Rattle.simulator.specs.WorkedSides.{Never, drained, no_options, only_check, out_of_memory, unread, wrote}
 use Rattle.command_line.specs.declared.auditing.AuditFault.TheVariants as log
 use Rattle.command_line.specs.declared.fault.ScriptFault.TheVariants as script

@@ -1,12 +1,17 @@
 -- An input of either kind, read and replayed.
-use Rattle.command_line.proofs.Common.{false≢true, Keeps, ScriptFault, Detail, TopologyFields, on_ok, MixedFields, WorldEvent}
-use Rattle.std.proofs.Common.{◌≡◌, ◌⊎◌, ◌<◌, inl, inr, ℕ, Bool, true, false, List, Option, Some, None, Result, Ok, Err, IfSome, IfErr, MatchResult, OnOk, refl, sym, subst, ◌∙◌, length}
-use Rattle.command_line.specs.Steps.{IsReplayFault, IsFollowFault, IsReadFault}
-use Rattle.command_line.specs.Input.{IsInputFault, IsInput, IsSomeInput}
-use Rattle.command_line.specs.Replayed.{ReplaysOn, EndsOn}
-use Rattle.command_line.specs.Either.{IsEitherFault, IsEitherInput, ReplaysEither, StopsEither, RanEither, RanEitherInPart}
-use Rattle.command_line.specs.Mixed.{IsMixedFault, MixedEndsOn, MixedReplaysOn, IsMixedInput, IsSomeMixed, MixedReplaysInput, MixedStopsInput}
+use Rattle.command_line.proofs.Common.{◌≡◌, ◌⊎◌, ◌<◌, inl, inr, ℕ, Bool, true, false, List, Option, Some, None, Result}
+use Rattle.command_line.proofs.Common.{Ok, Err, IfSome, IfErr, MatchResult, OnOk, refl, sym, subst, ◌∙◌, false≢true}
+use Rattle.command_line.proofs.Common.{Keeps, IsReplayFault, IsInputFault, IsInput, ReplaysOn, ScriptFault}
+use Rattle.command_line.proofs.Common.{Detail, TopologyFields, on_ok, MixedFields, WorldEvent, IsEitherFault}
+use Rattle.command_line.proofs.Common.{IsEitherInput, ReplaysEither, StopsEither}
+use Rattle.command_line.specs.Either.{RanEither, RanEitherInPart}
+use Rattle.command_line.proofs.Common.{IsMixedFault, MixedEndsOn, MixedReplaysOn}
+use Rattle.std.proofs.Common.{length}
 use Rattle.command_line.specs.Events.{Asked}
+use Rattle.command_line.specs.Input.{IsSomeInput}
+use Rattle.command_line.specs.Mixed.{IsMixedInput, IsSomeMixed, MixedReplaysInput, MixedStopsInput}
+use Rattle.command_line.specs.Replayed.{EndsOn}
+use Rattle.command_line.specs.Steps.{IsFollowFault, IsReadFault}
 use Rattle.command_line.proofs.Faults.{input_wants}
 use Rattle.command_line.proofs.Replayed.Strangers.{mixed_wants}
 use Rattle.command_line.specs.declared.fault.ScriptFault.TheVariants as fault

@@ -1,26 +1,36 @@
 -- After any replay among strangers, the lives of a world's book are those that its crossings and notices make.
-use Rattle.command_line.proofs.Common.{Crossing, Host, WorldEvent, HostMessage, Notice, Reported, Request, WorldFault, EventGivesAmong, ReplaysBy, RunsOutBy, mixed_kind, AreLived}
-use Rattle.std.proofs.Common.{ℕ, List, [], ◌∷◌, None, Some, Option, Result, sym, subst, inl, inr, Ok, Err, length}
-use Rattle.interface.specs.Calls.{Calls, crossing_of, step_crossings}
-use Rattle.net_sim.specs.World.{WorldState, Refuses, CalmGives, StepGives, done_by, noticed, services_of, turn_of, world_moved}
+use Rattle.command_line.proofs.Common.{ℕ, List, [], ◌∷◌, None, Some, Option, Result, sym, subst, inl, inr, Calls}
+use Rattle.command_line.proofs.Common.{Crossing, Host, WorldState, WorldEvent}
 use Rattle.net_sim.specs.declared.event.Event.{Event}
+use Rattle.std.proofs.Common.{Ok, Err, length}
+use Rattle.interface.specs.Calls.{crossing_of, step_crossings}
 use Rattle.interface.specs.declared.carrier.CarrierFault.{CarrierFault}
 use Rattle.interface.specs.declared.crossing.Crossing.TheVariants as crossing
 use Rattle.interface.specs.declared.crossing.Inbound.{Inbound}
+use Rattle.interface.specs.declared.message.HostMessage.{HostMessage}
+use Rattle.host_pairs.specs.declared.notice.Notice.{Notice}
 use Rattle.host_services.specs.Services.{ServiceDeskState, opening_desk}
 use Rattle.host_services.specs.Turns as services
+use Rattle.host_services.specs.declared.report.Reported.{Reported}
 use Rattle.sockets.specs.Accepting.{accepted}
 use Rattle.sockets.specs.Pairs.{NcpState}
 use Rattle.sockets.specs.Requests.{served, served_notices}
 use Rattle.sockets.specs.Sending.{offered}
+use Rattle.sockets.specs.declared.request.Request.{Request}
 use Rattle.net_sim.proofs.lemmas.{Answered, Ways, calm_keeps, step_way, unshown}
 use Rattle.net_sim.specs.Book.{Kept, all_asked, all_crossed, all_reported, all_told, asked, crossed}
-use Rattle.net_sim.specs.MixedWorlds.{AmongGives, AskedGives, FetchEnds, OutEnds, asked_at, is_strange, opening_mixed, strange_in}
+use Rattle.net_sim.specs.MixedWorlds.{AmongGives, AskedGives, FetchEnds}
+use Rattle.net_sim.specs.MixedWorlds.{OutEnds, asked_at, is_strange, opening_mixed, strange_in}
+use Rattle.net_sim.specs.World.{Refuses}
+use Rattle.net_sim.specs.World.{CalmGives, StepGives, done_by, noticed, services_of, turn_of, world_moved}
 use Rattle.net_sim.specs.declared.event.Event.TheVariants.{Out, Take}
+use Rattle.net_sim.specs.declared.event.WorldFault.{WorldFault}
 use Rattle.net_sim.specs.declared.event.WorldFault.TheVariants.{NoProgram}
 use Rattle.world_replay.proofs.lemmas.{on_either}
+use Rattle.world_replay.specs.Kinds.{EventGivesAmong, ReplaysBy, RunsOutBy, mixed_kind}
 use Rattle.world_replay.specs.Output.{Shown}
 use Rattle.world_script.specs.declared.event.WorldEvent.TheVariants as script
+use Rattle.command_line.specs.Lived.{AreLived}
 use Rattle.command_line.proofs.Lived.{Lived, all_lived, asked_lived, crossed_lived, kept_lived}
 
 -- ---- what is done to a book

@@ -1,15 +1,23 @@
 -- What `--log` writes among strangers, and of an input of either kind.
-use Rattle.command_line.proofs.Common.{Appends, Calls, AreFated, Detail, shown, subnet_calls, subnet_of, CarrierKind, TopologyFields, MixedFields, WorldEvent, ScriptFault, IsInput, on_ok, KeepsAmong, KeepsToward, AreUnhanded, IsLawfulAmong, absent_in, opening_mixed, strange_in, WorldState, ReplaysBy, mixed_kind, ArePicked, LoggedEither, LogsEither, MixedLogsFrom, MixedLogsInput, MixedLogsOn, MixedLogsOver}
-use Rattle.std.proofs.Common.{◌≡◌, inl, inr, ℕ, List, ◌++◌, Option, Result, OnOk, subst, sym, None}
-use Rattle.interface.specs.Host.{Host, InOrder}
-use Rattle.book_log.specs.Log.{log_text, IsBook, strangers_text}
-use Rattle.command_line.specs.Logs.{LogsOn, world_book}
+use Rattle.command_line.proofs.Common.{◌≡◌, inl, inr, ℕ, List, ◌++◌, Option, Result, OnOk, subst, sym, Appends, Calls}
+use Rattle.command_line.proofs.Common.{AreFated, Detail, Host, log_text, shown, subnet_calls, subnet_of, CarrierKind}
+use Rattle.command_line.proofs.Common.{TopologyFields, MixedFields, WorldEvent, ScriptFault, IsInput, LogsOn, None}
+use Rattle.command_line.proofs.Common.{on_ok, world_book}
+use Rattle.book_log.specs.Log.{IsBook, strangers_text}
+use Rattle.interface.specs.Host.{InOrder}
+use Rattle.mixed_worlds.specs.Laws.{KeepsAmong, KeepsToward}
 use Rattle.net_sim.specs.Book.{Kept}
+use Rattle.net_sim.specs.Handed.{AreUnhanded}
+use Rattle.net_sim.specs.MixedWorlds.{IsLawfulAmong, absent_in, opening_mixed, strange_in}
+use Rattle.net_sim.specs.World.{WorldState}
 use Rattle.subnet.specs.Calls as subnet
 use Rattle.topology.specs.declared.network.CarrierKind.TheVariants as kind
+use Rattle.world_replay.specs.Kinds.{ReplaysBy, mixed_kind}
 use Rattle.world_replay.specs.Output as lines
 use Rattle.command_line.specs.Events.{Asked}
 use Rattle.command_line.specs.Mixed.{IsMixedInput}
+use Rattle.command_line.specs.MixedLogs.{ArePicked, LoggedEither, LogsEither, MixedLogsFrom, MixedLogsInput}
+use Rattle.command_line.specs.MixedLogs.{MixedLogsOn, MixedLogsOver}
 use Rattle.command_line.proofs.Verdicts.MixedKept.Named.{are_strangers}
 use Rattle.command_line.proofs.Replayed.Strangers.{subnet_named}
 

@@ -1,16 +1,32 @@
 -- What a replay among strangers prints is one book.
-use Rattle.command_line.proofs.Common.{AreLived, ungranted, CarrierKind, Calls, Crossing, Detail, Host, is_host, Life, MixedFields, WorldEvent, Told, WorldState, plain_calls, plain_of, subnet_of, shown, subnet_calls, false≢true, contains_head, IsRun, SafeMessages, HostMessage, beside_among, lives_among, KeepsAmong, KeepsToward, opening_mixed, strange_in, FormedBook, SafeBook, log_of, shown_book}
-use Rattle.std.proofs.Common.{◌≡◌, ◌∙◌, ℕ, Bool, true, false, List, [], ◌∷◌, Option, refl, sym, subst, inl, inr, map, ◌&&◌, ◌==◌}
-use Rattle.command_line.specs.Replayed.{ShowsBook, WritesWorld}
+use Rattle.command_line.proofs.Common.{◌≡◌, ◌∙◌, ℕ, Bool, true, false, List, [], ◌∷◌, Option, refl, sym, subst}
+use Rattle.command_line.proofs.Common.{inl, inr, AreLived, CarrierKind, Calls, Crossing, Detail, Host, Life}
+use Rattle.command_line.proofs.Common.{MixedFields, WorldEvent, ShowsBook, Told, WorldState, plain_calls, plain_of}
+use Rattle.command_line.proofs.Common.{map, shown, subnet_calls, subnet_of, ungranted}
+use Rattle.std.proofs.Common.{◌&&◌, ◌==◌}
+use Rattle.std.proofs.lemmas.Bool.{false≢true}
 use Rattle.std.specs.Prelude.{◌||◌}
+use Rattle.interface.proofs.lemmas.{contains_head}
+use Rattle.interface.specs.Host.{is_host}
+use Rattle.interface.specs.Mailboxes.{IsRun}
+use Rattle.interface.specs.Messages.{SafeMessages}
 use Rattle.interface.specs.declared.crossing.Crossing.TheVariants as crossing
+use Rattle.interface.specs.declared.message.HostMessage.{HostMessage}
 use Rattle.host_pairs.specs.declared.notice.Notice.TheVariants as notice
+use Rattle.mixed_worlds.specs.Book.{beside_among, lives_among}
+use Rattle.mixed_worlds.specs.Laws.{KeepsAmong, KeepsToward}
 use Rattle.mixed_worlds.specs.Told.{ToldAmong}
 use Rattle.mixed_worlds.specs.Toward.{HasAsked, IsCarried}
+use Rattle.net_sim.specs.MixedWorlds.{opening_mixed, strange_in}
+use Rattle.promise.specs.Formed.{FormedBook}
+use Rattle.promise.specs.Safe.{SafeBook}
 use Rattle.topology.specs.declared.network.CarrierKind.TheVariants as kind
 use Rattle.world_replay.specs.Output.{Crossed, Noticed, Shown}
-use Rattle.command_line.specs.Mixed.{MixedEndsOver, MixedReplaysOver, MixedShowsFrom, MixedWritesPart, RanMixed, RanMixedInPart}
+use Rattle.command_line.specs.Mixed.{MixedEndsOver, MixedReplaysOver, MixedShowsFrom, MixedWritesPart, RanMixed}
+use Rattle.command_line.specs.Mixed.{RanMixedInPart}
 use Rattle.command_line.specs.MixedPrinted.{AreOneBookAmong, PrintsBookAmong, PrintsPartAmong, are_strange}
+use Rattle.command_line.specs.Printed.{log_of, shown_book}
+use Rattle.command_line.specs.Replayed.{WritesWorld}
 use Rattle.command_line.proofs.Replayed.MixedLived.{replayed_lived, stopped_lived}
 use Rattle.command_line.proofs.Printed.{joined_as}
 use Rattle.command_line.proofs.Verdicts.MixedKept.Kept.{one_test}

@@ -1,15 +1,25 @@
 -- A replay over the carrier of a topology with strangers continues, and ends.
-use Rattle.command_line.proofs.Common.{Appends, Keeps, Calls, Detail, Host, is_host, Life, book_text, WritesWorld, shown, CarrierKind, ScriptFault, subnet_calls, subnet_of, All, IsParted, hosts_of, IsBlank, WorldEvent, KeepsAmong, KeepsToward, absent_in, opening_mixed, strange_in, WorldState, ReplaysBy, RunsOutBy, mixed_kind}
-use Rattle.std.proofs.Common.{◌≡◌, ◌⊎◌, inl, inr, ℕ, Bool, true, List, [], ◌∷◌, ◌++◌, Option, None, Result, OnOk, sym, subst, refl, codes, IsUtf8, ◌≤◌, length}
-use Rattle.replay.proofs.lemmas.{appends_more}
-use Rattle.topology.specs.Mixed.{MixedFields, AreHosts}
+use Rattle.command_line.proofs.Common.{◌≡◌, ◌⊎◌, inl, inr, ℕ, Bool, true, List, [], ◌∷◌, ◌++◌, Option, None, Result}
+use Rattle.command_line.proofs.Common.{OnOk, sym, subst, refl, Appends, Keeps, Calls, Detail, Host, Life, book_text}
+use Rattle.command_line.proofs.Common.{codes, shown, CarrierKind, ScriptFault, subnet_calls, subnet_of, IsUtf8}
+use Rattle.command_line.proofs.Common.{All, appends_more, IsParted, MixedFields, hosts_of}
+use Rattle.std.proofs.Common.{◌≤◌, length}
 use Rattle.std.proofs.lemmas.List.Elements.{All-head, All-tail}
-use Rattle.command_line.specs.Mixed.{IsMixedFault, MixedEndsOn, MixedReplaysOn, MixedReplaysOver, DescribesMixed, IsMixedInput, MixedEndsOver, MixedShowsFrom, MixedStopsFrom}
-use Rattle.command_line.specs.Steps.{IsNetworkFault, IsEventsFault}
+use Rattle.toml.specs.Errors.{IsBlank}
+use Rattle.command_line.proofs.Common.{WorldEvent, IsMixedFault, MixedEndsOn, MixedReplaysOn, MixedReplaysOver}
+use Rattle.command_line.proofs.Common.{WritesWorld, IsNetworkFault}
+use Rattle.interface.specs.Host.{is_host}
+use Rattle.mixed_worlds.specs.Laws.{KeepsAmong, KeepsToward}
+use Rattle.net_sim.specs.MixedWorlds.{absent_in, opening_mixed, strange_in}
+use Rattle.net_sim.specs.World.{WorldState}
 use Rattle.subnet.specs.Calls.{Kept}
+use Rattle.topology.specs.Mixed.{AreHosts}
 use Rattle.topology.specs.declared.network.CarrierKind.TheVariants as kind
+use Rattle.world_replay.specs.Kinds.{ReplaysBy, RunsOutBy, mixed_kind}
 use Rattle.world_replay.specs.Output as lines
 use Rattle.world_replay.proofs.lemmas.Gained.{replays_show, stops_show}
+use Rattle.command_line.specs.Mixed.{DescribesMixed, IsMixedInput, MixedEndsOver, MixedShowsFrom, MixedStopsFrom}
+use Rattle.command_line.specs.Steps.{IsEventsFault}
 use Rattle.script.specs.Script.{IsFirstBadAs}
 use Rattle.world_script.specs.WorldSpelling.{IsWorldEvent, world_spelling}
 use Rattle.command_line.proofs.Replayed.Written.{shows_book}

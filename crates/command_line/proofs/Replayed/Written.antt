@@ -1,17 +1,20 @@
 -- A replay over the carrier of a topology continues, and ends.
-use Rattle.command_line.proofs.Common.{Appends, Keeps, WorldKeeps, IsRun, SafeMessages, shown, WorldState, opening_world, Life, Calls, Detail, RawEvent, TopologyFields, CarrierKind, WorldEvent}
-use Rattle.std.proofs.Common.{◌≡◌, ◌⊎◌, inl, inr, ℕ, Bool, List, [], ◌++◌, Option, Result, OnOk, codes, ap, sym, subst, ◌∙◌, reverse}
-use Rattle.replay.specs.Output.{Writes, crossings_of, output}
-use Rattle.command_line.specs.Logs.{LogsOn, LogsOver}
-use Rattle.command_line.specs.Replayed.{ReplaysOn, ReplaysOver, ShowsBook, ShowsFrom, StopsFrom, WorldShowsFrom, WorldStopsFrom, book_text, WritesWorld, EndsOn, EndsOver, WritesAll}
-use Rattle.replay.proofs.lemmas.{appends_more, replays_show, stops_show}
+use Rattle.command_line.proofs.Common.{◌≡◌, ◌⊎◌, inl, inr, ℕ, Bool, List, [], ◌++◌, Option, Result, OnOk, codes, ap}
+use Rattle.command_line.proofs.Common.{sym, subst, ◌∙◌, Appends, Keeps, WorldKeeps, IsRun, SafeMessages, shown}
+use Rattle.command_line.proofs.Common.{WorldState, opening_world, Life, Writes, crossings_of, output, Calls, Detail}
+use Rattle.command_line.proofs.Common.{RawEvent, TopologyFields, CarrierKind, WorldEvent, LogsOn, LogsOver, ReplaysOn}
+use Rattle.command_line.proofs.Common.{ReplaysOver, ShowsBook, ShowsFrom, StopsFrom, WorldShowsFrom, WorldStopsFrom}
+use Rattle.command_line.proofs.Common.{book_text, appends_more, WritesWorld}
+use Rattle.std.proofs.Common.{reverse}
 use Rattle.std.proofs.lemmas.List.{append-nil}
 use Rattle.net_sim.specs.Book.{Kept, opening_kept}
 use Rattle.replay.specs.Replay.{EndsIn, Replays, StopsIn}
+use Rattle.replay.proofs.lemmas.{replays_show, stops_show}
 use Rattle.world_replay.specs.Output as lines
 use Rattle.world_replay.specs.Replay as worlds
 use Rattle.world_replay.proofs.lemmas.Gained as world
 use Rattle.command_line.specs.Events.{Asked}
+use Rattle.command_line.specs.Replayed.{EndsOn, EndsOver, WritesAll}
 
 -- ---- without host programs
 

@@ -1,19 +1,31 @@
 -- What an audit names is broken: a part that holds of all holds of the first of them.
-use Rattle.command_line.proofs.Common.{Contains, AreSuited, UnsuitedAt, IsSomeRun, StraysAt, SafeMessages, Crossing, Says, IsWellFormed, Finding, ClosesWhole, Fate, Life, Verdict, AreMade, UnmadeAt, IfFormed, first_closed, first_sent, AreToward, UntowardAt, Host, beside_among, lives_among, EachWasSent}
-use Rattle.std.proofs.Common.{◌≡◌, ℕ, ◌+◌, Bool, List, [], ◌∷◌, ◌++◌, take, Option, Some, None, arith, inl, inr, refl, ap, sym, subst, ◌∙◌, reverse, zero, suc, ◌-◌, length, drop, MatchOption}
-use Rattle.std.proofs.lemmas.List.{append_assoc, take-append-drop}
-use Rattle.promise.specs.Safe.{AreTwo, SafeBook, AreHanded, Name, SafeGrants, SafePartners, SafeStreams, own_request}
-use Rattle.command_line.specs.Audits.{Judged, kept}
+use Rattle.command_line.proofs.Common.{◌≡◌, ℕ, ◌+◌, Bool, List, [], ◌∷◌, ◌++◌, take, Option, Some, None, arith, inl, inr, refl, ap, sym, subst, ◌∙◌, Contains, append_assoc, AreSuited, IsSomeRun, SafeMessages, Crossing, Says, Finding, AreTwo, ClosesWhole, Fate, Life, Judged, kept, Verdict}
+use Rattle.std.proofs.Common.{reverse}
+use Rattle.book_judge.specs.Lives.{AreMade}
+use Rattle.std.proofs.Common.{zero, suc, ◌-◌, length, drop}
+use Rattle.std.proofs.Common.{MatchOption}
 use Rattle.std.specs.Prelude.{◌↔◌}
+use Rattle.std.proofs.lemmas.List.{take-append-drop}
 use Rattle.std.proofs.lemmas.List.Elements.{Contains-append_left}
+use Rattle.book_judge.specs.Broken.{IfFormed, first_closed, first_sent}
+use Rattle.book_judge.specs.Fates.{UnsuitedAt}
+use Rattle.book_judge.specs.Lives.{UnmadeAt}
+use Rattle.book_judge.specs.Runs.{StraysAt}
 use Rattle.book_judge.proofs.lemmas.{closed_front, made_front, run_front, suited_front, toward_front}
+use Rattle.book_judge.specs.Toward.{AreToward, UntowardAt}
+use Rattle.interface.specs.Host.{Host}
+use Rattle.mixed_worlds.specs.Book.{beside_among, lives_among}
+use Rattle.promise.specs.Safe.{SafeBook}
+use Rattle.world_keeps_streams.specs.Sent.{EachWasSent}
 use Rattle.command_line.proofs.Verdicts.Among.{formed_among}
 use Rattle.interface.proofs.lemmas.{safe_messages}
 use Rattle.interface.specs.declared.crossing.Answer.TheVariants as answer
 use Rattle.interface.specs.declared.crossing.Crossing.TheVariants as crossing
+use Rattle.net_sim.specs.Audit.{IsWellFormed}
 use Rattle.net_sim.specs.Findings.{AreFed, ShowsCrossing, ShowsLife, ShowsMalformed, ShowsTwo, first_fed, first_granted}
 use Rattle.net_sim.specs.declared.auditing.findings.Finding.TheVariants as finding
 use Rattle.net_sim.specs.declared.auditing.said.Audit.TheVariants as audit
+use Rattle.promise.specs.Safe.{AreHanded, Name, SafeGrants, SafePartners, SafeStreams, own_request}
 
 contains_front : {X : Type 0} (n : ℕ) (xs : List X) (x : X) → Contains (take n xs) x → Contains xs x
 contains_front {X} n xs x c =

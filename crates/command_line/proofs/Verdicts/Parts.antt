@@ -1,10 +1,19 @@
 -- What is judged of the lives among hosts with programs is said of the whole log.
-use Rattle.command_line.proofs.Common.{AreSuited, UnsuitedAt, IsSomeRun, StraysAt, SafeMessages, Crossing, ClosesWhole, Fate, Host, Life, Finding, Verdict, IfFormed, first_closed, first_sent, AreMade, UnmadeAt, AreToward, UntowardAt, EachWasSent, beside_among, lives_among, IsWellFormed}
-use Rattle.std.proofs.Common.{◌≡◌, ℕ, Bool, List, Option, Some, None, ap, refl, subst, MatchOption, reverse}
-use Rattle.command_line.specs.Audits.{Judged, AreParts}
+use Rattle.command_line.proofs.Common.{◌≡◌, ℕ, Bool, List, Option, Some, None, ap, refl, subst, AreSuited, IsSomeRun}
+use Rattle.command_line.proofs.Common.{SafeMessages, Crossing, ClosesWhole, Fate, Host, Judged, Life, Finding, Verdict}
+use Rattle.std.proofs.Common.{MatchOption, reverse}
+use Rattle.book_judge.specs.Broken.{IfFormed, first_closed, first_sent}
+use Rattle.book_judge.specs.Fates.{UnsuitedAt}
+use Rattle.book_judge.specs.Lives.{AreMade, UnmadeAt}
+use Rattle.book_judge.specs.Runs.{StraysAt}
+use Rattle.book_judge.specs.Toward.{AreToward, UntowardAt}
 use Rattle.book_judge.specs.declared.broken.Broken.{Broken}
+use Rattle.world_keeps_streams.specs.Sent.{EachWasSent}
+use Rattle.mixed_worlds.specs.Book.{beside_among, lives_among}
+use Rattle.net_sim.specs.Audit.{IsWellFormed}
 use Rattle.net_sim.specs.Findings.{AreFed, ShowsCrossing, ShowsLife, ShowsMalformed, ShowsTwo, first_fed, first_granted}
 use Rattle.promise.specs.Safe.{SafeGrants, SafePartners}
+use Rattle.command_line.specs.Audits.{AreParts}
 use Rattle.command_line.proofs.Verdicts.Among.{formed_among}
 use Rattle.command_line.proofs.Verdicts.Named.{looked_at, shown_formed, unnamed}
 

@@ -1,13 +1,10 @@
 -- An input of either kind leaves its trace no choice.
-use Rattle.simulator.proofs.Common.{HappensOnce, ShowsFront, text_of, Calls, AreSettled, ends_front, in_turn_once, parted_once, CarrierKind, shown, SameGains, gains_once, shown_settled, Spot, AllParts, plain_calls, subnet_calls, subnet_inside, plain_of, subnet_of, subnet_settled, MixedFields, WorldEvent, Sizes, Crossing, WorldState, opening_mixed, Event}
-use Rattle.std.proofs.Common.{◌≡◌, inl, inr, ℕ, List, [], ◌∷◌, ◌++◌, Some, sym, ap, ap₂, subst, ◌∙◌, zip}
-use Rattle.world_trace.specs.Traces.{StopsOne, change_of}
-use Rattle.trace.specs.Traces.{asking_from, numbered_from, plain_inside}
-use Rattle.trace.proofs.lemmas.{plain_settled}
-use Rattle.world_replay.specs.Output.{Shown, output}
-use Rattle.simulator.specs.MixedTraced.{IsMixedScripted, MixedTraceEndsFrom, MixedTraceEndsOn, MixedTraceEndsOver, MixedTraceStops, MixedTracesFrom, MixedTracesInput, MixedTracesOn, MixedTracesOver, TraceStopsEither, TracesEither}
+use Rattle.simulator.proofs.Common.{◌≡◌, inl, inr, ℕ, List, [], ◌∷◌, ◌++◌, Some, sym, ap, ap₂, subst, ◌∙◌, HappensOnce, ShowsFront, text_of, Calls, AreSettled, ends_front, in_turn_once, parted_once, CarrierKind, shown, SameGains, gains_once, shown_settled, StopsOne, change_of, Spot, asking_from, numbered_from, AllParts, plain_inside, plain_calls, subnet_calls, subnet_inside, plain_of, subnet_of, subnet_settled, plain_settled, MixedFields, WorldEvent, Sizes, Crossing, WorldState, opening_mixed, Shown, IsMixedScripted, MixedTraceEndsFrom, MixedTraceEndsOn, MixedTraceEndsOver, MixedTraceStops, MixedTracesFrom, MixedTracesInput, MixedTracesOn, MixedTracesOver, TraceStopsEither, TracesEither}
+use Rattle.std.proofs.Common.{zip}
+use Rattle.net_sim.specs.declared.event.Event.{Event}
 use Rattle.topology.specs.declared.network.CarrierKind.TheVariants as kind
 use Rattle.world_replay.proofs.lemmas as replays
+use Rattle.world_replay.specs.Output.{output}
 use Rattle.world_script.specs.declared.event.WorldEvent.TheVariants as worlds
 use Rattle.world_trace.specs.MixedTraces.{AtSpot, MixedEndsAt, StopsMixed, TellsMixed, TellsMixedAt, mixed_opening}
 use Rattle.world_trace.specs.Texts.{event_text, line_of}

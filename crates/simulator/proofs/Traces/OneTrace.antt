@@ -1,19 +1,17 @@
 -- An input leaves its trace no choice.
-use Rattle.simulator.proofs.Common.{HappensOnce, ShowsFront, text_of, Calls, AreSettled, parted_once, RawEvent, TopologyFields, CarrierKind, shown, WorldState, opening_world, Event, SameGains, gains_once, happens_once, shown_settled, WorldEvent, opening_text, world_line, object, opening_line, Spot, plain_calls, subnet_calls, subnet_inside, plain_of, subnet_of, Raw, World, Asked, members_of, AllParts, subnet_settled}
-use Rattle.std.proofs.Common.{◌≡◌, inl, inr, ℕ, List, [], ◌∷◌, ◌++◌, Some, sym, ap, ap₂, subst, ◌∙◌, zip}
-use Rattle.replay.proofs.lemmas.{ends_front, in_turn_once, text_of-append}
-use Rattle.world_replay.specs.Rounds.{EndsRound}
-use Rattle.world_trace.specs.Traces.{StopsOne, TellsIn, TellsInCalm, TellsOne, TellsRound, change_of, first_rounds, state_of, EndsIn, IsHeard, IsSilent, IsUnchanged, TellsStep}
-use Rattle.trace.specs.Traces.{Inside, TellsEvent, asking_from, numbered_from, plain_inside, EndsEvent, StopsElement}
-use Rattle.simulator.specs.Traced.{EndsAll, IsScripted, TracesAll, TracesFrom, TracesInput, TracesOn, TracesOver, WorldEndsFrom, WorldTracesFrom, EndsOn, EndsOver, EndsFrom, TraceStops}
-use Rattle.trace.proofs.lemmas.{plain_settled, event_front, event_once}
-use Rattle.command_line.proofs.lemmas.{OneInput, input_once}
+use Rattle.simulator.proofs.Common.{◌≡◌, inl, inr, ℕ, List, [], ◌∷◌, ◌++◌, Some, sym, ap, ap₂, subst, ◌∙◌, HappensOnce, ShowsFront, text_of, Calls, AreSettled, ends_front, in_turn_once, parted_once, RawEvent, TopologyFields, CarrierKind, shown, WorldState, opening_world, Event, SameGains, gains_once, happens_once, shown_settled, EndsRound, WorldEvent, opening_text, world_line, StopsOne, TellsIn, TellsInCalm, TellsOne, TellsRound, change_of, first_rounds, state_of, object, opening_line, Spot, Inside, TellsEvent, asking_from, numbered_from, plain_inside, plain_calls, subnet_calls, subnet_inside, plain_of, subnet_of, Raw, World, EndsAll, IsScripted, TracesAll, TracesFrom, TracesInput, TracesOn, TracesOver, WorldEndsFrom, WorldTracesFrom, members_of, AllParts, subnet_settled, plain_settled, Asked, EndsOn, EndsOver, OneInput, input_once}
+use Rattle.std.proofs.Common.{zip}
 use Rattle.std.proofs.lemmas.List.{append_assoc}
+use Rattle.replay.proofs.lemmas.{text_of-append}
 use Rattle.topology.specs.declared.network.CarrierKind.TheVariants as kind
 use Rattle.world_replay.specs.Gains.{Gains}
 use Rattle.world_replay.specs.Output.{Shown as Printed}
 use Rattle.world_script.specs.declared.event.WorldEvent.TheVariants as worlds
+use Rattle.world_trace.specs.Traces.{EndsIn, IsHeard, IsSilent, IsUnchanged, TellsStep}
+use Rattle.trace.specs.Traces.{EndsEvent, StopsElement}
+use Rattle.simulator.specs.Traced.{EndsFrom, TraceStops}
 use Rattle.simulator.proofs.InCalm.{in_calm_once, round_front, round_once}
+use Rattle.trace.proofs.lemmas.{event_front, event_once}
 
 -- ---- events have one trace
 

@@ -1,15 +1,16 @@
 -- What `--trace` writes is the trace of the input's script.
-use Rattle.simulator.proofs.Common.{Keeps, text_of, Calls, parted_once, RawEvent, TopologyFields, CarrierKind, WorldState, opening_world, WorldEvent, AsksFor, Raw, World, Asked, ScriptFault, AllParts, stays, IsWorldEvent, world_spelling}
-use Rattle.std.proofs.Common.{◌≡◌, ◌⊎◌, ◌∙◌, inl, inr, ℕ, ◌+◌, Bool, true, false, List, [], ◌∷◌, Option, Result, Ok, Err, OnOk, ap, refl, subst, sym, suc, length, ◌≢◌, IfErr, filter}
-use Rattle.std.proofs.lemmas.List.{length-map}
-use Rattle.trace.specs.Traces.{Inside, asking_from, event_lines, AfterOpening, Traces, WritesTrace}
-use Rattle.world_trace.specs.Traces.{StopsOne, TracesWorld, WorldTraceEnds}
-use Rattle.simulator.specs.Traced.{IsScriptOf, TracesFrom, TracesOn, TracesOver, WorldEndsFrom, WorldTracesFrom, asked_count, EndsOn, EndsOver, Traced}
-use Rattle.script.specs.Spelling.{IsEvent, spelling}
+use Rattle.simulator.proofs.Common.{◌≡◌, ◌⊎◌, ◌∙◌, inl, inr, ℕ, ◌+◌, Bool, true, false, List, [], ◌∷◌, Option, Result, Ok, Err, OnOk, ap, refl, subst, sym, length-map, Keeps, text_of, Calls, parted_once, RawEvent, TopologyFields, CarrierKind, Inside, asking_from, WorldState, opening_world, StopsOne, WorldEvent, AsksFor, Raw, World, IsScriptOf, TracesFrom, TracesOn, TracesOver, WorldEndsFrom, WorldTracesFrom, asked_count, ScriptFault, IsEvent, AllParts, suc, length, spelling, event_lines, Asked, EndsOn, EndsOver, stays}
+use Rattle.std.proofs.Common.{◌≢◌}
+use Rattle.std.proofs.Common.{IfErr}
 use Rattle.command_line.specs.Input.{IsInput}
 use Rattle.command_line.specs.Steps.{IsReplayFault}
+use Rattle.std.proofs.Common.{filter}
 use Rattle.script.specs.Script.{AskForAs, asks, lines_of}
+use Rattle.trace.specs.Traces.{AfterOpening, Traces, WritesTrace}
 use Rattle.world_trace.specs.Traces as worlds
+use Rattle.world_trace.specs.Traces.{TracesWorld, WorldTraceEnds}
+use Rattle.world_script.specs.WorldSpelling.{IsWorldEvent, world_spelling}
+use Rattle.simulator.specs.Traced.{Traced}
 use Rattle.command_line.specs.declared.fault.ScriptFault.TheVariants as fault
 
 -- ---- over a carrier

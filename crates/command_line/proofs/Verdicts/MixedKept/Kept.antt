@@ -1,10 +1,23 @@
 -- What `--log` writes is kept, with strangers or without.
-use Rattle.command_line.proofs.Common.{reverse-reverse, Calls, CarrierKind, ClosesWhole, Crossing, Fate, Host, is_host, Life, MixedFields, AreSuited, WorldEvent, WorldState, plain_calls, plain_of, subnet_of, subnet_calls, world_book, made_twice, made_with, suited_with, logged_fate, KeepsAmong, KeepsToward, IsWellFormed, AreUnhanded, strange_in, SafeBook, EachWasSent, LoggedEither, MixedLogsFrom, MixedLogsOver}
-use Rattle.std.proofs.Common.{◌≡◌, Bool, List, [], Some, map, sym, subst, inl, inr, ℕ, reverse}
-use Rattle.command_line.specs.Audits.{Judged, kept, IsKeptLog}
+use Rattle.command_line.proofs.Common.{◌≡◌, Bool, List, [], Some, map, sym, subst, inl, inr, ℕ, reverse-reverse, Calls}
+use Rattle.command_line.proofs.Common.{CarrierKind, ClosesWhole, Crossing, Fate, Host, Judged, Life, MixedFields}
+use Rattle.command_line.proofs.Common.{AreSuited, WorldEvent, WorldState, kept, plain_calls, plain_of}
+use Rattle.command_line.proofs.Common.{subnet_calls, subnet_of, world_book}
+use Rattle.std.proofs.Common.{reverse}
+use Rattle.book_judge.proofs.lemmas.{made_twice, made_with, suited_with}
+use Rattle.book_log.specs.Log.{logged_fate}
+use Rattle.interface.specs.Host.{is_host}
 use Rattle.mixed_worlds.specs.Book.{beside_among, contacts_among, lives_among}
+use Rattle.mixed_worlds.specs.Laws.{KeepsAmong, KeepsToward}
+use Rattle.net_sim.specs.Audit.{IsWellFormed}
 use Rattle.net_sim.specs.Book.{Kept}
+use Rattle.net_sim.specs.Handed.{AreUnhanded}
+use Rattle.net_sim.specs.MixedWorlds.{strange_in}
+use Rattle.promise.specs.Safe.{SafeBook}
+use Rattle.world_keeps_streams.specs.Sent.{EachWasSent}
 use Rattle.topology.specs.declared.network.CarrierKind.TheVariants as kind
+use Rattle.command_line.specs.Audits.{IsKeptLog}
+use Rattle.command_line.specs.MixedLogs.{LoggedEither, MixedLogsFrom, MixedLogsOver}
 use Rattle.command_line.proofs.Joined.{closes_logged, logged_kept, run_twice, says_logged, suited_logged}
 use Rattle.command_line.proofs.Verdicts.MixedKept.Stamped.{well_formed}
 use Rattle.command_line.proofs.Verdicts.MixedKept.Stay.{strangers_stay}

@@ -1,10 +1,13 @@
 -- The strangers of an input are some of the hosts of its network, in the order of these.
-use Rattle.command_line.proofs.Common.{Host, TopologyFields, hosts_of, same_Some, ArePicked}
-use Rattle.std.proofs.Common.{◌≡◌, ℕ, Bool, true, false, List, Option, Some, None, sym, refl, subst, codes, if◌then◌else◌, not, ◌&&◌, filter, length, nat_le}
-use Rattle.topology.specs.Mixed.{MixedFields, all_foreign, is_foreign, items_at, mixed_by, mixed_if_read, mixed_in}
+use Rattle.command_line.proofs.Common.{◌≡◌, ℕ, Bool, true, false, List, Option, Some, None, sym, refl, subst, Host}
+use Rattle.command_line.proofs.Common.{codes, if◌then◌else◌, not, TopologyFields, MixedFields, hosts_of}
+use Rattle.std.proofs.Common.{◌&&◌, filter, length, nat_le}
+use Rattle.std.proofs.lemmas.Option.{same_Some}
 use Rattle.toml.specs.Data.{Items, Members, table}
 use Rattle.toml.specs.Parse.{parse_document}
+use Rattle.topology.specs.Mixed.{all_foreign, is_foreign, items_at, mixed_by, mixed_if_read, mixed_in}
 use Rattle.topology.specs.Naming.{network_of}
+use Rattle.command_line.specs.MixedLogs.{ArePicked}
 
 -- the strangers of a topology are some of its hosts
 abbrev pub Picks : MixedFields → Type 0

@@ -1,7 +1,8 @@
 -- What is said of a log that a replay wrote.
-use Rattle.command_line.proofs.Common.{AuditFault, Verdict, LoggedEither}
-use Rattle.std.proofs.Common.{◌≡◌, ℕ, List, [], Option, None, Some, Result, Ok, Err, IfSome, MatchResult, subst, sym}
-use Rattle.command_line.specs.Audits.{AuditsLog, IsAuditFault, IsSomeLog, SaysKept}
+use Rattle.command_line.proofs.Common.{◌≡◌, ℕ, List, [], Option, None, Some, Result, Ok, Err, IfSome, MatchResult}
+use Rattle.command_line.proofs.Common.{subst, sym, AuditsLog, AuditFault, IsAuditFault, IsSomeLog, Verdict}
+use Rattle.command_line.specs.Audits.{SaysKept}
+use Rattle.command_line.specs.MixedLogs.{LoggedEither}
 use Rattle.command_line.proofs.Joined.{never_bad, said_kept}
 use Rattle.command_line.proofs.Verdicts.MixedKept.Kept.{either_kept}
 

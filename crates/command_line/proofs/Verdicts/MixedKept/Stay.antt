@@ -1,11 +1,15 @@
 -- The strangers of a world are those that were named, whatever happens in it.
-use Rattle.command_line.proofs.Common.{Calls, WorldState, WorldEvent, shown, absent_in, opening_mixed, strange_in, WorldFault, EventGivesAmong, ReplaysBy, RunsOutBy, mixed_kind}
-use Rattle.std.proofs.Common.{◌≡◌, Bool, true, false, List, [], ◌∷◌, None, Some, Result, refl, sym, ap, ◌∙◌, inl, inr, ◌&&◌, filter}
-use Rattle.interface.specs.Host.{Host, is_host, same_host}
+use Rattle.command_line.proofs.Common.{◌≡◌, Bool, true, false, List, [], ◌∷◌, None, Some, Result, refl, sym, ap, ◌∙◌}
+use Rattle.command_line.proofs.Common.{inl, inr, Calls, Host, WorldState, WorldEvent, shown}
+use Rattle.std.proofs.Common.{◌&&◌, filter}
 use Rattle.std.proofs.lemmas.Bool.{false≢true, or_cases}
 use Rattle.std.proofs.lemmas.Map.Views.{any-filter_same}
 use Rattle.interface.proofs.lemmas.{and_true, both_ways, same_host-true}
+use Rattle.interface.specs.Host.{is_host, same_host}
+use Rattle.net_sim.specs.MixedWorlds.{absent_in, opening_mixed, strange_in}
 use Rattle.net_sim.proofs.lemmas.{calm_same, mixed_same}
+use Rattle.net_sim.specs.declared.event.WorldFault.{WorldFault}
+use Rattle.world_replay.specs.Kinds.{EventGivesAmong, ReplaysBy, RunsOutBy, mixed_kind}
 use Rattle.world_replay.specs.Output.{Shown}
 use Rattle.world_script.specs.declared.event.WorldEvent.TheVariants as mixed
 

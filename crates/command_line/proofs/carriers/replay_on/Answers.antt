@@ -1,8 +1,7 @@
-use Rattle.command_line.proofs.Common.{Keeps, subnet_calls, asked_of}
-use Rattle.std.proofs.Common.{◌≡◌, ◌⊎◌, OnOk, rules, subst}
-use Rattle.command_line.specs.Replayed.{ReplaysFrom, EndsFrom}
+use Rattle.command_line.proofs.Common.{◌≡◌, ◌⊎◌, OnOk, rules, subst, Keeps, subnet_calls, asked_of, ReplaysFrom}
 use Rattle.subnet.specs.Calls.{Kept}
 use Rattle.topology.specs.declared.network.CarrierKind.TheVariants as kind
+use Rattle.command_line.specs.Replayed.{EndsFrom}
 use Rattle.command_line.proofs.Replayed.Written.{over_all, over_part}
 use Rattle.command_line.proofs.carriers.replay_on.Goals as goal
 

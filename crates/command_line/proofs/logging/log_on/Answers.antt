@@ -1,5 +1,4 @@
-use Rattle.command_line.proofs.Common.{◌≡◌, OnOk, rules, subst, subnet_calls, asked_of}
-use Rattle.command_line.specs.Logs.{LogsFrom}
+use Rattle.command_line.proofs.Common.{◌≡◌, OnOk, rules, subst, subnet_calls, asked_of, LogsFrom}
 use Rattle.subnet.specs.Calls.{Kept}
 use Rattle.topology.specs.declared.network.CarrierKind.TheVariants as kind
 use Rattle.command_line.proofs.Replayed.Written.{logged_over}

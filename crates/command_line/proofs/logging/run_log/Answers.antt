@@ -1,4 +1,6 @@
-use Rattle.command_line.proofs.Common.{◌≡◌, Err, List, ℕ, MatchResult, OnOk, ap, rules, subst, on_ok, IsEitherFault, IsEitherInput, LogsEither}
+use Rattle.command_line.proofs.Common.{◌≡◌, Err, List, ℕ, MatchResult, OnOk, ap, rules, subst, on_ok}
+use Rattle.command_line.specs.Either.{IsEitherFault, IsEitherInput}
+use Rattle.command_line.specs.MixedLogs.{LogsEither}
 use Rattle.command_line.proofs.Replayed.MixedLogs.{any_logged}
 use Rattle.command_line.proofs.Replayed.Either.{at_known, unread_either}
 use Rattle.command_line.proofs.logging.run_log.Goals as goal

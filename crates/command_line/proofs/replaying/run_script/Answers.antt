@@ -1,4 +1,5 @@
-use Rattle.command_line.proofs.Common.{◌≡◌, Err, List, ℕ, MatchResult, OnOk, ap, rules, subst, on_ok, IsEitherFault, IsEitherInput, ReplaysEither, StopsEither}
+use Rattle.command_line.proofs.Common.{◌≡◌, Err, List, ℕ, MatchResult, OnOk, ap, rules, subst, on_ok, IsEitherFault}
+use Rattle.command_line.proofs.Common.{IsEitherInput, ReplaysEither, StopsEither}
 use Rattle.command_line.specs.Stopping.{NothingOr}
 use Rattle.command_line.proofs.Replayed.Either.{at_known, part_either, ran_either, unread_either}
 use Rattle.command_line.proofs.replaying.run_script.Goals as goal

@@ -1,5 +1,6 @@
-use Rattle.session.proofs.Common.{All-cons, All-nil, IsLine}
 use Rattle.std.proofs.Common.{◌≡◌, ◌==◌, ℕ, zero, suc, List, [], ◌∷◌, codes, false, inl, ap, sym, ◌∙◌, refl, take}
+use Rattle.std.proofs.lemmas.List.Elements.{All-cons, All-nil}
+use Rattle.session.specs.Hearing.{IsLine}
 use Rattle.session.specs.Laws.{Echoes, two}
 use Rattle.session.specs.Turns.{Turn, answers_of, script_of}
 use Rattle.session.proofs.Turns.{take_none}

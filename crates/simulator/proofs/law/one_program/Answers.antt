@@ -1,4 +1,4 @@
-use Rattle.std.proofs.Common.{refl}
+use Rattle.simulator.proofs.Common.{refl}
 use Rattle.simulator.proofs.OneProgram.{audited_kept, invented, no_input, replay_part, same_replay, trace_part}
 use Rattle.simulator.proofs.Traces.EitherTrace.{either_trace}
 use Rattle.simulator.proofs.law.one_program.Goals as goal

@@ -1,5 +1,5 @@
-use Rattle.simulator.proofs.Common.{ap, ◌∙◌, length, IsScriptOf}
 use Rattle.command_line.proofs.lemmas.{mixed_wants}
+use Rattle.simulator.proofs.Common.{ap, ◌∙◌, IsScriptOf, length}
 use Rattle.simulator.proofs.Traces.MixedTraced.{mixed_fit}
 use Rattle.simulator.proofs.mixed_tracing.read_mixed_scripted.Goals as goal
 

@@ -1,7 +1,7 @@
-use Rattle.simulator.proofs.Common.{◌≡◌, ◌⊎◌, Err, List, ℕ, OnOk, rules, subst, Keeps}
-use Rattle.simulator.specs.MixedTraced.{MixedTraceEndsOn, MixedTracesOn}
-use Rattle.command_line.proofs.lemmas.{unwritten, mixed_read}
+use Rattle.simulator.proofs.Common.{◌≡◌, ◌⊎◌, Err, List, ℕ, OnOk, rules, subst, Keeps, MixedTraceEndsOn, MixedTracesOn}
+use Rattle.command_line.proofs.lemmas.{unwritten}
 use Rattle.simulator.proofs.Traces.MixedTraced.{mixed_stopped, mixed_traced}
+use Rattle.command_line.proofs.lemmas.{mixed_read}
 use Rattle.simulator.proofs.Traces.Traced.{only_replayed}
 use Rattle.simulator.proofs.mixed_tracing.trace_mixed.Goals as goal
 

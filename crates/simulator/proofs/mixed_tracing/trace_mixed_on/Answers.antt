@@ -1,6 +1,4 @@
-use Rattle.simulator.proofs.Common.{shown, Keeps, subnet_calls, subnet_inside, subnet_of, Kept, MixedFields}
-use Rattle.std.proofs.Common.{◌≡◌, ◌⊎◌, ◌∙◌, OnOk, ap, refl, rules, subst}
-use Rattle.simulator.specs.MixedTraced.{MixedTraceEndsFrom, MixedTracesFrom}
+use Rattle.simulator.proofs.Common.{◌≡◌, ◌⊎◌, ◌∙◌, OnOk, ap, refl, rules, subst, shown, Keeps, subnet_calls, subnet_inside, subnet_of, Kept, MixedFields, MixedTraceEndsFrom, MixedTracesFrom}
 use Rattle.leader1822.specs.Boxes.{Boxes}
 use Rattle.std.specs.Prelude.{zip}
 use Rattle.topology.specs.Topology.{hosts_of}

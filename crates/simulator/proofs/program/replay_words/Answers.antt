@@ -1,9 +1,10 @@
-use Rattle.simulator.proofs.Common.{Keeps, Options, ScriptFault}
-use Rattle.std.proofs.Common.{◌≡◌, ◌⊎◌, ℕ, List, Option, Result, Err, IfSome, OnOk, false, map, ap, refl, subst, string_bytes}
-use Rattle.simulator.specs.Program.{Sides, sides}
-use Rattle.command_line.specs.Either.{RanEither, ReplaysEither, StopsEither, RanEitherInPart}
+use Rattle.simulator.proofs.Common.{◌≡◌, ◌⊎◌, ℕ, List, Option, Result, Err, IfSome, OnOk, false, map, ap, refl, subst, Keeps, Options, ScriptFault, Sides, RanEither, ReplaysEither, StopsEither}
 use Rattle.replay.specs.declared.print.Detail.{Detail}
-use Rattle.command_line.specs.Options.{options_of, options_in}
+use Rattle.command_line.specs.Either.{RanEitherInPart}
+use Rattle.command_line.specs.Options.{options_of}
+use Rattle.std.proofs.Common.{string_bytes}
+use Rattle.command_line.specs.Options.{options_in}
+use Rattle.simulator.specs.Program.{sides}
 use Rattle.command_line.specs.declared.fault.ScriptFault.TheVariants as fault
 use Rattle.simulator.proofs.Jobs.{asked_ends, keeps_same, no_memory, replayed_if}
 use Rattle.simulator.proofs.program.replay_words.Goals as goal

@@ -1,5 +1,4 @@
-use Rattle.simulator.proofs.Common.{◌⊎◌, List, ℕ, OnOk, subst, Keeps, asked_of, ScriptFault}
-use Rattle.simulator.specs.Traced.{TracesOn, EndsOn}
+use Rattle.simulator.proofs.Common.{◌⊎◌, List, ℕ, OnOk, subst, Keeps, asked_of, ScriptFault, TracesOn, EndsOn}
 use Rattle.command_line.specs.Input.{IsInputFault}
 use Rattle.simulator.proofs.Traces.MixedTraced.{either_stopped, either_traced, plain_stopped, plain_traced}
 use Rattle.command_line.proofs.lemmas.{either_read, follow_fault, input_fault, plain_fault, plain_read}

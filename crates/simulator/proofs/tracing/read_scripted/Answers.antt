@@ -1,5 +1,5 @@
-use Rattle.simulator.proofs.Common.{ap, ◌∙◌, length, asked_of, IsScriptOf}
 use Rattle.command_line.proofs.lemmas.{input_wants}
+use Rattle.simulator.proofs.Common.{ap, ◌∙◌, asked_of, IsScriptOf, length}
 use Rattle.simulator.proofs.Traces.Traced.{lines_fit}
 use Rattle.simulator.proofs.tracing.read_scripted.Goals as goal
 

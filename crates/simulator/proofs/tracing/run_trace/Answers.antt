@@ -1,7 +1,4 @@
-use Rattle.std.proofs.Common.{◌≡◌, Err, List, ℕ, MatchResult, OnOk, ap, rules, subst}
-use Rattle.replay.proofs.lemmas.{on_ok}
-use Rattle.command_line.specs.Either.{IsEitherFault, IsEitherInput}
-use Rattle.simulator.specs.MixedTraced.{TraceStopsEither, TracesEither}
+use Rattle.simulator.proofs.Common.{◌≡◌, Err, List, ℕ, MatchResult, OnOk, ap, rules, subst, on_ok, IsEitherFault, IsEitherInput, TraceStopsEither, TracesEither}
 use Rattle.command_line.specs.Stopping.{NothingOr}
 use Rattle.simulator.proofs.Traces.MixedTraced.{any_stopped, any_traced}
 use Rattle.command_line.proofs.lemmas.{at_known, unread_either}

@@ -1,5 +1,4 @@
-use Rattle.simulator.proofs.Common.{◌≡◌, ◌⊎◌, ◌∙◌, OnOk, rules, subst, Keeps, subnet_calls, subnet_of, asked_of, subnet_inside, Kept}
-use Rattle.simulator.specs.Traced.{EndsAll, TracesAll}
+use Rattle.simulator.proofs.Common.{◌≡◌, ◌⊎◌, ◌∙◌, OnOk, rules, subst, Keeps, subnet_calls, subnet_of, asked_of, subnet_inside, EndsAll, TracesAll, Kept}
 use Rattle.topology.specs.declared.network.CarrierKind.TheVariants as kind
 use Rattle.simulator.proofs.Traces.Traced.{ends_over, traced_over}
 use Rattle.simulator.proofs.tracing.trace_on.Goals as goal
