@@ -23,6 +23,12 @@ import { cpus, loadavg, tmpdir } from "node:os";
  */
 
 /**
+ * How a page is looked at: as on paper, in the dark, or, without a word, in the light on a screen.
+ *
+ * @typedef {{paper?: boolean, dark?: boolean}} Look
+ */
+
+/**
  * A browser with one page.
  *
  * @typedef {object} Browser
@@ -31,8 +37,7 @@ import { cpus, loadavg, tmpdir } from "node:os";
  * @property {(body: string) => Promise<any>} evaluate runs the body of an async function in the page, and gives what it
  *     returns
  * @property {(width: number, height: number) => Promise<void>} resize sets the size of the page, in CSS pixels
- * @property {(how: {paper?: boolean, dark?: boolean}) => Promise<boolean>} look shows the page as on paper or in the
- *     dark, and answers whether the browser can: only Chromium does
+ * @property {(how: Look) => Promise<void>} look shows the page as on paper or in the dark, until another one is opened
  * @property {(file: string) => Promise<void>} shoot writes a picture of the page
  * @property {(file: string) => Promise<void>} print writes what is printed of the page, as PDF
  * @property {() => Promise<Spoken[]>} tree what a screen reader gets, in order: only Chromium says it
@@ -114,6 +119,25 @@ function within(promise, what, browser) {
 }
 
 /**
+ * Shows a page as on paper or in the dark where its browser has no call for that: the page's own rules for it hold, and
+ * no others. It runs in the page.
+ *
+ * @param {Look} how
+ */
+function shown({ paper, dark }) {
+    const known = /** @type {{written?: Map<any, string>}} */ (/** @type {unknown} */ (window));
+    const written = (known.written ??= new Map()); // what rules ask for, as they were written
+    const rules = [...document.styleSheets].flatMap((sheet) => [...sheet.cssRules].filter((it) => "media" in it));
+    for (const rule of /** @type {any[]} */ (rules)) {
+        if (!written.has(rule)) written.set(rule, rule.media.mediaText);
+        const asked = written.get(rule) ?? "";
+        const holds = (paper && asked === "print") || (dark && asked.includes("dark"));
+        rule.media.mediaText = holds ? "all" : asked;
+    }
+    document.documentElement.style.colorScheme = dark ? "dark" : "";
+}
+
+/**
  * Asks until something is there.
  *
  * @template Answer
@@ -128,6 +152,16 @@ async function until(look, what, browser) {
         if (found) return found;
     }
     throw new Error(`never: ${what}`);
+}
+
+/**
+ * A script that calls its last argument with what the body of an async function returns, or why it doesn't.
+ *
+ * @param {string} body
+ */
+function answering(body) {
+    return `const done = arguments[0];
+        (async () => {${body}})().then((it) => done({ it }), (why) => done({ why: String(why) }))`;
 }
 
 /**
@@ -252,7 +286,6 @@ export async function chromium(program) {
         async look({ paper, dark }) {
             const features = [{ name: "prefers-color-scheme", value: dark ? "dark" : "light" }];
             await ask("Emulation.setEmulatedMedia", { media: paper ? "print" : "", features });
-            return true;
         },
         async shoot(file) {
             writeFileSync(file, (await ask("Page.captureScreenshot", {})).data, "base64");
@@ -342,18 +375,17 @@ export async function firefox(program) {
     await within(greeted, "Firefox's greeting", child.pid);
     await ask("WebDriver:NewSession", {});
     await ask("WebDriver:SetTimeouts", { script: 1000 * LONGEST, pageLoad: 1000 * LONGEST });
+    const evaluate = async (/** @type {string} */ body) => {
+        const { value } = await ask("WebDriver:ExecuteAsyncScript", { script: answering(body), args: [] });
+        if (value.why) throw new Error(value.why);
+        return value.it;
+    };
     return {
         name: "Firefox",
         async open(url) {
             await ask("WebDriver:Navigate", { url });
         },
-        async evaluate(body) {
-            const script = `const done = arguments[0];
-                (async () => {${body}})().then((it) => done({ it }), (why) => done({ why: String(why) }))`;
-            const { value } = await ask("WebDriver:ExecuteAsyncScript", { script, args: [] });
-            if (value.why) throw new Error(value.why);
-            return value.it;
-        },
+        evaluate,
         async resize(width, height) {
             await ask("WebDriver:SetWindowRect", { width, height });
             // the window is larger than its page
@@ -361,7 +393,7 @@ export async function firefox(program) {
             const { value: [beside, above] } = await ask("WebDriver:ExecuteScript", { script, args: [] });
             await ask("WebDriver:SetWindowRect", { width: width + beside, height: height + above });
         },
-        look: async () => false,
+        look: (how) => evaluate(`(${shown})(${JSON.stringify(how)});`),
         async shoot(file) {
             writeFileSync(file, (await ask("WebDriver:TakeScreenshot", { full: false })).value, "base64");
         },
@@ -463,18 +495,17 @@ export async function webkit(program) {
     await until(() => ask("GET", "/status").then((it) => it.ready, () => false), "WebKit listens", id);
     const session = `/session/${(await ask("POST", "/session", { capabilities: {} })).sessionId}`;
     await ask("POST", `${session}/timeouts`, { script: 1000 * LONGEST, pageLoad: 1000 * LONGEST });
+    const evaluate = async (/** @type {string} */ body) => {
+        const value = await ask("POST", `${session}/execute/async`, { script: answering(body), args: [] });
+        if (value.why) throw new Error(value.why);
+        return value.it;
+    };
     return {
         name: "WebKit",
         async open(url) {
             await ask("POST", `${session}/url`, { url });
         },
-        async evaluate(body) {
-            const script = `const done = arguments[0];
-                (async () => {${body}})().then((it) => done({ it }), (why) => done({ why: String(why) }))`;
-            const value = await ask("POST", `${session}/execute/async`, { script, args: [] });
-            if (value.why) throw new Error(value.why);
-            return value.it;
-        },
+        evaluate,
         async resize(width, height) {
             // the window is larger than its page, and comes to its size by and by
             let [beside, above] = [0, 0];
@@ -492,7 +523,7 @@ export async function webkit(program) {
             }
             throw new Error(`WebKit's window does not come to ${width} by ${height}`);
         },
-        look: async () => false,
+        look: (how) => evaluate(`(${shown})(${JSON.stringify(how)});`),
         async shoot(file) {
             writeFileSync(file, await ask("GET", `${session}/screenshot`), "base64");
         },

@@ -28,11 +28,14 @@
  * Makes what trials use, in the page.
  *
  * @param {number} slow how many times longer things may take, for what else the machine has to do
+ * @param {string} sought where a fault is planted, the words that have to be found: the trial ends with them, and what
+ *     never comes for its sake is awaited for a short time only. "" where all that is wrong is asked for
  * @returns {Page}
  */
-export function makePage(slow) {
+export function makePage(slow, sought) {
     /** @type {string[]} */
     const wrong = [];
+    const isSought = (/** @type {string} */ what) => sought !== "" && what.includes(sought);
     // some milliseconds of the processor: waits are counted in work, since a clock goes on while the machine does else
     const work = () => {
         let found = 0;
@@ -57,7 +60,8 @@ export function makePage(slow) {
         focused: () => document.activeElement,
         pause: (milliseconds) => new Promise((go) => setTimeout(() => go(), milliseconds)),
         async until(holds, what, seconds = 15) {
-            for (let at = 0; at < 40 * seconds * slow; at += 1) {
+            const most = isSought(what) ? Math.min(3, seconds) : seconds;
+            for (let at = 0; at < 40 * most * slow; at += 1) {
                 if (holds()) return;
                 work();
                 await page.pause(25);
@@ -92,7 +96,9 @@ export function makePage(slow) {
             on.dispatchEvent(new KeyboardEvent("keydown", { key: name, bubbles: true, cancelable: true, ...more }));
         },
         want(holds, what) {
-            if (!holds) wrong.push(what);
+            if (holds) return;
+            wrong.push(what);
+            if (isSought(what)) throw new Error("the fault is found");
         },
     };
     return page;

@@ -11,10 +11,9 @@
 
 import { mkdtempSync, readFileSync, rmSync, writeFileSync } from "node:fs";
 import { tmpdir } from "node:os";
-import { gunzipSync } from "node:zlib";
 
-import { octetsOf } from "../run/base85.js";
 import { chromium, firefox, load, webkit } from "./browser.js";
+import { opened, PLANTED } from "./planted.js";
 import * as trials from "./trials.js";
 
 /** @typedef {import("./browser.js").Browser} Browser */
@@ -56,17 +55,31 @@ const WITH_PROGRAMS = ["lo-of-login", "from-a-terminal-to-a-server", "resets-in-
 /** @typedef {(page: Page, given: any) => void | Promise<void>} Trial a function that runs in the page, given a value */
 
 /**
- * Runs trials in the page, one after the other; what they find wrong.
+ * Runs trials in the page, one after the other; what they find wrong, also where one breaks off.
  *
  * @param {Browser} browser
  * @param {[Trial, any?][]} tried
  * @returns {Promise<string[]>}
  */
-async function trial(browser, ...tried) {
+function trial(browser, ...tried) {
+    return findings(browser, "", tried);
+}
+
+/**
+ * What trials find wrong, up to the first thing that has these words.
+ *
+ * @param {Browser} browser
+ * @param {string} sought the words; "" for all that is wrong
+ * @param {[Trial, any?][]} tried
+ * @returns {Promise<string[]>}
+ */
+async function findings(browser, sought, tried) {
     const calls = tried.map(([body, given]) => `await (${body})(page, ${JSON.stringify(given ?? null)});`);
-    const page = `const page = (${trials.makePage})(${load()}); await page.ready();`;
+    const page = `const page = (${trials.makePage})(${load()}, ${JSON.stringify(sought)});`;
+    const broke = 'page.wrong.push("a trial broke off: " + (why instanceof Error ? why.message : why));';
+    const all = `try { await page.ready();\n${calls.join("\n")} } catch (why) { ${broke} }`;
     try {
-        return await browser.evaluate(`${page}\n${calls.join("\n")}\nreturn page.wrong;`);
+        return await browser.evaluate(`${page}\n${all}\nreturn page.wrong;`);
     } catch (why) {
         return [`a trial broke off: ${why instanceof Error ? why.message : why}`];
     }
@@ -139,257 +152,13 @@ function messageOnEachLink() {
 }
 
 /** What trials are given, by their names. */
-const GIVEN = /** @type {{[name: string]: () => string}} */ ({
+const GIVEN = /** @type {{[name: string]: (() => string) | undefined}} */ ({
     large: largeNetwork,
     legible: () => "arpanet-of-july-1977",
     namedOnPaper: () => "arpanet-of-july-1977",
     uncovered: () => PACKETS,
     linked: messageOnEachLink,
 });
-
-/**
- * A fault for the page.
- *
- * @typedef {object} Planted
- * @property {string} what
- * @property {string} from what it changes in the page
- * @property {string} to
- * @property {keyof typeof trials | "spoken"} by the trial that has to find it, or what is spoken
- * @property {[number, number]} [size]
- * @property {string} [only] the browser that shows it, where others do not
- * @property {string} words what has to be found
- */
-
-const STYLE = "</style>";
-
-const PLANTED = /** @type {Planted[]} */ ([
-    {
-        what: "what a clause says of a life is not shown",
-        from: "told.hidden = !isOpen;",
-        to: "told.replaceChildren(); return;",
-        by: "booked",
-        words: "promise",
-    },
-    {
-        what: "the sheet has no height where the page is low",
-        from: STYLE,
-        to: `@media (max-height: 500px) { main { grid-template-rows: 10rem 0 0 !important; height: 0 } }${STYLE}`,
-        by: "measured",
-        size: [720, 450],
-        words: "has room",
-    },
-    {
-        what: "a low page whose step buttons are at its end",
-        from: STYLE,
-        to: `:root[data-low] body { display: block !important; height: auto !important }${STYLE}`,
-        by: "reached",
-        size: [740, 360],
-        words: "high at 360",
-    },
-    {
-        what: "an address that is cut off is opened as none",
-        from: 'if (place === "cut") return this.unopened(CUT);',
-        to: 'if (place === "cut") return false;',
-        by: "unopened",
-        words: "why nothing is opened",
-    },
-    {
-        what: "a sentence with another host's name",
-        from: 'hostName(network, words[place] ?? "")',
-        to: 'hostName(network, words[name === "source" ? 1 : place] ?? "")',
-        by: "named",
-        words: "who sends and takes",
-    },
-    {
-        what: "a step that is skipped",
-        from: "next: () => this.step(1),",
-        to: "next: () => this.step(2),",
-        by: "stepped",
-        words: "next goes one step",
-    },
-    {
-        what: "a refused event among those that are possible",
-        from: 'if (!printed.some((line) => line.startsWith("refused ")))',
-        to: "if (true)",
-        by: "happening",
-        words: "refused: ",
-    },
-    {
-        what: "a goal that is judged by its first part",
-        from: "readPattern(goal.pattern)",
-        to: 'readPattern(goal.pattern.split(" then ")[0])',
-        by: "judged",
-        words: "too early",
-    },
-    {
-        what: "a zoom that loses labels",
-        from: 'element.classList.toggle("folded", !put);',
-        to: 'element.classList.toggle("folded", !put || this.port.scale > 1.5);',
-        by: "large",
-        words: "labels are left out from near",
-    },
-    {
-        what: "a row that is looked for once, where heights are not known yet",
-        from: 'classList.contains("many") ? 3 : 0',
-        to: 'classList.contains("many") ? 0 : 0',
-        by: "followed",
-        size: [360, 740],
-        only: "Chromium",
-        words: "the present row is not seen",
-    },
-    {
-        what: "a replay that is cut off early",
-        from: "octets: 36_000_000",
-        to: "octets: 400_000",
-        by: "linked",
-        words: "does not come to its end",
-    },
-    {
-        what: "lines side by side that are not folded",
-        from: "const NEAR = 14;",
-        to: "const NEAR = 0;",
-        by: "bundles",
-        words: "lines are folded",
-    },
-    {
-        what: "names that are put on others",
-        from: "put.every((it) => !meet(rect, it, GAP))",
-        to: "true",
-        by: "legible",
-        words: "lies on",
-    },
-    {
-        what: "doors that stay over a lesson",
-        from: "if (this.history) this.doors.show(false);",
-        to: "",
-        by: "entered",
-        words: "the doors stay",
-    },
-    {
-        what: "packets that are put on names",
-        from: "const SHIFTS = [0, ",
-        to: "const SHIFTS = [0]; const NONE = [",
-        by: "uncovered",
-        size: [390, 844],
-        words: "lies on a name",
-    },
-    {
-        what: "letters that shrink with the map",
-        from: "const unit = frame.unit * grown(",
-        to: "const unit = 0.8 * frame.unit * grown(",
-        by: "legible",
-        size: [1280, 800],
-        words: "letters of",
-    },
-    {
-        what: "sites of the lesson that have no weight on the map",
-        from: "this.named.has(number) ? 16 : 0",
-        to: "this.named.has(number) ? -16 : 0",
-        by: "legible",
-        size: [390, 844],
-        words: "has no name on the map",
-    },
-    {
-        what: "sites of the lesson that have no weight on paper",
-        from: "map.name(impsNamed(history.replay.input.events",
-        to: "void (impsNamed(history.replay.input.events",
-        by: "namedOnPaper",
-        words: "has no name on the map",
-    },
-    {
-        what: "buttons that do not fit",
-        from: STYLE,
-        to: `@media (max-width: 560px) { #foot .group button { min-width: 14rem } }${STYLE}`,
-        by: "measured",
-        size: [390, 844],
-        words: "wide at",
-    },
-    {
-        what: "a step takes the focus",
-        from: "next: () => this.step(1),",
-        to: 'next: () => { this.step(1); byId("next").blur(); },',
-        by: "keys",
-        words: "takes the focus",
-    },
-    {
-        what: "space plays on a button, too",
-        from: 'isButton ? {} : { " ": () => bench.player.toggle() }',
-        to: '{ " ": () => bench.player.toggle() }',
-        by: "keys",
-        words: "space on a button plays",
-    },
-    {
-        what: "pale rows",
-        from: STYLE,
-        to: `.row.future { opacity: 0.34 !important }${STYLE}`,
-        by: "contrast",
-        words: "contrast",
-    },
-    {
-        what: "a comment that shows while the future is hidden",
-        from: "const isHidden = hidden && !isPast;",
-        to: 'const isHidden = hidden && !isPast && row.kind !== "comment";',
-        by: "hidden",
-        words: "a row of the future",
-    },
-    {
-        what: "cells that a step changed are not framed",
-        from: 'were !== null && old.get(name) !== text',
-        to: "false",
-        by: "holding",
-        words: "is not framed",
-    },
-    {
-        what: "distances that a step changed are not framed",
-        from: "changed.has(`${imp} ${column}`)",
-        to: "false",
-        by: "distances",
-        words: "is not framed",
-    },
-    {
-        what: "counters as they are in the end",
-        from: "const talk = this.talk.goTo(position);",
-        to: "const talk = this.talk.goTo(history.length);",
-        by: "holding",
-        words: "sent: ",
-    },
-    {
-        what: "the index opens at a button of its head",
-        from: 'this.list.querySelector("button")?.focus();',
-        to: "",
-        by: "compared",
-        words: "doesn't begin at its first lesson",
-    },
-    {
-        what: "the map as it was shows what is now",
-        from: "const place = placeBeside(was.replay, history.replay, position);",
-        to: "const place = was.length;",
-        by: "compared",
-        words: "alike",
-    },
-    {
-        what: "a part of the map that is said twice",
-        from: "say(element.children[0], text);",
-        to: 'say(element.children[0], text); set(element, { "aria-label": text });',
-        by: "spoken",
-        words: "said twice: ",
-    },
-    {
-        what: "a button whose name is a sign",
-        from: 'aria-label="Next step"',
-        to: 'aria-label="▶"',
-        by: "spoken",
-        words: "no name in words",
-    },
-    {
-        what: "text that runs over its cell on paper",
-        from: STYLE,
-        to: `@media print { #handout td { white-space: nowrap } }${STYLE}`,
-        by: "paper",
-        size: [794, 1123],
-        words: "on paper",
-    },
-]);
 
 /** What a reader comes to on the way through the page, in this order. */
 const WAY = [
@@ -433,12 +202,14 @@ async function heard(browser, isWhole = true) {
  * What is wrong for who hears the page: at a step with each table, in the editor, in a menu, and in the index.
  *
  * @param {Browser} browser
+ * @param {string} [sought] words with which it ends; without them it tells all
  * @returns {Promise<string[]>}
  */
-async function spoken(browser) {
+async function spoken(browser, sought) {
     /** @type {string[]} */
     const wrong = [];
     const look = async (/** @type {string} */ what, /** @type {[Trial, any?][]} */ tried, isWhole = true) => {
+        if (sought && wrong.some((it) => it.includes(sought))) return;
         wrong.push(...(await trial(browser, ...tried)));
         wrong.push(...(await heard(browser, isWhole)).map((it) => `${what}: ${it}`));
     };
@@ -453,32 +224,23 @@ async function spoken(browser) {
     return wrong;
 }
 
-/**
- * A page with its code in it as it is written, and with a policy that allows other scripts and styles, so that faults can
- * be planted.
- *
- * @param {string} page
- */
-function opened(page) {
-    const [block, packed] = /<script [^>]* id="code">([^<]*)<\/script>/.exec(page) ?? ["", ""];
-    const code = new TextDecoder().decode(gunzipSync(octetsOf(packed)));
-    return page
-        .replace(block, "")
-        .replace(/(<script type="module">)[^]*?(?=<\/script>)/, (_, start) => start + code)
-        .replace(/'sha256-[^']*'/g, "'unsafe-inline'");
-}
+/** @type {Trial} the page has its dark colours */
+const darkened = ({ want }) => {
+    const ground = getComputedStyle(document.body).backgroundColor;
+    const parts = (ground.match(/\d+/g) ?? []).slice(0, 3).map(Number);
+    want(parts.every((it) => it < 80), `in the dark the page is ${ground}`);
+};
 
 /**
- * The dark colours, and what is printed, where the browser can show them.
+ * The dark colours, and what is printed.
  *
  * @param {Browser} browser
  * @returns {Promise<string[]>}
  */
 async function darkAndPaper(browser) {
     const { contrast, namedOnPaper, paper } = trials;
-    if (!(await browser.look({ dark: true }))) return [];
-    /** @type {string[]} */
-    const wrong = [];
+    await browser.look({ dark: true });
+    const wrong = await trial(browser, [darkened]);
     for (const name of SHOWN) {
         const found = await trial(browser, [openAt, [name, 0.6]], [contrast]);
         wrong.push(...found.map((it) => `${name} in the dark: ${it}`));
@@ -627,7 +389,8 @@ const PARTS = /** @type {{[name: string]: (browser: Browser) => Promise<Found>}}
 });
 
 /**
- * Plants each fault in the page; those that aren't found are wrong.
+ * Plants each fault in the page; those that aren't found are wrong. A page that is opened anew for each fault takes most
+ * of the time, so its trial ends with the first thing that shows it.
  *
  * @param {Browser} browser
  * @param {string} page
@@ -635,42 +398,56 @@ const PARTS = /** @type {{[name: string]: (browser: Browser) => Promise<Found>}}
  */
 async function faults(browser, page) {
     const room = mkdtempSync(`${tmpdir()}/workbench-`);
-    const missed = await planted(browser, opened(readFileSync(page, "utf8")), `${room}/planted.html`);
+    const whole = opened(readFileSync(page, "utf8"));
+    /** @type {string[]} */
+    const wrong = [];
+    let tried = 0;
+    for (const fault of PLANTED) {
+        const began = Date.now();
+        if (!(await shows(browser, fault))) continue;
+        tried += 1;
+        const found = await planted(browser, fault, whole, `${room}/planted.html`);
+        console.log(`${Math.round((Date.now() - began) / 1000)} s: ${fault.what}`);
+        if (found.some((it) => it.includes(fault.words))) continue;
+        wrong.push(`a planted fault was not found: ${fault.what}: ${found.slice(0, 3).join("; ") || "nothing is wrong"}`);
+    }
     rmSync(room, { recursive: true, force: true });
-    const found = `${PLANTED.length - missed.length} planted faults found`;
-    return { wrong: missed.map((it) => `a planted fault was not found: ${it}`), tried: found };
+    return { wrong, tried: `${tried - wrong.length} of ${tried} planted faults found` };
 }
 
 /**
- * Plants each fault in the page, and answers those that are not found.
+ * Whether a browser can show what a fault does.
  *
  * @param {Browser} browser
- * @param {string} page that is opened
- * @param {string} file where a page with a fault is put
+ * @param {import("./planted.js").Planted} fault
  */
-async function planted(browser, page, file) {
-    /** @type {string[]} */
-    const missed = [];
-    for (const { what, from, to, by, size, only, words } of PLANTED) {
-        if (only && only !== browser.name) continue;
-        if (!page.includes(from)) missed.push(`${what}: there is no place to plant it`);
-        if (by === "paper" && !(await browser.look({ paper: true }))) continue;
-        if (by === "spoken" && !(await browser.tree()).length) continue;
-        writeFileSync(file, page.replace(from, () => to));
-        await browser.resize(...(size ?? WIDE));
+async function shows(browser, { by, only }) {
+    return (!only || only === browser.name) && (by !== "spoken" || (await browser.tree()).length > 0);
+}
+
+/**
+ * What the trial of a fault finds wrong in a page that has it.
+ *
+ * @param {Browser} browser
+ * @param {import("./planted.js").Planted} fault
+ * @param {string} page without it
+ * @param {string} file where the page with it is put
+ * @returns {Promise<string[]>}
+ */
+async function planted(browser, { from, to, by, size, words }, page, file) {
+    if (!page.includes(from)) return ["there is no place to plant it"];
+    writeFileSync(file, page.replace(from, () => to));
+    await browser.resize(...(size ?? WIDE));
+    await browser.open(`file://${file}`);
+    if (by === "entered") { // a visit is the first one where the tab keeps nothing of another
+        await browser.evaluate("sessionStorage.clear();");
         await browser.open(`file://${file}`);
-        if (by === "entered") { // a visit is the first one where the tab keeps nothing of another
-            await browser.evaluate("sessionStorage.clear();");
-            await browser.open(`file://${file}`);
-        }
-        const given = GIVEN[by]?.();
-        const found = by === "spoken"
-            ? await spoken(browser)
-            : await trial(browser, [/** @type {Trial} */ (trials[by]), given]);
-        if (!found.some((it) => it.includes(words))) missed.push(`${what}: found only ${found.slice(0, 3).join("; ")}`);
-        if (by === "paper") await browser.look({});
     }
-    return missed;
+    await browser.look({ paper: by === "paper" });
+    const body = /** @type {{[name: string]: Trial}} */ (/** @type {unknown} */ (trials))[by];
+    const found = by === "spoken" ? await spoken(browser, words) : await findings(browser, words, [[body, GIVEN[by]?.()]]);
+    await browser.look({});
+    return found;
 }
 
 /**
