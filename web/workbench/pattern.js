@@ -3,6 +3,9 @@
  * are bound, and what must not come between. `noted`, `arrives` and `slots`, which only a trace has, are not read here.
  */
 
+import { TABLE } from "../../python/dorydate/sentences/table.mjs";
+import { filled } from "./words.js";
+
 /** @typedef {{words: string[], hasRest: boolean, ending: string[]}} Part a line */
 /** @typedef {{parts: {barred: Part[], part: Part}[], never: Part[]}} Sequel */
 /** @typedef {{left: string, sign: string, right: string}} Where */
@@ -17,8 +20,18 @@
  * @property {LastCalm} calm what is wanted of a last calm that is added; of 0 rounds nothing is
  */
 
-/** What is wrong with a pattern. */
-export class BadPattern extends Error {}
+const SAID = /** @type {{[rule: string]: string}} */ (TABLE.patterns);
+
+/** What is wrong with a pattern, in the words that ./explore has for it too. */
+export class BadPattern extends Error {
+    /**
+     * @param {string} rule
+     * @param {{[hole: string]: string | number}} [holes]
+     */
+    constructor(rule, holes = {}) {
+        super(filled(SAID[rule], holes));
+    }
+}
 
 const TRACED = ["noted", "arrives", "slots"];
 
@@ -37,10 +50,10 @@ export function readPattern(text) {
     const sequels = [];
     for (const piece of pieces) {
         const found = /^calm (\d+):(.*)$/.exec(piece);
-        if (found) calm = readCalm(Number(found[1]), found[2]);
+        if (found) calm = readCalm(number(found[1]), found[2]);
         else sequels.push(readSequel(piece));
     }
-    if (!sequels.length && !calm.rounds) throw new BadPattern("the pattern is empty");
+    if (!sequels.length && !calm.rounds) throw new BadPattern("empty");
     return { text: text.trim(), sequels, conditions: conditions.map(readWhere), calm };
 }
 
@@ -60,7 +73,7 @@ function readSequel(text) {
             barred = [];
         }
     }
-    if (!parts.length) throw new BadPattern(`\`${text}\` has no line that has to come`);
+    if (!parts.length) throw new BadPattern("nothing comes", { text });
     return { parts, never: barred };
 }
 
@@ -72,8 +85,12 @@ function readPart(text) {
     const words = text.trim().split(/\s+/).map((it) => (it === "..." ? ".." : it));
     const at = words.indexOf("..") < 0 ? words.length : words.indexOf("..");
     const ending = words.slice(at + 1);
-    if (!/^[a-z]+$/.test(words[0]) || ending.includes("..")) throw new BadPattern(`\`${text.trim()}\` is not a line`);
-    if (TRACED.includes(words[0])) throw new BadPattern(`\`${words[0]}\` is for ./explore only`);
+    const whole = { text: text.trim() };
+    if (at === 0 || !words[0] || ending.includes("..")) throw new BadPattern("no line", whole);
+    if (!/^[a-z]+$/.test(words[0])) throw new BadPattern("no beginning", whole);
+    const small = words.find((it) => /^[a-z]$/.test(it));
+    if (small) throw new BadPattern("small", { ...whole, word: small });
+    if (TRACED.includes(words[0])) throw new BadPattern("traced", { word: words[0] });
     return { words: words.slice(0, at), hasRest: at < words.length, ending };
 }
 
@@ -83,8 +100,20 @@ function readPart(text) {
  */
 function readWhere(text) {
     const found = /^\s*([A-Z]|\d+)\s*(<=|<|>|!=|=)\s*([A-Z]|\d+)\s*$/.exec(text);
-    if (!found) throw new BadPattern(`\`where${text}\` is not a comparison, as \`where M < N\``);
-    return { left: found[1], sign: found[2], right: found[3] };
+    if (!found) throw new BadPattern("no comparison", { text });
+    const [, left, sign, right] = found;
+    for (const side of [left, right]) if (/^\d/.test(side)) number(side);
+    return { left, sign, right };
+}
+
+/**
+ * A number of a pattern. No line has one of more than ten digits.
+ *
+ * @param {string} digits
+ */
+function number(digits) {
+    if (digits.length > 10) throw new BadPattern("digits", { word: digits.slice(0, 10), digits: digits.length });
+    return Number(digits);
 }
 
 /**
@@ -98,9 +127,9 @@ function readCalm(rounds, text) {
     for (const piece of text.split(",").map((it) => it.trim())) {
         const lines = /^(?:at least )?(\d+) lines$/.exec(piece);
         if (piece === "nothing") calm.nothing = true;
-        else if (lines) calm.least = Number(lines[1]);
+        else if (lines) calm.least = number(lines[1]);
         else if (piece.startsWith("no ")) calm.barred.push(readPart(`${piece.slice(3)} ..`));
-        else throw new BadPattern(`\`${piece}\` is nothing that is said of a last calm`);
+        else throw new BadPattern("calm", { text: piece });
     }
     return calm;
 }

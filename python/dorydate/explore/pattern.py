@@ -17,12 +17,20 @@ from collections.abc import Callable, Iterable, Mapping, Sequence
 from dataclasses import dataclass, field
 from functools import cached_property, lru_cache
 
+from dorydate.sentences.table import filled, sentences
+
+SAID = sentences("patterns")  # what may be wrong with one
 Names = tuple[tuple[str, str], ...]  # what is bound, in order of the names
 TRACED = frozenset({"noted", "arrives", "slots"})  # the first words of lines that only a trace has (explore.seen)
 
 
 class BadPattern(ValueError):
     """What is wrong with a pattern."""
+
+
+def bad(rule: str, **holes: object) -> BadPattern:
+    """A fault of a pattern, in the words that the workbench has for it too."""
+    return BadPattern(filled(SAID[rule], holes))
 
 
 @dataclass(frozen=True)
@@ -39,11 +47,11 @@ class Part:
         at = words.index("..") if ".." in words else len(words)
         ending = words[at + 1 :]
         if not at or ".." in ending:
-            raise BadPattern(f"`{text.strip()}` is not a line: its words, and `..` for any words once")
+            raise bad("no line", text=text.strip())
         if not re.fullmatch("[a-z]+", words[0]):
-            raise BadPattern(f"`{text.strip()}` does not begin with the first word of a printed line, such as `in` or `answer`")
+            raise bad("no beginning", text=text.strip())
         if small := next((it for it in words if re.fullmatch("[a-z]", it)), None):
-            raise BadPattern(f"`{small}` in `{text.strip()}` can't be bound: a name is a single capital, and no printed word is a single letter")
+            raise bad("small", word=small, text=text.strip())
         return Part(tuple(words[:at]), at < len(words), tuple(ending))
 
     def match(self, words: Sequence[str], names: Names) -> Names | None:
@@ -236,7 +244,7 @@ def read(text: str) -> Pattern:
         else:
             sequels.append(read_sequel(piece))
     if not sequels and not calm.rounds:
-        raise BadPattern("the pattern is empty")
+        raise bad("empty")
     return Pattern(text.strip(), tuple(sequels), tuple(map(read_where, conditions)), calm)
 
 
@@ -249,14 +257,14 @@ def read_sequel(text: str) -> Sequel:
             parts.append((tuple(barred), Part.read(piece)))
             barred = []
     if not parts:
-        raise BadPattern(f"`{text.strip()}` has no line that has to come")
+        raise bad("nothing comes", text=text.strip())
     return Sequel(tuple(parts), tuple(barred))
 
 
 def read_where(text: str) -> Where:
     found = re.fullmatch(r"\s*([A-Z]|\d+)\s*(<=|<|>|!=|=)\s*([A-Z]|\d+)\s*", text)
     if not found:
-        raise BadPattern(f"`where{text}` is not a comparison, as `where M < N`")
+        raise bad("no comparison", text=text)
     for side in (found[1], found[3]):
         if side.isdecimal():
             number(side)
@@ -266,7 +274,7 @@ def read_where(text: str) -> Where:
 def number(digits: str) -> int:
     """A number of a pattern. No line has one of more than ten digits."""
     if len(digits) > 10:
-        raise BadPattern(f"`{digits[:10]}..` has {len(digits)} digits, and no number that is printed has more than ten")
+        raise bad("digits", word=digits[:10], digits=len(digits))
     return int(digits)
 
 
@@ -280,5 +288,5 @@ def read_calm(rounds: int, text: str) -> LastCalm:
         elif piece.startswith("no "):
             barred.append(Part.read(f"{piece[3:]} .."))
         else:
-            raise BadPattern(f"`{piece}` is nothing that is said of a last calm: `nothing`, `no WORDS` or `K lines`")
+            raise bad("calm", text=piece)
     return LastCalm(rounds, nothing, least, tuple(barred))

@@ -73,6 +73,17 @@ export const TABLE = {
 "close waits": "Its CLS waits until what was sent is answered.",
 "no longer listens": "It listens no longer."
 },
+"patterns": {
+"empty": "the pattern is empty",
+"no line": "`{text}` is not a line: its words, and `..` for any words once",
+"no beginning": "`{text}` does not begin with the first word of a printed line, such as `in` or `answer`",
+"small": "`{word}` in `{text}` can't be bound: a name is a single capital, and no printed word is a single letter",
+"nothing comes": "`{text}` has no line that has to come",
+"no comparison": "`where{text}` is not a comparison, as `where M < N`",
+"digits": "`{word}..` has {digits} digits, and no number that is printed has more than ten",
+"calm": "`{text}` is nothing that is said of a last calm: `nothing`, `no WORDS` or `K lines`",
+"traced": "`{word}` is for ./explore only"
+},
 "searches": {
 "taken-and-incomplete": ["a message is taken, and its sender gets Incomplete", "raw LEFT-RIGHT", "out A B N .. then not out A B N .. then in A B N .. then not out A B N .. then answer incomplete A B N"],
 "half-open": ["a host has an open end of a connection whose other end is gone", "plain LEFT RIGHT", "not pairreset .. then up A then not down .. then life B T A S _ _ _ .. open and life A S B T .. ended and calm 20: nothing"],

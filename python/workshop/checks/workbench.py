@@ -38,7 +38,7 @@ from dorydate.model.script import Event, read_event
 from dorydate.explain.inside import Inside
 from dorydate.explain.topology import of_model
 from dorydate.explore.named import SEARCHES
-from dorydate.explore.pattern import read
+from dorydate.explore.pattern import BadPattern, read
 from dorydate.explain import faults, topologies, waits
 from dorydate.explain.book import NoSuchLine, said_of
 from dorydate.given import Input
@@ -255,6 +255,21 @@ def topologies_by_chance(count: int) -> list[tuple[str, str]]:
     return found
 
 
+# patterns with a fault each
+BAD_PATTERNS = ("", "A B", "in .. A .. B", "in a B ..", "In A", "not in A", "in A where A", "in A B where A < 12345678901", "calm 12345678901: nothing", "calm 5: quiet", "calm 5: no")
+
+
+def faults_of_patterns() -> dict[str, str]:
+    """What ./explore says is wrong with them."""
+    found = {}
+    for text in BAD_PATTERNS:
+        try:
+            read(text)
+        except BadPattern as why:
+            found[text] = str(why)
+    return found
+
+
 def patterns_by_chance(count: int) -> list[dict[str, object]]:
     """Patterns over lines of examples that were shuffled or cut, and the names with which ./explore says that they match."""
     chance = random.Random(80)
@@ -304,6 +319,7 @@ def check_modules(command: str, program: str) -> None:
             "deeds": told_of_deeds(),
             "books": books_said(),
             "patterns": patterns_by_chance(400),
+            "bad patterns": faults_of_patterns(),
         }
         json.dump(given, states)
         states.flush()

@@ -10,8 +10,16 @@ import { find, headOf, matching, searches } from "../schedules.js";
 import { readTopology } from "../topology.js";
 import { program } from "./examples.js";
 
-/** @type {{pattern: string, lines: string[], last: string[], names: {[name: string]: string} | null}[]} */
-const told = process.env.STATES ? JSON.parse(readFileSync(process.env.STATES, "utf8")).patterns ?? [] : [];
+/**
+ * What ./explore says of patterns.
+ *
+ * @type {{
+ *     patterns?: {pattern: string, lines: string[], last: string[], names: {[name: string]: string} | null}[],
+ *     "bad patterns"?: {[pattern: string]: string},
+ * }}
+ */
+const said = process.env.STATES ? JSON.parse(readFileSync(process.env.STATES, "utf8")) : {};
+const told = said.patterns ?? [];
 
 test("patterns match as they say", () => {
     const taken = ["out 0/1 0/2 5 8", "in 0/1 0/2 5 8", "answer incomplete 0/1 0/2 5"];
@@ -30,6 +38,12 @@ test("patterns match as they say", () => {
     for (const bad of ["", "not in A", "In A", "in A where A", "calm 5: some", "noted never A"]) {
         assert.throws(() => readPattern(bad), BadPattern);
     }
+});
+
+test("what is wrong with a pattern is said as ./explore says it", () => {
+    const bad = Object.entries(said["bad patterns"] ?? {});
+    for (const [pattern, message] of bad) assert.throws(() => readPattern(pattern), { message }, pattern);
+    assert(!process.env.STATES || bad.length > 8);
 });
 
 test("patterns match where ./explore says so, with its names", () => {
