@@ -119,14 +119,9 @@ class OfBooks(unittest.TestCase):
         text = "00080008000405000100000064"
         for change in ((text, text.replace("0405", "0406")), ("0/1 16 3 1 send", "0/1 16 9 1 send"), (f"in 0/1 0/2 0 104 {text}\n", "")):
             self.assertIn(none, said(13 if not change[1] else 14, change)["promise.granted"])
-        self.assertIn(
-            "more than the 1 message and 15 bits",
-            said(14, (text, text.replace("00000064", "0000000F")))["promise.granted"],
-        )
-        self.assertEqual(
-            said(14, ("16 3 1 send", "16 3 0 send"))["promise.granted"],
-            "No RTS names its link, so nothing is asked of what it sent.",
-        )
+        fewer, nameless = (text, text.replace("00000064", "0000000F")), ("16 3 1 send", "16 3 0 send")
+        self.assertIn("more than the 1 message and 15 bits", said(14, fewer)["promise.granted"])
+        self.assertEqual(said(14, nameless)["promise.granted"], "No RTS names its link, so nothing is asked of what it sent.")
 
     def test_contacts(self) -> None:
         self.assertRegex(said(10)["promise.contacts"], "^It isn't just an RST, .* with 0/1 since 0/2 last sent there")

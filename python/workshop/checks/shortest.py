@@ -171,6 +171,7 @@ def beside(by_trace: dict[str, Beside], finder: str) -> list[str]:
 
 # ---- planted faults
 
+IS_UP = "            return Err(Refusal::IsUp);"
 PLANTED = {
     "two phases of a reset are spelled alike": ("pair.rs", "to.extend([self.phase.code(), self.owed as u8]);", "to.extend([self.phase.code().min(4), self.owed as u8]);"),
     "answers that wait aren't spelled": ("boxes.rs", "                answer.spell(to);\n                flow.spell(to);", "                let _ = (answer, flow);"),
@@ -183,11 +184,7 @@ PLANTED = {
     ),
     "a place in the log is part of a state": ("world.rs", "        self.carrier.spell(to);\n", "        self.carrier.spell(to);\n        self.past.spell(to);\n"),
     "a close that is refused changes the byte size": ("program.rs", "        if end.close_asked || end.close_taken {\n", "        if end.close_asked || end.close_taken {\n            end.size ^= 1;\n"),
-    "a start of a host that is up is refused, and loses its answers": (
-        "boxes.rs",
-        "            return Err(Refusal::IsUp);",
-        "            self.known(host).answers.clear();\n            return Err(Refusal::IsUp);",
-    ),
+    "a start of a host that is up is refused, and loses its answers": ("boxes.rs", IS_UP, f"            self.known(host).answers.clear();\n{IS_UP}"),
 }
 
 
