@@ -230,8 +230,8 @@ export const PLANTED = /** @type {Planted[]} */ ([
         what: "a part of the map that is said twice",
         from: "say(element.children[0], text);",
         to: 'say(element.children[0], text); set(element, { "aria-label": text });',
-        by: "spoken",
-        words: "said twice: ",
+        by: "keys",
+        words: "hears it, or with two",
     },
     {
         what: "a button whose name is a sign",

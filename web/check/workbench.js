@@ -2,7 +2,7 @@
  * Tries the workbench in a browser: node web/check/workbench.js PAGE [PART..] BROWSER..
  *
  * The parts are --lessons, --deeds, --sizes, --maps, --looks and --faults; without one all of them are tried. Each is
- * told when it is done, since all of them take minutes.
+ * told when it is done, since all of them take minutes. --faults=WORDS plants those that are called so.
  *
  * Each lesson is stepped forth and back, parts are tapped, an address is opened again, keys and the focus are looked
  * at, and what a screen reader gets, and at each size nothing is cut and no text is on another. Faults that are
@@ -394,22 +394,22 @@ const PARTS = /** @type {{[name: string]: (browser: Browser) => Promise<Found>}}
  *
  * @param {Browser} browser
  * @param {string} page
+ * @param {string} called words of the faults that are planted, "" for all
  * @returns {Promise<Found>}
  */
-async function faults(browser, page) {
+async function faults(browser, page, called) {
     const room = mkdtempSync(`${tmpdir()}/workbench-`);
     const whole = opened(readFileSync(page, "utf8"));
     /** @type {string[]} */
     const wrong = [];
     let tried = 0;
-    for (const fault of PLANTED) {
-        const began = Date.now();
+    for (const fault of PLANTED.filter((it) => it.what.includes(called))) {
         if (!(await shows(browser, fault))) continue;
         tried += 1;
         const found = await planted(browser, fault, whole, `${room}/planted.html`);
-        console.log(`${Math.round((Date.now() - began) / 1000)} s: ${fault.what}`);
-        if (found.some((it) => it.includes(fault.words))) continue;
-        wrong.push(`a planted fault was not found: ${fault.what}: ${found.slice(0, 3).join("; ") || "nothing is wrong"}`);
+        const isFound = found.some((it) => it.includes(fault.words));
+        console.log(`${browser.name}: faults: ${isFound ? "found" : "not found"}: ${fault.what}`);
+        if (!isFound) wrong.push(`a planted fault was not found: ${fault.what}: ${found.slice(0, 3).join("; ")}`);
     }
     rmSync(room, { recursive: true, force: true });
     return { wrong, tried: `${tried - wrong.length} of ${tried} planted faults found` };
@@ -474,14 +474,17 @@ async function failsIn(browser, page, asked) {
     }
     const others = browser.requests().filter((it) => !/^(?:file|blob|data):/.test(it));
     if (others.length) console.log(`${browser.name}: the page asks for ${others[0]}`);
-    if (is("faults")) await tell("faults", () => faults(browser, page));
+    const planting = asked.find((it) => it.startsWith("faults")) ?? "faults=";
+    if (!asked.length || asked.includes(planting)) {
+        await tell("faults", () => faults(browser, page, planting.slice("faults=".length)));
+    }
     return count + others.length > 0;
 }
 
 async function main() {
     const [page, ...words] = process.argv.slice(2);
     const asked = words.filter((it) => it.startsWith("--")).map((it) => it.slice(2));
-    const unknown = asked.filter((it) => it !== "faults" && !(it in PARTS));
+    const unknown = asked.filter((it) => !/^faults(?:=|$)/.test(it) && !(it in PARTS));
     if (unknown.length) throw new Error(`there is no part ${unknown}: ${Object.keys(PARTS)}, faults`);
     const octets = new TextEncoder().encode(readFileSync(page, "utf8")).length;
     let failed = octets > MOST_OCTETS;
