@@ -25,6 +25,13 @@ impl<W: Out> Show<W> for Pair<W> {
 fn one() -> u8 {
     1
 }
+
+fn both(
+    a: u8,
+    b: u8,
+) -> u8 {
+    a + b
+}
 """
 
 
@@ -53,6 +60,11 @@ class Switched(unittest.TestCase):
         clause = "impl<W: Out> Show<W> for Pair<W> {\n    fn show<'a>(&'a self, n: u8) -> u8 {\n"
         self.assertIn(f"{clause}        {shown}\n    }}\n}}\n", text)
         self.assertIn("fn show_planted_5<'a, W: Out>(this: &'a Pair<W>, n: u8) -> u8 {\n        8 + this.n\n", text)
+
+    def test_a_head_of_several_lines_has_its_arguments(self) -> None:
+        text, there = switched(TEXT, {6: bug("    a + b\n", "    a\n")})
+        self.assertEqual(there, [6])
+        self.assertIn("    if planted::chosen(6) { both_planted_6(a, b) } else { both_unchanged_6(a, b) }\n", text)
 
     def test_what_is_in_no_function_is_left_out(self) -> None:
         self.assertEqual(switched(TEXT, {3: bug("impl<W: Out> Show", "impl Hide"), 4: bug("nothing", "")}), (TEXT, []))

@@ -105,7 +105,7 @@ class Copied:
         opens = [line == f"{it.margin}{{" or (line.endswith("{") and not CLAUSE.match(line)) for line in self.lines]
         self.opening = opens.index(True) if True in opens else 0
         self.clause = next((at for at in range(self.opening) if CLAUSE.match(self.lines[at])), self.opening)
-        head = " ".join(self.lines[: max(self.clause, 1)]).partition(f"fn {it.name}")[2]
+        head = " ".join(self.lines[: self.clause + (self.clause == self.opening)]).partition(f"fn {it.name}")[2]
         self.given = parts_at_commas(enclosed(head))
         self.is_of_trait = OF_TRAIT.fullmatch(it.block or "") is not None
         self.can = not re.search(r"\bconst fn\b|\bunsafe fn\b", self.lines[0]) and len(self.lines) > 1
