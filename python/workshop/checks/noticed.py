@@ -11,46 +11,24 @@ bug is run on the inputs of examples/, cases/ and logs/, until one ends otherwis
 from __future__ import annotations
 
 import glob
-import os
-import shutil
 import sys
 from collections import Counter
 from collections.abc import Callable, Iterator, Mapping, Sequence
 from concurrent.futures import ThreadPoolExecutor
-from dataclasses import dataclass
 from functools import partial
 
-from workshop import limited
-from workshop.builds.drivers import CORES, EXAMPLE, USES, crates_below
-from workshop.builds.switched import blamed, link, write_sources
-from workshop.builds.unproved import NotKept, build, keep, kept_for_sources
+from workshop.builds.drivers import CORES
+from workshop.builds.switching import CALLS, PROGRAM, ended, made
+from workshop.builds.unproved import NotKept
 from workshop.checks.cases import Case, cases_below
-from workshop.checks.copies import lines_of_crates
 from workshop.checks.limits import NAMES, by_program, kept
 from workshop.checks.planting import Edit, edits_of
-from workshop.parts import ROOT, read_octets, text_of
+from workshop.parts import ROOT, read_octets
 from workshop.rows import files
 from workshop.words import Words
 
-SECONDS = 30  # of the processor, for an input with a bug
 MOST_OCTETS = 10_000_000  # of an input
-FIRST = f"{ROOT}/examples/first-message"
 Trials = Mapping[str, Callable[[int], bool]]  # by the names of inputs: whether a run with a bug ends otherwise
-
-
-@dataclass(frozen=True)
-class Kind:
-    """A program: its name, the crates that it uses, its sources if it is no crate, and an input with its output."""
-
-    name: str
-    uses: str
-    sources: str | None
-    example: bytes
-    wanted: bytes
-
-
-PROGRAM = Kind("arpasim", "arpasim", None, *map(read_octets, (FIRST, f"{FIRST}.stdout")))
-CALLS = Kind("calls", USES, f"{ROOT}/tools/calls/*.rs", EXAMPLE, EXAMPLE)
 
 
 def numbered() -> dict[int, Edit]:
@@ -58,59 +36,6 @@ def numbered() -> dict[int, Edit]:
     folders = sorted(glob.glob(f"{ROOT}/crates/*/wrong-bodies"))
     crates = [it.split("/")[-2] for it in folders]
     return dict(enumerate((edit for crate in crates for edit in edits_of(crate)), 1))
-
-
-def write(kind: Kind, edits: dict[int, Edit], room: str) -> list[int]:
-    """Writes the sources of a program into a folder, and gives the numbers of the bugs that it has."""
-    lines = {name: below.split() for name, below in lines_of_crates().items()}
-    crates = {it: lines[it] for name in kind.uses.split() for it in reversed(crates_below(lines, name))}
-    there = write_sources(f"{room}/sources", crates, edits)
-    if kind.sources:
-        os.makedirs(folder := f"{room}/sources/crates/{kind.name}/src")
-        for path in glob.glob(kind.sources):
-            shutil.copy(path, f"{folder}/{os.path.basename(path).removesuffix('.rs')}.rt")
-        with open(f"{room}/sources/crates.txt", "a", encoding="utf-8") as file:
-            file.write(f"{kind.name}: {kind.uses}\n")
-    return there
-
-
-def make(kind: Kind, edits: dict[int, Edit], room: str) -> None:
-    """Builds the program into a folder without those bugs that don't compile, and writes which bugs it has."""
-    there = write(kind, edits, folder := f"{room}/0")
-    while True:
-        try:
-            build(f"{folder}/sources/crates/{kind.name}", kind.example, kind.wanted, folder, ["module.bc"])
-            break
-        except NotKept as why:
-            if not (bad := blamed(str(why)) & {*there}):
-                raise
-            for it in sorted(bad):
-                print(f"{edits[it].crate}/{edits[it].title}: does not compile", flush=True)
-            folder = f"{room}/{len(there) - len(bad)}"
-            there = write(kind, {number: edits[number] for number in there if number not in bad}, folder)
-    link(folder, f"{room}/program")
-    with open(f"{ROOT}/out/there-{kind.name}", "w", encoding="utf-8") as file:
-        file.write(" ".join(map(str, there)))
-
-
-def made(kind: Kind, edits: dict[int, Edit]) -> tuple[str, set[int]]:
-    """The program, built where it is not kept yet, and the numbers of the bugs that it has."""
-    kept_at = f"{kept_for_sources()}-switched-{kind.name}"
-    if not os.path.exists(kept_at):
-        print(f"building {kind.name} with its planted bugs, once for these sources", flush=True)
-        keep(lambda: f"{kept_for_sources()}-switched-{kind.name}", lambda room: make(kind, edits, room))
-    return kept_at, {*map(int, text_of(f"{ROOT}/out/there-{kind.name}").split())}
-
-
-def ended(program: str, words: Sequence[bytes], octets: bytes, number: int) -> tuple[int, bytes, bytes] | None:
-    """How a run with a bug ends, or None where it does not."""
-    env = {**os.environ, "PLANTED": str(number)}
-    try:
-        command = [os.fsencode(program), *words]
-        ran = limited.run_within(command, octets, SECONDS, env)
-    except limited.NotEnded:
-        return None
-    return ran.returncode, ran.stdout, ran.stderr
 
 
 def inputs() -> dict[str, Case]:
