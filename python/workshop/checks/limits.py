@@ -1,4 +1,4 @@
-"""Inputs past every limit that a library might have, against the independent models: ./check limits [--models | --write] [NAME..]
+"""Inputs past every limit that a library might have, against the independent models: ./check limits [--models | --write | --planted] [NAME..]
 
 Whatever grows can be refused for want of memory, and no contract can say whether memory really ran out. So a limit that
 somebody put into the code and reported as running out of memory would pass each proof. Here is one input for each thing
@@ -8,6 +8,10 @@ python/dorydate/model/script.py, of a log python/dorydate/model/log.py, of a tra
 
 The models take twenty minutes, so what they say is kept in limits.json: the status, what standard error has, and the number and the digest of
 the octets of the output. With `--models` they are asked anew, and have to say what is kept; `--write` keeps it.
+
+With `--planted` the limits of planted_limits.py are planted, one at a time, in a program without proofs that is built
+with all of them, in some ten minutes; each has to be noticed by the input that it names. No input is past a number that
+only 2^32 rounds lead to, as 2^32 crossings.
 """
 
 import hashlib
@@ -25,6 +29,8 @@ from dorydate.model.topology import Topology, spelled_input
 from dorydate.model.trace import ends_trace
 from dorydate.model.trace_world import ends_world
 from dorydate.model.verdict import ends_audit
+from workshop.checks.planted_limits import LIMITS as PLANTED
+from workshop.checks.planted_limits import missed
 from workshop.parts import any_program
 from workshop.words import Words
 
@@ -80,6 +86,9 @@ LINE = Topology("subnet", True, [(1, 1), (2, 1)], [(1, 2)])
 BACK, LEAVES = ["deliver 0 - 0", "drop 0 - 0"] * 2, ["take 0/1", "deliver 0 + 1", "drop 0 + 1"]
 STAYS = ["calm 2", NEAR, "deliver 0 + 0", "take 0/2", *BACK, *LEAVES]
 COMES = ["deliver 0 + 1", "drop 0 + 1", "take 0/2", *BACK]
+
+
+FLOWS = [f"out 0/1 {host}/{imp} {link} 0 -" for link in range(41) for imp in range(2, 64) for host in range(4)]
 
 
 class Limit(NamedTuple):
@@ -153,6 +162,8 @@ LIMITS: dict[str, Limit] = {
     ),
     "events among strangers": Limit([], STRANGE, ["calm 0"] * 600_000),
     "events of a log among strangers": Limit(["--log"], ODD, ["calm 0"] * 110_000),
+    "events of a log": Limit(["--log"], PAIR, ["calm 0"] * 110_000),
+    "events of a raw log": Limit(["--log"], PAIR._replace(raw=True), ["take 0/1"] * 110_000),
     "nobody but strangers": Limit(
         ["--book"],
         STRANGE._replace(foreign=[(1, [0, 1]), (2, [0, 1])]),
@@ -181,11 +192,8 @@ LIMITS: dict[str, Limit] = {
             *[NEAR, NEAR, *COMES, NEAR, *LEAVES, NEAR, "drop 0 + 0", NEAR, NEAR],
         ],
     ),
-    "flows of an IMP": Limit(
-        [],
-        MANY._replace(carrier="subnet", raw=True),
-        [f"out 0/1 {host}/{imp} {link} 0 -" for link in range(41) for imp in range(2, 64) for host in range(4)],
-    ),
+    "flows of an IMP": Limit([], MANY._replace(carrier="subnet", raw=True), FLOWS),
+    "flows of mailboxes": Limit([], MANY._replace(raw=True), FLOWS),
     "lines of a subnet": Limit(
         [],
         Topology("subnet", True, [(imp, 1) for imp in range(1, 64)], [*ring(63)]),
@@ -196,7 +204,7 @@ LIMITS: dict[str, Limit] = {
 
 FULL = f"8063 {'5A' * 1007}5A"  # the longest text of a message
 TRACES: dict[str, Limit] = {
-    "events of a trace": Limit(["--trace"], Topology("plain", True, [(1, 2), (2, 1)], []), ["take 0/1"] * 12_000),
+    "events of a trace": Limit(["--trace"], Topology("plain", True, [(1, 2), (2, 1)], []), ["take 0/1"] * 110_000),
     "the text of a part": Limit(
         ["--trace"],
         Topology("plain", True, [(1, 1), (2, 1)], []),
@@ -341,13 +349,18 @@ def differing(who: str, found: dict[str, End], wanted: dict[str, End]) -> list[s
 def main() -> int:
     """Tries all, or those that are named."""
     words = Words(__doc__).names("name", f"a limit; all, if none is named: {', '.join(NAMES)}")
-    asked = words.flag("models", "ask the models anew").flag("write", "keep what the models say").asked()
+    words.flag("models", "ask the models anew").flag("write", "keep what the models say")
+    asked = words.flag("planted", "plant limits, and name those that no input notices").asked()
     names = asked.name or NAMES
     if unknown := [it for it in names if it not in NAMES]:
         print(f"check limits: there is no limit called {unknown[0]}; there are {', '.join(NAMES)}")
         return 1
     if asked.write:
         return write(names)
+    if asked.planted:
+        ends = kept()
+        faults = [it for it in PLANTED if it.by in names]
+        return missed("limits", faults, lambda program, name, variables: by_program(program, name, variables) != ends[name])
     program = any_program()
     if program is None:
         print("check limits: there is no program of these sources")
