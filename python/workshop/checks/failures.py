@@ -11,8 +11,8 @@ Runs inputs over and over: once for each allocation, each read and each write, w
 Of the inputs of FIVE every read and write moves one octet, and so each octet is one at which a read and a write fail; then reads
 and writes are whole ones, as big as the program asks for. Of the other short examples reads and writes move 16 octets. Of the
 examples in LONG, whose output is longer than what the program gathers before it writes, reads and writes move 500 octets, and
-then are whole ones; not each of their allocations fails. Of a network of 126 strangers each allocation fails, and reads
-and writes move 500 octets.
+then are whole ones; not each of their allocations fails. Of a network of 126 strangers, of its log, its trace and the audit
+of that log each allocation fails, and reads and writes move 500 octets.
 
 So no refused allocation may end with status 0.
 
@@ -34,8 +34,11 @@ from concurrent.futures import ThreadPoolExecutor
 from dataclasses import dataclass
 from itertools import count
 
-from dorydate.model.runs import expected
+from dorydate.model.log import ends_log
+from dorydate.model.runs import End, expected
 from dorydate.model.topology import spelled_input
+from dorydate.model.trace_world import ends_world
+from dorydate.model.verdict import ends_audit
 from dorydate.program import MOST_OCTETS
 from workshop.checks.limits import ODD
 from workshop.parts import ROOT, any_program
@@ -91,18 +94,33 @@ def ways_of(name: str) -> list[Way]:
     """What fails in turn of an example."""
     if name in FIVE:
         return [Way("allocations"), *streams(1), *streams(0)]
-    if name == STRANGERS:
+    if name.startswith(STRANGERS):
         return [Way("allocations"), *streams(500)]
     return [*streams(500), *streams(0)] if name in LONG else [Way("allocations"), *streams(16)]
 
 
-def write_strangers(room: str) -> str:
-    """Writes the input of a network of 126 strangers, of whom one says RST, and what the model prints of it."""
-    _, printed, _ = expected([], ODD, [*HAILED, ""])
-    for name, octets in ((STRANGERS, spelled_input(ODD, HAILED)), (f"{STRANGERS}.stdout", printed.encode())):
-        with open(f"{room}/{name}", "wb") as file:
-            file.write(octets)
-    return f"{room}/{STRANGERS}"
+def of_strangers() -> dict[str, tuple[bytes, End]]:
+    """A network of 126 strangers, of whom one says RST, and its log, by the options that they are for: each with how the model ends."""
+    octets, log = spelled_input(ODD, HAILED), ends_log(ODD, HAILED)
+    audited = log[1].encode()
+    return {
+        "": (octets, expected([], ODD, [*HAILED, ""])),
+        "--log": (octets, log),
+        "--trace": (octets, ends_world(ODD, HAILED)),
+        "--audit": (audited, ends_audit(audited)),
+    }
+
+
+def write_strangers(room: str) -> list[str]:
+    """Writes these inputs, each with its options and how it has to end beside it, and gives their files."""
+    paths = []
+    for option, (octets, (status, printed, said)) in of_strangers().items():
+        paths.append(path := f"{room}/{STRANGERS}{option}")
+        beside = {"": octets, ".args": option.encode(), ".status": b"%d" % status, ".stdout": printed.encode(), ".stderr": said.encode()}
+        for ending, content in beside.items():
+            with open(f"{path}{ending}", "wb") as file:
+                file.write(content)
+    return paths
 
 
 class Trial:
@@ -200,7 +218,7 @@ def main() -> int:
     with tempfile.TemporaryDirectory() as room, ThreadPoolExecutor(CORES) as threads:
         before = f"{room}/failing.so"
         subprocess.run([compiler, "-O1", "-shared", "-fPIC", "-o", before, f"{ROOT}/tools/failing.c", "-ldl"], check=True)
-        paths.append(write_strangers(room))
+        paths += write_strangers(room)
         for path in paths:
             trial = Trial(program, before, room, path)
             failed = [(trial.all_of(way, threads), way) for way in ways_of(trial.name)]
