@@ -76,7 +76,11 @@ class Way:
     @property
     def name(self) -> str:
         size = {0: "whole", 1: "of one octet"}.get(self.at_most, f"of {self.at_most} octets")
-        return self.kind if self.kind == "allocations" else f"{self.kind} {size}{f', {self.how.lower()}' if self.how else ''}"
+        return (
+            self.kind
+            if self.kind == "allocations"
+            else f"{self.kind} {size}{f', {self.how.lower()}' if self.how else ''}"
+        )
 
     def variable(self) -> str:
         return {"allocations": "FAIL_ALLOCATION", "reads": "FAIL_READ", "writes": "FAIL_WRITE"}[self.kind]
@@ -116,7 +120,13 @@ def write_strangers(room: str) -> list[str]:
     paths = []
     for option, (octets, (status, printed, said)) in of_strangers().items():
         paths.append(path := f"{room}/{STRANGERS}{option}")
-        beside = {"": octets, ".args": option.encode(), ".status": b"%d" % status, ".stdout": printed.encode(), ".stderr": said.encode()}
+        beside = {
+            "": octets,
+            ".args": option.encode(),
+            ".status": b"%d" % status,
+            ".stdout": printed.encode(),
+            ".stderr": said.encode(),
+        }
         for ending, content in beside.items():
             with open(f"{path}{ending}", "wb") as file:
                 file.write(content)
@@ -145,7 +155,9 @@ class Trial:
     def run(self, variables: dict[str, str]) -> Ended:
         """How a run ends: its status and words, and its output."""
         with open(self.path, "rb") as octets:
-            ran = subprocess.run([self.program, *self.words], stdin=octets, capture_output=True, env=variables, timeout=120)
+            ran = subprocess.run(
+                [self.program, *self.words], stdin=octets, capture_output=True, env=variables, timeout=120
+            )
         return (ran.returncode, ran.stderr), ran.stdout
 
     def fail(self, way: Way, number: int) -> bool:
@@ -195,7 +207,9 @@ def check_streams(program: str) -> int:
             lost = subprocess.run([program], stdin=octets, stdout=full, stderr=subprocess.PIPE, timeout=60)
     found = [(it.returncode, it.stdout, it.stderr) == wanted for it in (endless, limited)]
     found += [was_read == MOST_OCTETS + 1, (lost.returncode, lost.stderr) == STOPPED]
-    print(f"endless input, long input, {was_read} octets of it read, full output: {'all well' if all(found) else found}")
+    print(
+        f"endless input, long input, {was_read} octets of it read, full output: {'all well' if all(found) else found}"
+    )
     return found.count(False)
 
 
@@ -213,11 +227,18 @@ def main() -> int:
         lacking("failures", "all of it", "a C compiler")
         return 1 if os.environ.get("CI") else 0
     wrong, total = 0, Counter[str]()
-    paths = [f"{ROOT}/{folder}/{name}" for folder in ("examples", "logs") for name in sorted(os.listdir(f"{ROOT}/{folder}")) if "." not in name]
+    paths = [
+        f"{ROOT}/{folder}/{name}"
+        for folder in ("examples", "logs")
+        for name in sorted(os.listdir(f"{ROOT}/{folder}"))
+        if "." not in name
+    ]
     paths = [it for it in paths if os.path.basename(it) in FIVE + LONG or os.path.getsize(it) <= LONGEST]
     with tempfile.TemporaryDirectory() as room, ThreadPoolExecutor(CORES) as threads:
         before = f"{room}/failing.so"
-        subprocess.run([compiler, "-O1", "-shared", "-fPIC", "-o", before, f"{ROOT}/tools/failing.c", "-ldl"], check=True)
+        subprocess.run(
+            [compiler, "-O1", "-shared", "-fPIC", "-o", before, f"{ROOT}/tools/failing.c", "-ldl"], check=True
+        )
         paths += write_strangers(room)
         for path in paths:
             trial = Trial(program, before, room, path)
@@ -227,6 +248,8 @@ def main() -> int:
             print(f"{trial.name}: failed in turn {'; '.join(f'{number} {way.name}' for number, way in failed)}")
             print(*sorted(trial.wrong), sep="\n", end="\n" if trial.wrong else "")
             wrong += len(trial.wrong)
-    print(f"check failures: {len(paths)} inputs; failed in turn {', '.join(f'{number} {kind}' for kind, number in total.items())}")
+    print(
+        f"check failures: {len(paths)} inputs; failed in turn {', '.join(f'{number} {kind}' for kind, number in total.items())}"
+    )
     wrong += check_streams(program)
     return 1 if wrong else 0

@@ -335,7 +335,11 @@ def write(names: list[str]) -> int:
     known = kept() if os.path.isfile(KEPT) else {}
     known |= by_models(names)
     with open(KEPT, "w", encoding="utf-8") as file:
-        file.write("{\n" + ",\n".join(f"  {json.dumps(name)}: {json.dumps(known[name])}" for name in NAMES if name in known) + "\n}\n")
+        file.write(
+            "{\n"
+            + ",\n".join(f"  {json.dumps(name)}: {json.dumps(known[name])}" for name in NAMES if name in known)
+            + "\n}\n"
+        )
     print(f"check limits: {len(names)} ends are kept")
     return 0
 
@@ -360,7 +364,9 @@ def main() -> int:
     if asked.planted:
         ends = kept()
         faults = [it for it in PLANTED if it.by in names]
-        return missed("limits", faults, lambda program, name, variables: by_program(program, name, variables) != ends[name])
+        return missed(
+            "limits", faults, lambda program, name, variables: by_program(program, name, variables) != ends[name]
+        )
     program = any_program()
     if program is None:
         print("check limits: there is no program of these sources")

@@ -20,7 +20,9 @@ from workshop.parts import ROOT, text_of
 NO_MEMORY = "return Err(AllocError);"
 STOPPED = "return Err(ScriptFault::OutOfMemory);"
 UNTRACED = "return Err(ReplayFault::OutOfMemory);"
-Shows = Callable[[str, str, Mapping[str, str]], bool]  # whether a program shows a fault on an input, with these variables
+Shows = Callable[
+    [str, str, Mapping[str, str]], bool
+]  # whether a program shows a fault on an input, with these variables
 
 
 class Fault(NamedTuple):
@@ -146,8 +148,14 @@ def missed(check: str, faults: Sequence[Fault], shows: Shows) -> int:
         alone = dict(zip(names, threads.map(lambda name: shows(program, name, planted(0)), names)))
         shown = dict(zip(some, threads.map(lambda it: it in there and shows(program, some[it].by, planted(it)), some)))
     wrong = [f"{name}: without a planted fault it ends otherwise than it should" for name in names if alone[name]]
-    wrong += [f"{some[it].title}: {'not shown by ' + some[it].by if it in there else 'has no place, or does not compile'}" for it in some if not shown[it]]
+    wrong += [
+        f"{some[it].title}: {'not shown by ' + some[it].by if it in there else 'has no place, or does not compile'}"
+        for it in some
+        if not shown[it]
+    ]
     for line in wrong:
         print(f"check {check}: {line}")
-    print(f"check {check}: {len(some)} planted faults, {[*shown.values()].count(True)} of them shown by the inputs that they name")
+    print(
+        f"check {check}: {len(some)} planted faults, {[*shown.values()].count(True)} of them shown by the inputs that they name"
+    )
     return 1 if wrong else 0

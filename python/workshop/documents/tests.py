@@ -9,7 +9,18 @@ import tempfile
 import unittest
 from unittest import mock
 
-from workshop.documents import anchors, believed, believed_words, budget, clauses, common, crates_page, dead, dialect, walks
+from workshop.documents import (
+    anchors,
+    believed,
+    believed_words,
+    budget,
+    clauses,
+    common,
+    crates_page,
+    dead,
+    dialect,
+    walks,
+)
 from workshop.documents import event_words, figures, long_clauses, named_crates, paragraphs, rules, stated, tags
 from workshop.drawings import facts, formats, hosts, network, pictures, repository
 from workshop.drawings.svg import Drawing
@@ -46,7 +57,10 @@ class Drawings(unittest.TestCase):
 
     def test_a_number_that_no_source_has_is_named(self) -> None:
         self.assertEqual(pictures.unknown_numbers(drawn((240, 20, "0 to 65,535"))), [])
-        self.assertEqual(pictures.unknown_numbers(drawn((240, 20, "0 to 65,534"))), ["pictures/test.svg: the number 65534 is not of the sources"])
+        self.assertEqual(
+            pictures.unknown_numbers(drawn((240, 20, "0 to 65,534"))),
+            ["pictures/test.svg: the number 65534 is not of the sources"],
+        )
 
     def test_a_fact_that_the_sources_have_otherwise_is_named(self) -> None:
         right, wrong = facts.FACTS["store_places"], facts.Fact(33, facts.FACTS["store_places"].places)
@@ -73,18 +87,26 @@ class Drawings(unittest.TestCase):
 
 class Pages(unittest.TestCase):
     def test_paragraphs_are_one_line(self) -> None:
-        self.assertEqual(paragraphs.joined("a\nb\n\n- c\n  d\n- e\n\n| f |\n| g |\n"), "a b\n\n- c d\n- e\n\n| f |\n| g |\n")
-        self.assertEqual(paragraphs.joined("```\na\nb\n```\n\n    code\n    more\n"), "```\na\nb\n```\n\n    code\n    more\n")
+        self.assertEqual(
+            paragraphs.joined("a\nb\n\n- c\n  d\n- e\n\n| f |\n| g |\n"), "a b\n\n- c d\n- e\n\n| f |\n| g |\n"
+        )
+        self.assertEqual(
+            paragraphs.joined("```\na\nb\n```\n\n    code\n    more\n"), "```\na\nb\n```\n\n    code\n    more\n"
+        )
 
     def test_pages_that_are_too_long_are_named(self) -> None:
-        self.assertEqual(paragraphs.too_long({"README.md": "word " * 900, "docs/a.md": "word " * (paragraphs.MOST_OF_ALL - 900)}), [])
+        self.assertEqual(
+            paragraphs.too_long({"README.md": "word " * 900, "docs/a.md": "word " * (paragraphs.MOST_OF_ALL - 900)}), []
+        )
         found = paragraphs.too_long({"README.md": "word " * 901, "docs/a.md": "word " * (paragraphs.MOST_OF_ALL - 900)})
         most = f"{paragraphs.MOST_OF_ALL + 1:,} words, of at most {paragraphs.MOST_OF_ALL:,}"
         self.assertEqual(found, ["README.md: 901 words, of at most 900", f"all pages: {most}"])
 
     def test_headings_have_the_anchors_of_the_web(self) -> None:
         with tempfile.NamedTemporaryFile("w", suffix=".md", encoding="utf-8") as file:
-            file.write("# What's *new*, here\n## `Code` in [a link](b.md)\n## Twice\n## Twice\n```\n# no heading\n```\n")
+            file.write(
+                "# What's *new*, here\n## `Code` in [a link](b.md)\n## Twice\n## Twice\n```\n# no heading\n```\n"
+            )
             file.flush()
             self.assertEqual(anchors.headings(file.name), {"whats-new-here", "code-in-a-link", "twice", "twice-1"})
 
@@ -92,7 +114,9 @@ class Pages(unittest.TestCase):
         counted = {area: dict.fromkeys(dialect.WORDS, 3) for area in dialect.AREAS}
         for most, faults in ((3, 0), (2, len(dialect.AREAS) * len(dialect.WORDS))):
             limits = {area: dict.fromkeys(dialect.WORDS, most) for area in dialect.AREAS}
-            with mock.patch.object(dialect, "counts", return_value=counted), mock.patch.object(dialect, "limits", return_value=limits):
+            with mock.patch.object(dialect, "counts", return_value=counted), mock.patch.object(
+                dialect, "limits", return_value=limits
+            ):
                 self.assertEqual(len(dialect.faults()), faults)
 
     def test_a_limit_only_falls(self) -> None:
@@ -102,7 +126,9 @@ class Pages(unittest.TestCase):
             with mock.patch.object(dialect, "LIMITS", path), mock.patch.object(dialect, "counts", return_value=counted):
                 dialect.lowered()
                 self.assertEqual(dialect.limits(), counted)
-            with mock.patch.object(dialect, "LIMITS", path), mock.patch.object(dialect, "counts", return_value={"docs": {"told": 9, "behind": 0}}):
+            with mock.patch.object(dialect, "LIMITS", path), mock.patch.object(
+                dialect, "counts", return_value={"docs": {"told": 9, "behind": 0}}
+            ):
                 dialect.lowered()
                 self.assertEqual(dialect.limits(), {"docs": {"told": 5, "behind": 0}})
 
@@ -173,12 +199,18 @@ class Rules(unittest.TestCase):
         self.assertEqual((bare.name, bare.place.line, bare.words), ("IsBare", 7, "is bare"))
 
     def test_a_function_has_what_its_contract_cites_and_the_bugs_in_it(self) -> None:
-        bugs = [rules.Bug(name, rules.Place(name), "crates/a/src/a.rt", old) for name, old in (("in", "self.len"), ("out", "self.size"))]
+        bugs = [
+            rules.Bug(name, rules.Place(name), "crates/a/src/a.rt", old)
+            for name, old in (("in", "self.len"), ("out", "self.size"))
+        ]
         count, other, shows = rules.functions_in("crates/a/src/a.rt", SOURCE, bugs)
         self.assertEqual((count.name, count.place.line, [it.name for it in count.bugs]), ("Store::count", 5, ["in"]))
         self.assertIn("count", count.cites)
         self.assertTrue(count.text.endswith("self.len\n    }"))
-        self.assertEqual((other.place.line, other.text, other.cites), (11, "    fn other(&self)\n        ensures { IsBare };", frozenset({"IsBare"})))
+        self.assertEqual(
+            (other.place.line, other.text, other.cites),
+            (11, "    fn other(&self)\n        ensures { IsBare };", frozenset({"IsBare"})),
+        )
         self.assertEqual((shows.name, shows.place.line, shows.cites), ("Store::shows", 2, frozenset({"count"})))
 
     def test_a_clause_that_is_a_record_of_laws_has_its_fields_for_clauses(self) -> None:
@@ -198,7 +230,10 @@ class Rules(unittest.TestCase):
     def test_a_rule_leads_to_the_lines_of_its_names(self) -> None:
         definition, _ = rules.definitions_in("crates/a/specs/A.antt", SPECS)
         rule = rules.Rule(definition, rules.functions_in("crates/a/src/a.rt", SOURCE, [])[:1], "`row`")
-        self.assertEqual(rules.row_of(rule), "| how many there are | [`count`](../../crates/a/specs/A.antt#L5) | [`Store::count`](../../crates/a/src/a.rt#L5) | `row` |  |")
+        self.assertEqual(
+            rules.row_of(rule),
+            "| how many there are | [`count`](../../crates/a/specs/A.antt#L5) | [`Store::count`](../../crates/a/src/a.rt#L5) | `row` |  |",
+        )
         self.assertTrue(rules.has_words("a", definition, rule.functions, ["MANY", "store"]))
         self.assertFalse(rules.has_words("a", definition, rule.functions, ["many", "few"]))
 
@@ -229,18 +264,33 @@ other thing.Big = one
 class Believed(unittest.TestCase):
     def test_a_file_has_its_definitions_and_imports(self) -> None:
         module = believed.parsed("crates/a/specs/A.antt", BELIEVED)
-        self.assertEqual({it.name: len(it.lines) for it in module.definitions.values()}, {"one": 2, "Kind": 2, "other": 2})
+        self.assertEqual(
+            {it.name: len(it.lines) for it in module.definitions.values()}, {"one": 2, "Kind": 2, "other": 2}
+        )
         self.assertEqual(module.definitions["one"].comment, ("-- a number",))
-        self.assertEqual((module.constructors, module.imports, module.modules), ({"First": "Kind"}, {"two": ("b", "B")}, {"thing": ("b", "declared.thing.Thing.TheVariants")}))
+        self.assertEqual(
+            (module.constructors, module.imports, module.modules),
+            ({"First": "Kind"}, {"two": ("b", "B")}, {"thing": ("b", "declared.thing.Thing.TheVariants")}),
+        )
 
     def test_names_are_followed_over_files_to_definitions_and_types_of_rust(self) -> None:
-        modules = {("a", "A"): believed.parsed("a", BELIEVED), ("b", "B"): believed.parsed("b", "pub use Rattle.c.specs.C.{two}\n"), ("c", "C"): believed.parsed("c", "pub two : ℕ\ntwo = 2\n")}
-        with mock.patch.object(believed, "module_of", lambda crate, path: modules.get((crate, path), believed.Module())):
+        modules = {
+            ("a", "A"): believed.parsed("a", BELIEVED),
+            ("b", "B"): believed.parsed("b", "pub use Rattle.c.specs.C.{two}\n"),
+            ("c", "C"): believed.parsed("c", "pub two : ℕ\ntwo = 2\n"),
+        }
+        with mock.patch.object(
+            believed, "module_of", lambda crate, path: modules.get((crate, path), believed.Module())
+        ):
             whole = believed.Reading()
             whole.follow(("a", "A", "other"))
         # each before those that it names
-        self.assertEqual([*whole.definitions], [("a", "A", "other"), ("a", "A", "Kind"), ("a", "A", "one"), ("c", "C", "two")])
-        self.assertEqual((whole.types, sum(it.size for it in whole.definitions.values())), ({("b", "declared.thing.Thing")}, 8))
+        self.assertEqual(
+            [*whole.definitions], [("a", "A", "other"), ("a", "A", "Kind"), ("a", "A", "one"), ("c", "C", "two")]
+        )
+        self.assertEqual(
+            (whole.types, sum(it.size for it in whole.definitions.values())), ({("b", "declared.thing.Thing")}, 8)
+        )
 
     def test_more_lines_than_may_be_are_named(self) -> None:
         with mock.patch.object(believed, "MOST_LINES", 10):
@@ -254,22 +304,32 @@ class Believed(unittest.TestCase):
             self.assertIn("lines must be believed beside the headline, of at most 10", believed.faults()[-1])
 
     def test_a_word_that_the_key_lacks_is_named(self) -> None:
-        with mock.patch.object(believed_words, "KEY", tuple(it for it in believed_words.KEY if "Contains" not in it[0])):
+        with mock.patch.object(
+            believed_words, "KEY", tuple(it for it in believed_words.KEY if "Contains" not in it[0])
+        ):
             self.assertIn("docs/measured/promise.md: the key has no word `Contains`", believed.faults())
 
     def test_the_page_begins_with_the_promise(self) -> None:
         first, *others = believed.reading()[0]
         self.assertEqual([name for _, _, name in first[1]], ["KeepsPromise"])
-        self.assertEqual([heading.strip() for heading, _ in others[1:6]], ["### `run`", "### `formed`", "### `told`", "### `safe`", "### `joined`"])
+        self.assertEqual(
+            [heading.strip() for heading, _ in others[1:6]],
+            ["### `run`", "### `formed`", "### `told`", "### `safe`", "### `joined`"],
+        )
 
 
 class Figures(unittest.TestCase):
     def test_a_figure_that_its_table_has_otherwise_is_named(self) -> None:
         bugs = figures.FIGURES["planted bugs"]()
         self.assertEqual([*figures.wrong_in("a.md", f"<!--=planted bugs-->{bugs}<!--/--> bugs")], [])
-        self.assertEqual([*figures.wrong_in("a.md", "<!--=planted bugs-->7<!--/--> bugs")], [f"a.md: `planted bugs` is {bugs}, and not 7 (./check docs --write)"])
+        self.assertEqual(
+            [*figures.wrong_in("a.md", "<!--=planted bugs-->7<!--/--> bugs")],
+            [f"a.md: `planted bugs` is {bugs}, and not 7 (./check docs --write)"],
+        )
         self.assertEqual([*figures.wrong_in("a.md", "<!--=bugs-->7<!--/-->")], ["a.md: there is no figure `bugs`"])
-        self.assertEqual(figures.written("<!--=planted bugs-->7<!--/--> bugs"), f"<!--=planted bugs-->{bugs}<!--/--> bugs")
+        self.assertEqual(
+            figures.written("<!--=planted bugs-->7<!--/--> bugs"), f"<!--=planted bugs-->{bugs}<!--/--> bugs"
+        )
 
     def test_each_figure_is_had(self) -> None:
         self.assertEqual([name for name, figure in figures.FIGURES.items() if not figure()[0].isdigit()], [])
@@ -277,7 +337,9 @@ class Figures(unittest.TestCase):
 
 class Budget(unittest.TestCase):
     def test_octets_are_counted_without_comments_and_blank_lines(self) -> None:
-        self.assertEqual(budget.octets_of("-- what it is\n\nf : ℕ -- a number\nf = a--b\n"), len("f : ℕ\nf = a--b\n".encode()))
+        self.assertEqual(
+            budget.octets_of("-- what it is\n\nf : ℕ -- a number\nf = a--b\n"), len("f : ℕ\nf = a--b\n".encode())
+        )
 
     def test_a_crate_over_its_budget_is_named(self) -> None:
         found = budget.Budget({"a": 10}, [("a", 2, "a law")], {".rt": 3})
@@ -310,12 +372,17 @@ CONTRACT = """    fn first(self) -> u32
 
 class LongClauses(unittest.TestCase):
     def test_a_clause_ends_with_its_brace(self) -> None:
-        self.assertEqual([*long_clauses.clauses_of(CONTRACT)], [(2, 'requires { self.now ≡ codes "{" }'), (3, "ensures long { A ≡ B }")])
+        self.assertEqual(
+            [*long_clauses.clauses_of(CONTRACT)],
+            [(2, 'requires { self.now ≡ codes "{" }'), (3, "ensures long { A ≡ B }")],
+        )
 
     def test_those_that_are_more_are_named(self) -> None:
         self.assertEqual([*long_clauses.over(["a.rt:1"], 1)], [])
         (fault,) = long_clauses.over(["a.rt:1", "b.rt:2"], 1)
-        self.assertIn("2 clauses have over 200 characters, and there may be 1 (docs/measured/budget.json): a.rt:1, b.rt:2", fault)
+        self.assertIn(
+            "2 clauses have over 200 characters, and there may be 1 (docs/measured/budget.json): a.rt:1, b.rt:2", fault
+        )
 
     def test_each_is_counted_where_it_begins(self) -> None:
         source = walks.Source(f"{ROOT}/crates/a/src/b.rt", CONTRACT.replace("A ≡ B", "A ≡ B × " * 30), frozenset())
@@ -356,7 +423,9 @@ impl Event {
 
 class Walks(unittest.TestCase):
     def test_cases_are_those_of_the_enum(self) -> None:
-        self.assertEqual(walks.cases_of("Event", MATCHED, "A"), walks.Cases("Event", ("A", "B", "C", "D", "E", "F"), ("A",)))
+        self.assertEqual(
+            walks.cases_of("Event", MATCHED, "A"), walks.Cases("Event", ("A", "B", "C", "D", "E", "F"), ("A",))
+        )
 
     def test_a_walk_names_six_cases_in_its_clauses(self) -> None:
         event = walks.cases_of("Event", MATCHED)
@@ -378,7 +447,9 @@ class Walks(unittest.TestCase):
                 "Event: A is in 6 sources of crates, and there may be 5 (docs/measured/budget.json)",
             ],
         )
-        self.assertEqual(walks.lowered({"Event": {"walks": 3, "A": 4, "B": 1}}, may), {"Event": {"walks": 2, "A": 4, "B": 1}})
+        self.assertEqual(
+            walks.lowered({"Event": {"walks": 3, "A": 4, "B": 1}}, may), {"Event": {"walks": 2, "A": 4, "B": 1}}
+        )
 
     def test_a_crate_that_its_row_does_not_name_is_named(self) -> None:
         row = "| To add | In crates |\n|---|---|\n| an event (`Event`) | `one` and `two` |\n"
@@ -583,14 +654,20 @@ class Common(unittest.TestCase):
 
     def test_a_line_with_a_name_of_its_own_stays(self) -> None:
         self.alike()
-        self.assertEqual(self.written()["Other"][:2], ["use Rattle.c.proofs.Common.{Host}", "use Rattle.std.proofs.Common.{refl, sym}"])
+        self.assertEqual(
+            self.written()["Other"][:2],
+            ["use Rattle.c.proofs.Common.{Host}", "use Rattle.std.proofs.Common.{refl, sym}"],
+        )
 
     def test_what_would_take_more_octets_is_left(self) -> None:
         self.assertEqual(common.written(self.proofs), {})
 
     def test_what_it_passes_on_of_the_crate_is_taken_from_there_again(self) -> None:
         self.alike()
-        self.given(Common="pub use Rattle.c.proofs.Other.{x}\n", One=self.ONE.replace("c.proofs.Other.{x}", "c.proofs.Common.{x}"))
+        self.given(
+            Common="pub use Rattle.c.proofs.Other.{x}\n",
+            One=self.ONE.replace("c.proofs.Other.{x}", "c.proofs.Common.{x}"),
+        )
         found = self.written()
         self.assertEqual(found["One"][2:4], ["use Rattle.c.proofs.Other.{x}", "one : Host"])
         self.assertNotIn("pub use Rattle.c.proofs.Other.{x}", found["Common"])
@@ -613,7 +690,15 @@ class Common(unittest.TestCase):
 
 class Tags(unittest.TestCase):
     def test_names_are_found_where_they_are_declared(self) -> None:
-        self.assertEqual([*tags.declared(".antt", "-- a word : no name\npub record Rule (a : ℕ) : Type 0 where\n  pub held : ℕ\nabbrev pub twice : ℕ → ℕ\ntwice n = n\n")], [("Rule", 2), ("held", 3), ("twice", 4)])
+        self.assertEqual(
+            [
+                *tags.declared(
+                    ".antt",
+                    "-- a word : no name\npub record Rule (a : ℕ) : Type 0 where\n  pub held : ℕ\nabbrev pub twice : ℕ → ℕ\ntwice n = n\n",
+                )
+            ],
+            [("Rule", 2), ("held", 3), ("twice", 4)],
+        )
         self.assertEqual([*tags.declared(".rt", "pub struct A {\n    pub(crate) fn b() {}\n")], [("A", 1), ("b", 2)])
 
 
