@@ -80,7 +80,7 @@ def lacking(check: str, what: str, name: str) -> None:
 
 
 def installed(tools: Iterable[Tool]) -> str:
-    """Has apt-get install tools, each by itself. Gives why it may not; "" where it may."""
+    """Has apt-get install tools, each by itself, after another that holds its lock. Gives why it may not; "" where it may."""
     if os.geteuid() or not shutil.which("apt-get"):
         return "only root may install packages" if os.geteuid() else "there is no apt-get"
     env = {**os.environ, "DEBIAN_FRONTEND": "noninteractive"}
@@ -88,6 +88,17 @@ def installed(tools: Iterable[Tool]) -> str:
     lacking = [*tools]
     for number, tool in enumerate(lacking, 1):
         print(f"check tools: {number} of {len(lacking)}: {tool.name} ({tool.packages})", flush=True)
-        words = ["apt-get", "install", "-y", "-qq", "--no-install-recommends", *tool.packages.split()]
-        subprocess.run(words, capture_output=True, env=env, check=False)
+        words = [
+            "apt-get",
+            "install",
+            "-y",
+            "-qq",
+            "--no-install-recommends",
+            "-o",
+            "DPkg::Lock::Timeout=300",
+            *tool.packages.split(),
+        ]
+        done = subprocess.run(words, capture_output=True, text=True, env=env, check=False)
+        if done.returncode:
+            print(f"check tools: apt-get says: {(done.stderr.strip() or 'nothing').splitlines()[-1]}", flush=True)
     return ""
