@@ -82,7 +82,7 @@ impl<C: Carrier> Hosted for MixedWorld<C> {
     }
 
     fn turn(&mut self, event: Event) -> Result<(), WorldFault> {
-        MixedWorld::turn(self, event)
+        MixedWorld::turn(self, &event)
     }
 
     fn run(&mut self, events: Vec<Event>) -> Result<(), WorldFault> {
