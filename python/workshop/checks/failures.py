@@ -11,8 +11,8 @@ Runs inputs over and over: once for each allocation, each read and each write, w
 Of the inputs of FIVE every read and write moves one octet, and so each octet is one at which a read and a write fail; then reads
 and writes are whole ones, as big as the program asks for. Of the other short examples reads and writes move 16 octets. Of the
 examples in LONG, whose output is longer than what the program gathers before it writes, reads and writes move 500 octets, and
-then are whole ones; not each of their allocations fails. Of a network of 126 strangers, of its log, its trace and the audit
-of that log each allocation fails, and reads and writes move 500 octets.
+then are whole ones; not each of their allocations fails. Of a network of 126 strangers, of its log, its trace and the
+audit of that log each allocation fails, and reads and writes move 500 octets.
 
 So no refused allocation may end with status 0.
 
@@ -76,11 +76,7 @@ class Way:
     @property
     def name(self) -> str:
         size = {0: "whole", 1: "of one octet"}.get(self.at_most, f"of {self.at_most} octets")
-        return (
-            self.kind
-            if self.kind == "allocations"
-            else f"{self.kind} {size}{f', {self.how.lower()}' if self.how else ''}"
-        )
+        return self.kind if self.kind == "allocations" else f"{self.kind} {size}{f', {self.how.lower()}' if self.how else ''}"
 
     def variable(self) -> str:
         return {"allocations": "FAIL_ALLOCATION", "reads": "FAIL_READ", "writes": "FAIL_WRITE"}[self.kind]
@@ -104,7 +100,7 @@ def ways_of(name: str) -> list[Way]:
 
 
 def of_strangers() -> dict[str, tuple[bytes, End]]:
-    """A network of 126 strangers, of whom one says RST, and its log, by the options that they are for: each with how the model ends."""
+    """A network of 126 strangers, of whom one says RST, and its log, by their options, each with how the model ends."""
     octets, log = spelled_input(ODD, HAILED), ends_log(ODD, HAILED)
     audited = log[1].encode()
     return {
@@ -120,15 +116,10 @@ def write_strangers(room: str) -> list[str]:
     paths = []
     for option, (octets, (status, printed, said)) in of_strangers().items():
         paths.append(path := f"{room}/{STRANGERS}{option}")
-        beside = {
-            "": octets,
-            ".args": option.encode(),
-            ".status": b"%d" % status,
-            ".stdout": printed.encode(),
-            ".stderr": said.encode(),
-        }
-        for ending, content in beside.items():
-            with open(f"{path}{ending}", "wb") as file:
+        beside = {"args": option, "status": str(status), "stdout": printed, "stderr": said}
+        files = {path: octets, **{f"{path}.{ending}": text.encode() for ending, text in beside.items()}}
+        for name, content in files.items():
+            with open(name, "wb") as file:
                 file.write(content)
     return paths
 
@@ -155,9 +146,7 @@ class Trial:
     def run(self, variables: dict[str, str]) -> Ended:
         """How a run ends: its status and words, and its output."""
         with open(self.path, "rb") as octets:
-            ran = subprocess.run(
-                [self.program, *self.words], stdin=octets, capture_output=True, env=variables, timeout=120
-            )
+            ran = subprocess.run([self.program, *self.words], stdin=octets, capture_output=True, env=variables, timeout=120)
         return (ran.returncode, ran.stderr), ran.stdout
 
     def fail(self, way: Way, number: int) -> bool:
@@ -207,9 +196,7 @@ def check_streams(program: str) -> int:
             lost = subprocess.run([program], stdin=octets, stdout=full, stderr=subprocess.PIPE, timeout=60)
     found = [(it.returncode, it.stdout, it.stderr) == wanted for it in (endless, limited)]
     found += [was_read == MOST_OCTETS + 1, (lost.returncode, lost.stderr) == STOPPED]
-    print(
-        f"endless input, long input, {was_read} octets of it read, full output: {'all well' if all(found) else found}"
-    )
+    print(f"endless input, long input, {was_read} octets of it read, full output: {'all well' if all(found) else found}")
     return found.count(False)
 
 
@@ -227,18 +214,11 @@ def main() -> int:
         lacking("failures", "all of it", "a C compiler")
         return 1 if os.environ.get("CI") else 0
     wrong, total = 0, Counter[str]()
-    paths = [
-        f"{ROOT}/{folder}/{name}"
-        for folder in ("examples", "logs")
-        for name in sorted(os.listdir(f"{ROOT}/{folder}"))
-        if "." not in name
-    ]
+    paths = [f"{ROOT}/{folder}/{name}" for folder in ("examples", "logs") for name in sorted(os.listdir(f"{ROOT}/{folder}")) if "." not in name]
     paths = [it for it in paths if os.path.basename(it) in FIVE + LONG or os.path.getsize(it) <= LONGEST]
     with tempfile.TemporaryDirectory() as room, ThreadPoolExecutor(CORES) as threads:
         before = f"{room}/failing.so"
-        subprocess.run(
-            [compiler, "-O1", "-shared", "-fPIC", "-o", before, f"{ROOT}/tools/failing.c", "-ldl"], check=True
-        )
+        subprocess.run([compiler, "-O1", "-shared", "-fPIC", "-o", before, f"{ROOT}/tools/failing.c", "-ldl"], check=True)
         paths += write_strangers(room)
         for path in paths:
             trial = Trial(program, before, room, path)
@@ -248,8 +228,6 @@ def main() -> int:
             print(f"{trial.name}: failed in turn {'; '.join(f'{number} {way.name}' for number, way in failed)}")
             print(*sorted(trial.wrong), sep="\n", end="\n" if trial.wrong else "")
             wrong += len(trial.wrong)
-    print(
-        f"check failures: {len(paths)} inputs; failed in turn {', '.join(f'{number} {kind}' for kind, number in total.items())}"
-    )
+    print(f"check failures: {len(paths)} inputs; failed in turn {', '.join(f'{number} {kind}' for kind, number in total.items())}")
     wrong += check_streams(program)
     return 1 if wrong else 0

@@ -29,7 +29,6 @@ from dorydate.model.topology import Topology, spelled_input
 from dorydate.model.trace import ends_trace
 from dorydate.model.trace_world import ends_world
 from dorydate.model.verdict import ends_audit
-from workshop.checks.planted_limits import LIMITS as PLANTED
 from workshop.checks.planted_limits import missed
 from workshop.parts import any_program
 from workshop.words import Words
@@ -335,11 +334,7 @@ def write(names: list[str]) -> int:
     known = kept() if os.path.isfile(KEPT) else {}
     known |= by_models(names)
     with open(KEPT, "w", encoding="utf-8") as file:
-        file.write(
-            "{\n"
-            + ",\n".join(f"  {json.dumps(name)}: {json.dumps(known[name])}" for name in NAMES if name in known)
-            + "\n}\n"
-        )
+        file.write("{\n" + ",\n".join(f"  {json.dumps(name)}: {json.dumps(known[name])}" for name in NAMES if name in known) + "\n}\n")
     print(f"check limits: {len(names)} ends are kept")
     return 0
 
@@ -363,10 +358,7 @@ def main() -> int:
         return write(names)
     if asked.planted:
         ends = kept()
-        faults = [it for it in PLANTED if it.by in names]
-        return missed(
-            "limits", faults, lambda program, name, variables: by_program(program, name, variables) != ends[name]
-        )
+        return missed("limits", names, lambda program, name, env: by_program(program, name, env) != ends[name])
     program = any_program()
     if program is None:
         print("check limits: there is no program of these sources")

@@ -1,4 +1,4 @@
-"""What the program holds grows no more than it has to in long dialogues (seconds): ./check memory [PROGRAM] [--write]
+"""What the program holds grows no more than it has to (seconds): ./check memory [PROGRAM] [--write | --planted]
 
 No contract says how much memory a body keeps. One that never drops commands which have gone out, or ends of connections
 that are over, would pass each proof. So here the octets that the program holds are counted, as it asks for them and
@@ -8,10 +8,8 @@ That is what the program held when it was written, and a hundredth more; `--writ
 double, so they are as full after N steps as after 2N. It wants a C compiler for tools/holding.c, which is loaded before
 the C library. Without one it says that nothing was tried, and where the variable CI is set it fails.
 
-On 28 November 2026 five such bodies were tried, each in a program that was built without proofs, and each held too
-much: ends that are over and stay (6 % more than the limit), commands that have gone out and stay (19 %), places of
-lives that are over and stay (1 %), notes of a trace that grow with each note (76 %), and room for a million octets in
-each text (500 times as much).
+With `--planted` the bodies of planted_limits.py that hold too much are planted, one at a time, in a program without
+proofs that is built with all of them, in some ten minutes; each has to be noticed by the dialogue that it names.
 """
 
 from __future__ import annotations
@@ -21,13 +19,14 @@ import os
 import shutil
 import subprocess
 import tempfile
-from collections.abc import Callable
+from collections.abc import Callable, Iterable, Mapping
 from concurrent.futures import ThreadPoolExecutor
-from functools import partial
 from typing import NamedTuple
 
 from dorydate.model.topology import Topology, spelled_input
-from workshop.checks.limits import CONTACT, JOINED, PAIR, in_lines, lives_of, opened, ring
+from workshop.checks.limits import AMONG, CONTACT, FULL, HOSTS, JOINED, NO_COMMAND, PAIR, RST
+from workshop.checks.limits import in_lines, lives_of, opened, ring
+from workshop.checks.planted_limits import missed
 from workshop.parts import ROOT, any_program
 from workshop.tools import left_out
 from workshop.words import Words
@@ -41,6 +40,8 @@ MANY = [
     *(f"openrecv 0/1 0/2 {2 * at} {2 * at + 1}" for at in range(1, 60)),
     *(f"opensend 0/2 0/1 {2 * at + 1} {2 * at} 8" for at in range(1, 60)),
 ]
+# what a stranger says
+HAILED, SAID = ([it, "take 0/2", "take 0/3"] for it in (RST, NO_COMMAND))
 CUT = ["enddown 1 0", "endup 1 0", "calm 2"]
 
 
@@ -70,9 +71,17 @@ def of_imps(count: int) -> bytes:
     return spelled_input(Topology("subnet", True, imps, lines), ["calm 2"])
 
 
-def of_lives(count: int) -> bytes:
+def of_lives(count: int, before: Iterable[str] = ()) -> bytes:
     """A log of a number of connections."""
-    return in_lines([*CONTACT, *opened(count), *lives_of(count), *["handed 0 -"] * (2 * count), "end"])
+    return in_lines([*before, *CONTACT, *opened(count), *lives_of(count), *["handed 0 -"] * (2 * count), "end"])
+
+
+def of_flows(count: int) -> bytes:
+    """A log of a number of flows, on each of which two messages are carried."""
+    flows = (f"{HOSTS[at // 256]} 0/63 {at % 256}" for at in range(count))
+    text = f"320 {'5A' * 40}"
+    carried = ([f"out {flow} {text}", f"in {flow} {text}", f"answer rfnm {flow}"] * 2 for flow in flows)
+    return in_lines([*(line for lines in carried for line in lines), "end"])
 
 
 DIALOGUES: dict[str, Dialogue] = {
@@ -86,31 +95,44 @@ DIALOGUES: dict[str, Dialogue] = {
     "routes of a subnet that is traced": scripted(SUBNET, ["calm 3"], CUT, 1_500, "--trace"),
     "IMPs of a network that is traced": Dialogue(["--trace"], of_imps, 30),
     "connections of a log": Dialogue(["--audit"], of_lives, 1_500),
+    "connections of a log among strangers": Dialogue(["--audit"], lambda it: of_lives(it, ["foreign 0/3"]), 1_500),
+    "flows of a log": Dialogue(["--audit"], of_flows, 300),
+    "long messages": scripted(PAIR._replace(raw=True), [], [f"out 0/1 0/2 5 {FULL}", "take 0/2", "take 0/1"], 200),
+    "messages of a stranger": scripted(AMONG, HAILED, SAID, 6_000),
+    "messages of a stranger that are logged": scripted(AMONG, HAILED, SAID, 6_000, "--log"),
+    "messages of a stranger that are traced": scripted(AMONG, HAILED, SAID, 1_500, "--trace"),
 }
 
 
-def most_held(program: str, before: str, options: list[str], octets: bytes) -> int:
+def most_held(program: str, options: list[str], octets: bytes, variables: Mapping[str, str]) -> int:
     """The most octets that the program ever holds on an input, on which it has to end well."""
     with tempfile.NamedTemporaryFile() as held:
-        variables = {"LD_PRELOAD": before, "HELD": held.name}
-        subprocess.run([program, *options], input=octets, stdout=subprocess.DEVNULL, env=variables, check=True)
+        env = {**variables, "HELD": held.name}
+        subprocess.run([program, *options], input=octets, stdout=subprocess.DEVNULL, env=env, check=True)
         return int(held.read())
 
 
-def growth(program: str, before: str, dialogue: Dialogue) -> int:
-    """How many octets more it holds for each step more."""
+def growth(program: str, before: str, name: str, variables: Mapping[str, str]) -> int:
+    """How many octets more it holds for each step more of a dialogue."""
+    dialogue = DIALOGUES[name]
+    env = {**variables, "LD_PRELOAD": before}
     counts = dialogue.steps, 2 * dialogue.steps
-    less, more = (most_held(program, before, dialogue.options, dialogue.octets(count)) for count in counts)
+    less, more = (most_held(program, dialogue.options, dialogue.octets(count), env) for count in counts)
     return (more - less) // dialogue.steps
 
 
-def counted(program: str, compiler: str) -> dict[str, int]:
+def counting(compiler: str, room: str) -> str:
+    """The library that counts what a program holds, made in a folder."""
+    library = f"{room}/holding.so"
+    words = [compiler, "-O1", "-shared", "-fPIC", "-o", library, f"{ROOT}/tools/holding.c", "-ldl"]
+    subprocess.run(words, check=True)
+    return library
+
+
+def counted(program: str, before: str) -> dict[str, int]:
     """The same of each dialogue."""
-    with tempfile.TemporaryDirectory() as room, ThreadPoolExecutor(os.cpu_count() or 1) as threads:
-        before = f"{room}/holding.so"
-        words = [compiler, "-O1", "-shared", "-fPIC", "-o", before, f"{ROOT}/tools/holding.c", "-ldl"]
-        subprocess.run(words, check=True)
-        return dict(zip(DIALOGUES, threads.map(partial(growth, program, before), DIALOGUES.values())))
+    with ThreadPoolExecutor(os.cpu_count() or 1) as threads:
+        return dict(zip(DIALOGUES, threads.map(lambda it: growth(program, before, it, {}), DIALOGUES)))
 
 
 def write(found: dict[str, int]) -> None:
@@ -120,22 +142,44 @@ def write(found: dict[str, int]) -> None:
         file.write("\n")
 
 
+def kept() -> dict[str, int]:
+    """How many octets more it may hold for each step more of a dialogue."""
+    with open(KEPT, encoding="utf-8") as file:
+        limits: dict[str, int] = json.load(file)
+    return limits
+
+
+def planted(compiler: str) -> int:
+    """Plants each body that holds too much."""
+    limits = kept()
+    with tempfile.TemporaryDirectory() as room:
+        before = counting(compiler, room)
+
+        def shows(program: str, name: str, variables: Mapping[str, str]) -> bool:
+            return growth(program, before, name, variables) > limits[name]
+
+        return missed("memory", [*DIALOGUES], shows)
+
+
 def main() -> int:
     words = Words(__doc__).one("program", None, "the program; that of the present sources, if it is left out")
-    asked = words.flag("write", "keep what it holds now as the limits").asked()
-    program = asked.program or any_program()
+    words.flag("write", "keep what it holds now as the limits")
+    asked = words.flag("planted", "plant bodies that hold too much, and name those that no dialogue notices").asked()
     compiler = shutil.which("cc") or shutil.which("clang")
+    if asked.planted and compiler:
+        return planted(compiler)
+    program = asked.program or any_program()
     if program is None:
         print("check memory: there is no program of these sources")
         return 1
     if not compiler or program.startswith(f"{ROOT}/released/") or program.endswith((".mjs", "-unproved")):
         left_out("memory", "all of it", "it wants a C compiler, and a proved program that loads libraries (./build)")
         return 1 if os.environ.get("CI") else 0
-    found = counted(program, compiler)
+    with tempfile.TemporaryDirectory() as room:
+        found = counted(program, counting(compiler, room))
     if asked.write:
         write(found)
-    with open(KEPT, encoding="utf-8") as file:
-        limits: dict[str, int] = json.load(file)
+    limits = kept()
     over = [name for name, octets in found.items() if octets > limits[name]]
     for name, octets in found.items():
         much = ", which is too much" if name in over else ""
