@@ -29,6 +29,7 @@ from dorydate.model.topology import Topology, spelled_input
 from dorydate.model.trace import ends_trace
 from dorydate.model.trace_world import ends_world
 from dorydate.model.verdict import ends_audit
+from workshop.checks.planted_limits import LIMITS as PLANTED
 from workshop.checks.planted_limits import missed
 from workshop.parts import any_program
 from workshop.words import Words
@@ -358,7 +359,7 @@ def main() -> int:
         return write(names)
     if asked.planted:
         ends = kept()
-        return missed("limits", names, lambda program, name, env: by_program(program, name, env) != ends[name])
+        return missed("limits", PLANTED, names, lambda program, name, env: by_program(program, name, env) != ends[name])
     program = any_program()
     if program is None:
         print("check limits: there is no program of these sources")

@@ -19,14 +19,13 @@ import os
 import shutil
 import subprocess
 import tempfile
-from collections.abc import Callable, Iterable, Mapping
+from collections.abc import Callable, Mapping
 from concurrent.futures import ThreadPoolExecutor
 from typing import NamedTuple
 
 from dorydate.model.topology import Topology, spelled_input
-from workshop.checks.limits import AMONG, CONTACT, FULL, HOSTS, JOINED, NO_COMMAND, PAIR, RST
-from workshop.checks.limits import in_lines, lives_of, opened, ring
-from workshop.checks.planted_limits import missed
+from workshop.checks.limits import CONTACT, JOINED, PAIR, in_lines, lives_of, opened, ring
+from workshop.checks.planted_limits import HELD, missed
 from workshop.parts import ROOT, any_program
 from workshop.tools import left_out
 from workshop.words import Words
@@ -40,8 +39,6 @@ MANY = [
     *(f"openrecv 0/1 0/2 {2 * at} {2 * at + 1}" for at in range(1, 60)),
     *(f"opensend 0/2 0/1 {2 * at + 1} {2 * at} 8" for at in range(1, 60)),
 ]
-# what a stranger says
-HAILED, SAID = ([it, "take 0/2", "take 0/3"] for it in (RST, NO_COMMAND))
 CUT = ["enddown 1 0", "endup 1 0", "calm 2"]
 
 
@@ -71,17 +68,9 @@ def of_imps(count: int) -> bytes:
     return spelled_input(Topology("subnet", True, imps, lines), ["calm 2"])
 
 
-def of_lives(count: int, before: Iterable[str] = ()) -> bytes:
+def of_lives(count: int) -> bytes:
     """A log of a number of connections."""
-    return in_lines([*before, *CONTACT, *opened(count), *lives_of(count), *["handed 0 -"] * (2 * count), "end"])
-
-
-def of_flows(count: int) -> bytes:
-    """A log of a number of flows, on each of which two messages are carried."""
-    flows = (f"{HOSTS[at // 256]} 0/63 {at % 256}" for at in range(count))
-    text = f"320 {'5A' * 40}"
-    carried = ([f"out {flow} {text}", f"in {flow} {text}", f"answer rfnm {flow}"] * 2 for flow in flows)
-    return in_lines([*(line for lines in carried for line in lines), "end"])
+    return in_lines([*CONTACT, *opened(count), *lives_of(count), *["handed 0 -"] * (2 * count), "end"])
 
 
 DIALOGUES: dict[str, Dialogue] = {
@@ -95,12 +84,6 @@ DIALOGUES: dict[str, Dialogue] = {
     "routes of a subnet that is traced": scripted(SUBNET, ["calm 3"], CUT, 1_500, "--trace"),
     "IMPs of a network that is traced": Dialogue(["--trace"], of_imps, 30),
     "connections of a log": Dialogue(["--audit"], of_lives, 1_500),
-    "connections of a log among strangers": Dialogue(["--audit"], lambda it: of_lives(it, ["foreign 0/3"]), 1_500),
-    "flows of a log": Dialogue(["--audit"], of_flows, 300),
-    "long messages": scripted(PAIR._replace(raw=True), [], [f"out 0/1 0/2 5 {FULL}", "take 0/2", "take 0/1"], 200),
-    "messages of a stranger": scripted(AMONG, HAILED, SAID, 6_000),
-    "messages of a stranger that are logged": scripted(AMONG, HAILED, SAID, 6_000, "--log"),
-    "messages of a stranger that are traced": scripted(AMONG, HAILED, SAID, 1_500, "--trace"),
 }
 
 
@@ -158,7 +141,7 @@ def planted(compiler: str) -> int:
         def shows(program: str, name: str, variables: Mapping[str, str]) -> bool:
             return growth(program, before, name, variables) > limits[name]
 
-        return missed("memory", [*DIALOGUES], shows)
+        return missed("memory", HELD, [*DIALOGUES], shows)
 
 
 def main() -> int:

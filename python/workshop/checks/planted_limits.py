@@ -314,25 +314,6 @@ HELD: Mapping[str, Sequence[Fault]] = {
             "let ways = Ways::of(alloc, routes)?; self.ways.push(Some(Ways::of(alloc, routes)?))?;",
         ),
     ],
-    "flows of a log": [
-        Fault(
-            "bit_messages/store.rt",
-            "octets.extend_from_slice(more)?;",
-            "octets.reserve_exact(1_048_576)?; octets.extend_from_slice(more)?;",
-        ),
-        Fault(
-            "book_judge/joined.rt",
-            "self.streams.push(Stream::new(alloc))?;",
-            "let mut stream = Stream::new(alloc); stream.pieces.reserve_exact(1_000)?; self.streams.push(stream)?;",
-        ),
-    ],
-    "long messages": [
-        Fault(
-            "bit_messages/store.rt",
-            "all.reserve_exact(octets.len().saturating_add(more.len()))?;",
-            "all.reserve_exact(1_048_576)?;",
-        ),
-    ],
     "IMPs of a network that is traced": [
         Fault(
             "trace/flow_lists.rt",
@@ -348,14 +329,14 @@ def numbered() -> dict[int, tuple[str, Fault]]:
     return dict(enumerate(((name, it) for faults in (LIMITS, HELD) for name in faults for it in faults[name]), 1))
 
 
-def missed(check: str, names: Sequence[str], shows: Shows) -> int:
-    """Plants the faults that these inputs have to show, and prints what comes of it. Gives the status of the check."""
+def missed(check: str, faults: Mapping[str, Sequence[Fault]], names: Sequence[str], shows: Shows) -> int:
+    """Plants those of these faults that inputs of these names have to show, and prints what comes of it."""
     every = numbered()
     try:
         program, there = made(PROGRAM, {number: it.edit for number, (_, it) in every.items()})
     except (NotKept, OSError) as why:
         sys.exit(f"check {check}: the program was not built: {why}")
-    some = {number: it for number, it in every.items() if it[0] in names}
+    some = {number: it for number, it in every.items() if it[0] in names and it[1] in faults.get(it[0], ())}
     inputs = sorted({name for name, _ in some.values()})
     with ThreadPoolExecutor(CORES) as threads:
         alone = dict(zip(inputs, threads.map(lambda it: shows(program, it, planted(0)), inputs)))
