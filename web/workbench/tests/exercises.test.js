@@ -92,5 +92,5 @@ test("a goal is in the head of an input, and one that can't be read is said to b
     assert.equal(goalOf(readInput("raw = true\n%\n# Goal: in A\n")), null);
     assert.deepEqual(goalOf(readInput("# Goal: in A ..\n%\n")), { pattern: "in A ..", shortest: 0, hint: "" });
     const { text } = await judged(program.batch, readInput("# Goal: In A\n%\n"));
-    assert(text.startsWith("The goal can't be read: `In A` is not a line"), text);
+    assert(text.startsWith("The goal can't be read: `In A` does not begin with"), text);
 });
